@@ -1,0 +1,6 @@
+pub mod Arg
+pub mod Declaration
+pub mod Signature
+pub mod Buffer
+pub mod Native
+pub mod Core

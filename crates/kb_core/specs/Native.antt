@@ -1,0 +1,70 @@
+-- The table of the native commands: identifier, parameters, budget and effect.
+use Rattle.std.specs.Prelude.{ℕ, List, [], ◌∷◌, Option, codes, find, bytes_eq}
+use Rattle.kb_core.specs.declared.arg.Arg.{Arg}
+use Rattle.kb_core.specs.declared.arg.Arg.TheVariants.{Text, Number, Truth}
+use Rattle.kb_core.specs.declared.arg.Kind.TheVariants as kind
+use Rattle.kb_core.specs.declared.buffer.Buffer.{Buffer}
+use Rattle.kb_core.specs.declared.native.Native.{Native}
+use Rattle.kb_core.specs.declared.native.Native.TheVariants.{TypeText, DeleteLeft, DeleteRight, CursorLeft, CursorRight, BufferClear, BufferTop, BufferBottom}
+use Rattle.kb_core.specs.declared.signature.Param.{Param}
+use Rattle.kb_core.specs.Buffer.{empty, with_inserted, without_left, without_right, moved_left, moved_right, at_top, at_bottom}
+use Rattle.kb_core.specs.Declaration.{Declaration}
+
+abbrev pub natives : List Native
+natives = TypeText ∷ DeleteLeft ∷ DeleteRight ∷ CursorLeft ∷ CursorRight ∷ BufferClear ∷ BufferTop ∷ BufferBottom ∷ []
+
+abbrev pub name_of : Native → List ℕ
+name_of TypeText = codes "type"
+name_of DeleteLeft = codes "deleteLeft"
+name_of DeleteRight = codes "deleteRight"
+name_of CursorLeft = codes "cursorLeft"
+name_of CursorRight = codes "cursorRight"
+name_of BufferClear = codes "buffer.clear"
+name_of BufferTop = codes "buffer.top"
+name_of BufferBottom = codes "buffer.bottom"
+
+-- the native that has this identifier
+abbrev pub named : List ℕ → Option Native
+named identifier = find (λ native. bytes_eq identifier (name_of native)) natives
+
+abbrev pub parameters_of : Native → List Param
+parameters_of TypeText = record { name = codes "text"; kind = kind.Text } ∷ []
+parameters_of DeleteLeft = []
+parameters_of DeleteRight = []
+parameters_of CursorLeft = []
+parameters_of CursorRight = []
+parameters_of BufferClear = []
+parameters_of BufferTop = []
+parameters_of BufferBottom = []
+
+abbrev pub budget_of : Native → ℕ
+budget_of TypeText = 1001
+budget_of DeleteLeft = 1001
+budget_of DeleteRight = 1001
+budget_of CursorLeft = 11
+budget_of CursorRight = 11
+budget_of BufferClear = 11
+budget_of BufferTop = 11
+budget_of BufferBottom = 11
+
+-- a native calls nothing
+abbrev pub declaration_of : Native → Declaration
+declaration_of native = record { params = parameters_of native; budget = budget_of native; depth = 0 }
+
+-- the text that the first argument is
+abbrev pub text_of : List Arg → List ℕ
+text_of [] = []
+text_of (Text text ∷ args) = text
+text_of (Number number ∷ args) = []
+text_of (Truth truth ∷ args) = []
+
+-- the buffer after a native command
+abbrev pub buffer_after : Native → List Arg → Buffer → Buffer
+buffer_after TypeText args b = with_inserted (text_of args) b
+buffer_after DeleteLeft args b = without_left b
+buffer_after DeleteRight args b = without_right b
+buffer_after CursorLeft args b = moved_left b
+buffer_after CursorRight args b = moved_right b
+buffer_after BufferClear args b = empty
+buffer_after BufferTop args b = at_top b
+buffer_after BufferBottom args b = at_bottom b

@@ -1,0 +1,16 @@
+//! The core that commands change, the arguments that they take, and the native commands.
+#![tactic(auto)]
+
+pub mod arg;
+pub mod args;
+pub mod buffer;
+pub mod native;
+pub mod run;
+pub mod signature;
+
+pub use arg::{Arg, Kind};
+pub use args::Args;
+pub use buffer::Buffer;
+pub use native::Native;
+pub use run::{Core, Ran, plain};
+pub use signature::{Param, Signature};

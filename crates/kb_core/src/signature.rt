@@ -1,0 +1,83 @@
+//! What a command takes, and what it may cost.
+ghost use Rattle.std.specs.Prelude.{◌≡◌, ◌≤◌, length};
+
+use crate::arg::Kind;
+use crate::args::PARAMETER_LIMIT;
+use kb_context::{Seq, Text};
+use std::marker::Model;
+
+/// The largest budget, in instructions and costs of native commands (our decision).
+pub const BUDGET_LIMIT: u32 = 1_000_000_000;
+
+/// How deep calls may nest at most (our decision).
+pub const DEPTH_LIMIT: u8 = 64;
+
+/// A parameter of a command.
+#[derive(Debug, Drop)]
+pub struct Param {
+    pub name: Text,
+    pub kind: Kind,
+}
+
+/// What a command declares: its parameters, what it may cost, and how deep its calls may nest.
+/// Contracts see the three as a record.
+#[derive(Drop)]
+pub struct Signature {
+    params: Seq<Param>,
+    budget: u32,
+    depth: u8,
+}
+
+impl Model for Signature {
+    ghost use Rattle.std.specs.Prelude.{◌≤◌, length};
+    ghost use Rattle.kb_core.specs.Declaration.{Declaration, AreWithinLimits};
+
+    ghost Value = { Declaration };
+
+    ghost view = { λ s. record { params = s.params; budget = s.budget; depth = s.depth } };
+
+    ghost invariant = { λ s. AreWithinLimits s.params s.budget s.depth };
+}
+
+impl Signature {
+    /// A signature within the limits: at most `PARAMETER_LIMIT` parameters, a budget from 1 to
+    /// `BUDGET_LIMIT`, and a depth up to `DEPTH_LIMIT`, which is 0 for what calls nothing.
+    pub fn new(params: Seq<Param>, budget: u32, depth: u8) -> Signature
+        requires params { length params ≤ PARAMETER_LIMIT }
+        requires some_budget { 1 ≤ budget }
+        requires budget { budget ≤ BUDGET_LIMIT }
+        requires depth { depth ≤ DEPTH_LIMIT }
+        ensures { result ≡ record { params = params; budget = budget; depth = depth } }
+    {
+        Signature {
+            params,
+            budget,
+            depth,
+        }
+    }
+
+    /// The parameters, in order.
+    pub fn params(&self) -> &[Param]
+        ensures params { result.now ≡ self.now.params }
+        ensures few { length self.now.params ≤ PARAMETER_LIMIT }
+    {
+        self.params.as_slice()
+    }
+
+    /// What a start may cost at most, in instructions and costs of native commands.
+    pub fn budget(&self) -> u32
+        ensures budget { result ≡ self.now.budget }
+        ensures some { 1 ≤ result }
+        ensures limit { result ≤ BUDGET_LIMIT }
+    {
+        self.budget
+    }
+
+    /// How deep the calls of the command may nest; 0 where it calls nothing.
+    pub fn depth(&self) -> u8
+        ensures depth { result ≡ self.now.depth }
+        ensures limit { result ≤ DEPTH_LIMIT }
+    {
+        self.depth
+    }
+}
