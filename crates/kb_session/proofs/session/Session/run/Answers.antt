@@ -1,0 +1,8 @@
+use Rattle.std.proofs.lemmas.Result.{err_from_is_err_and}
+use Rattle.kb_session.proofs.Runs.{runs_fail}
+use Rattle.kb_session.proofs.session.Session.run.Goals as goal
+
+pub returns-in_err-handle-clause-err : goal.returns-in_err-handle-clause-err
+returns-in_err-handle-clause-err c =
+    let p = err_from_is_err_and c.from_residual.result c.from_residual.ensures.1 in
+    rw (p.1, p.2) (runs_fail _ _ _ _ _ _ c.loop-event.invariant c.in_err-handle.ensures.err)
