@@ -22,6 +22,11 @@ pub enum Kind {
 
 /// What stands in the unused places of an inline list: no argument that a command gets.
 impl Default for Arg {
+    ghost use Rattle.std.specs.Prelude.{◌≡◌, false};
+    ghost use Rattle.kb_core.specs.declared.arg.Arg.TheVariants.{Truth};
+
+    ghost is_default = { λ arg. arg ≡ Truth false };
+
     fn default() -> Arg {
         Arg::Truth(false)
     }

@@ -44,14 +44,14 @@ modifiers_are_not_read = refl
 characters_are_scalar_values : written (
     codes "rule a type ab" ∷ codes "rule b cursorLeft" ∷ (codes "rule c type " ++ 195 ∷ 169 ∷ []) ∷ codes "rule d deleteRight" ∷ codes "rule e deleteLeft"
     ∷ codes "key a" ∷ codes "key b" ∷ codes "key c" ∷ codes "key d" ∷ codes "key e" ∷ []
-) ≡ lines (
+    ) ≡ lines (
     codes "rule a" ∷ codes "rule b" ∷ codes "rule c" ∷ codes "rule d" ∷ codes "rule e"
     ∷ codes "key a: start type" ∷ codes "done \"ab\" \"\""
     ∷ codes "key b: start cursorLeft" ∷ codes "done \"a\" \"b\""
     ∷ codes "key c: start type" ∷ (codes "done \"a" ++ (195 ∷ 169 ∷ codes "\" \"b\""))
     ∷ codes "key d: start deleteRight" ∷ (codes "done \"a" ++ (195 ∷ 169 ∷ codes "\" \"\""))
     ∷ codes "key e: start deleteLeft" ∷ codes "done \"a\" \"\"" ∷ []
-)
+    )
 unfolding is_utf8 chars encode names key_named keystroke_of serde_json_on_literals without_last only_last without_first only_first
 characters_are_scalar_values = refl
 

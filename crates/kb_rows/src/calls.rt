@@ -23,10 +23,25 @@ fn key_texts(rt: HostRuntime) -> Result<(), Fail> {
 
 #[test]
 fn faults_have_numbers_and_names(rt: HostRuntime) -> Result<(), Fail> {
-    assert_eq!(rt; (KeyFault::UnknownKey.number(), KeyFault::UnknownKey.name()), (10, "UnknownKey"));
-    assert_eq!(rt; (KeyFault::EmptyKey.number(), KeyFault::EmptyKey.name()), (12, "EmptyKey"));
-    assert_eq!(rt; (SessionFault::NoMemory.number(), SessionFault::NoMemory.name()), (5, "NoMemory"));
-    assert_eq!(rt; (SessionFault::Stopped.number(), SessionFault::Stopped.name()), (97, "Stopped"));
+    assert_eq!(rt;
+        (KeyFault::UnknownKey.number(), KeyFault::UnknownKey.name()),
+        (10, "UnknownKey")
+    );
+    assert_eq!(rt;
+        (KeyFault::EmptyKey.number(), KeyFault::EmptyKey.name()),
+        (12, "EmptyKey")
+    );
+    assert_eq!(rt;
+        (
+            SessionFault::NoMemory.number(),
+            SessionFault::NoMemory.name()
+        ),
+        (5, "NoMemory")
+    );
+    assert_eq!(rt;
+        (SessionFault::Stopped.number(), SessionFault::Stopped.name()),
+        (97, "Stopped")
+    );
     for (fault, number, name) in [
         (ScriptFault::NoMemory, 5, "NoMemory"),
         (ScriptFault::Stopped, 97, "Stopped"),

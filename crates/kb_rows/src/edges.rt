@@ -5,7 +5,10 @@ use std::test::Fail;
 
 const NO_TEXT: [(&[u8], &[u8]); 4] = [
     (b"key \xff\nkey a\n", b"unread line 1\nkey a: unbound\n"),
-    (b"rule a type \xc3\nkey a\n", b"unread line 1\nkey a: unbound\n"),
+    (
+        b"rule a type \xc3\nkey a\n",
+        b"unread line 1\nkey a: unbound\n",
+    ),
     (b"# \xff\nkey a\n", b"key a: unbound\n"),
     (b"\xef\xbb\xbfkey a\n", b"unread line 1\n"),
 ];

@@ -1,6 +1,6 @@
 -- The rule that is found is the last for its key, and a search from the bottom finds it.
-use Rattle.std.proofs.Common.{◌≡◌, ℕ, List, [], ◌∷◌, ◌++◌, Option, Some, None, Bool, true, false, nat_eq, ◌==◌, cond, refl, sym, ap, ◌∙◌, arith, tests}
-use Rattle.std.specs.Prelude.{MatchOption, All, find, reverse}
+use Rattle.std.proofs.Common.{◌≡◌, ℕ, List, [], ◌∷◌, Option, Some, None, Bool, true, false, ◌==◌, cond, refl, ap, ◌∙◌, arith, tests}
+use Rattle.std.specs.Prelude.{MatchOption, find, reverse}
 use Rattle.std.specs.Option.{option_or}
 use Rattle.std.proofs.lemmas.List.{reverse-append}
 use Rattle.std.proofs.lemmas.List.Elements.{All-cons, All-nil}

@@ -1,6 +1,6 @@
 -- Bytes that are a text, and the first line of bytes.
 use Rattle.std.proofs.Common.{◌≡◌, ℕ, Bool, true, false, List, [], ◌∷◌, length, refl, sym, ap, ◌∙◌, cond, arith, take, drop, ◌+◌, ◌-◌, subst}
-use Rattle.std.specs.Prelude.{Option, Some, None, position}
+use Rattle.std.specs.Prelude.{Some, None, position}
 use Rattle.std.specs.List.{slice_split, onto_first}
 use Rattle.std.specs.Str.{IsUtf8, is_utf8}
 use Rattle.std.proofs.lemmas.Str.{is_utf8-from_IsUtf8, IsUtf8-from_is_utf8}
@@ -59,7 +59,7 @@ first_line bs i e =
     let below = ltb-true _ _ c.0 in
     let same : take (length bs - (i + 1)) (drop (i + 1) bs) ≡ drop (i + 1) bs = take_all _ _ (simp length-drop (omega arith)) in
     let parts : slice_split is_line_feed bs ≡ take i bs ∷ slice_split is_line_feed (drop (i + 1) bs) =
-        subst (λ n. slice_split is_line_feed bs ≡ take n bs ∷ slice_split is_line_feed (drop (n + 1) bs)) c.1 (slice_split_first is_line_feed bs 0 below) in
+    subst (λ n. slice_split is_line_feed bs ≡ take n bs ∷ slice_split is_line_feed (drop (n + 1) bs)) c.1 (slice_split_first is_line_feed bs 0 below) in
     rw same (ap without_returns parts ∙ without_returns-cons (take i bs) _ (split-HasFirst (drop (i + 1) bs)))
 
 pub only_line : (bs : List ℕ) → position is_line_feed bs ≡ None → lines_of bs ≡ bs ∷ []

@@ -1,5 +1,5 @@
 -- Reads in pieces.
-use Rattle.std.proofs.Common.{◌≡◌, ℕ, ◌+◌, ◌≤◌, List, ◌++◌, length, take, arith}
+use Rattle.std.proofs.Common.{ℕ, ◌+◌, ◌≤◌, List, ◌++◌, length, take, arith}
 use Rattle.std.specs.Prelude.{Option}
 use Rattle.std.specs.Io.KnownBytes.{Consumes}
 use Rattle.std.proofs.KnownBytes.{Consumes-trans}
@@ -13,4 +13,3 @@ read_and_lost a b c xs ys n most p q fits = record {
   consumed = Consumes-trans a b c xs (take n ys) p q;
   bounded = simp (length-append, length-take) (omega arith);
 }
-

@@ -1,5 +1,5 @@
 -- A run of events goes on, ends and stops.
-use Rattle.std.proofs.Common.{◌≡◌, Bool, true, false, ℕ, List, [], ◌∷◌, ◌++◌, refl, sym, ap, ◌∙◌, append_assoc, append-nil}
+use Rattle.std.proofs.Common.{◌≡◌, Bool, false, ℕ, List, [], ◌∷◌, ◌++◌, refl, sym, ap, ◌∙◌, append_assoc, append-nil}
 use Rattle.kb_session.specs.declared.event.Event.{Event}
 use Rattle.kb_session.specs.declared.fault.SessionFault.{SessionFault}
 use Rattle.kb_session.specs.declared.fault.SessionFault.TheVariants.{NoMemory, Stopped}
@@ -25,7 +25,7 @@ after_events-append xs ys old =
     ap (λ (s : State). seen s (old.trace ++ lines_of_all (xs ++ ys) old.state) old.stopped) (state_after_all-append xs ys old.state)
     ∙ ap (λ (t : List (List ℕ)). seen (state_after_all ys (state_after_all xs old.state)) (old.trace ++ t) old.stopped) (lines_of_all-append xs ys old.state)
     ∙ ap (λ (t : List (List ℕ)). seen (state_after_all ys (state_after_all xs old.state)) t old.stopped)
-        (sym (append_assoc old.trace (lines_of_all xs old.state) (lines_of_all ys (state_after_all xs old.state))))
+    (sym (append_assoc old.trace (lines_of_all xs old.state) (lines_of_all ys (state_after_all xs old.state))))
 
 -- one event as a run
 pub after_events-one : (event : Event) (old : Seen) → after_events (event ∷ []) old ≡ after_event event old

@@ -1,5 +1,5 @@
 -- Runs of events whose lines are written as they come.
-use Rattle.std.proofs.Common.{◌≡◌, true, false, ℕ, ◌+◌, List, [], ◌∷◌, ◌++◌, refl, sym, ap, ◌∙◌, subst, append_assoc, append-nil, length, take, drop, ◌-◌, arith}
+use Rattle.std.proofs.Common.{◌≡◌, false, ℕ, ◌+◌, List, [], ◌∷◌, ◌++◌, refl, sym, ap, ◌∙◌, subst, append_assoc, append-nil, length, take, drop, ◌-◌, arith}
 use Rattle.std.proofs.lemmas.List.{take_all, length-drop}
 use Rattle.std.proofs.Math.Seq.{drop-append_seam}
 use Rattle.std.specs.Prelude.{Option, Some, None, option_to_list}
@@ -9,7 +9,7 @@ use Rattle.kb_session.specs.declared.event.Event.{Event}
 use Rattle.kb_session.specs.declared.script_run.RunFault.{RunFault}
 use Rattle.kb_session.specs.declared.script_run.RunFault.TheVariants as run
 use Rattle.kb_session.specs.Script.{line_event, events_from, events_of}
-use Rattle.kb_session.specs.State.{lines_of, lines_of_all}
+use Rattle.kb_session.specs.State.{lines_of}
 use Rattle.kb_session.specs.Session.{Seen, after_event, after_events, Stops}
 use Rattle.kb_session.specs.ScriptRun.{text_of, RunsAndWrites, StopsAndWrites, LacksLines, FailsAmong, MemoryRefused}
 use Rattle.kb_session.specs.Writing.{text_of_lines, AppendsPart}
@@ -154,7 +154,7 @@ up_to_fail events old now new a b c number lines more line fault p e q =
     let here = option_to_list (line_event number line) in
     let whole = p.whole ∙ ap (λ (es : List Event). p.done ++ es) (line_first number lines line more e) in
     subst (λ (es : List Event). FailsAmong fault es old new a c) (sym whole)
-        (fail_later fault p.done (here ++ events_from (number + 1) more) old now new a b c p.ran (fail_before fault here (events_from (number + 1) more) now new b c q))
+    (fail_later fault p.done (here ++ events_from (number + 1) more) old now new a b c p.ran (fail_before fault here (events_from (number + 1) more) now new b c q))
 
 pub ruleset progress = (up_to_start, up_to_step)
 

@@ -19,9 +19,7 @@ pub fn rule_line(alloc: Global, key: Keystroke) -> Result<Text, NoMemory>
 pub fn start_line(alloc: Global, key: Keystroke, command: &str) -> Result<Text, NoMemory>
     ensures { IfOk result (λ made. made ≡ line.start_line key command.now) }
 {
-    Ok(Text::from_string(
-        format!(in alloc; "key {key}: start {command}")?,
-    ))
+    Ok(Text::from_string(format!(in alloc; "key {key}: start {command}")?))
 }
 
 /// `key KEY: unbound`, for a press that has no rule.
@@ -51,9 +49,7 @@ pub fn done_line(alloc: Global, buffer: &Buffer) -> Result<Text, NoMemory>
 {
     let before = json_string(alloc, buffer.before.as_str())?;
     let after = json_string(alloc, buffer.after.as_str())?;
-    Ok(Text::from_string(
-        format!(in alloc; "done {before} {after}")?,
-    ))
+    Ok(Text::from_string(format!(in alloc; "done {before} {after}")?))
 }
 
 /// A text as a JSON string.

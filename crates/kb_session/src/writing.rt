@@ -6,34 +6,28 @@ ghost use Rattle.kb_session.specs.Writing.{AppendsPart, text_of_lines};
 use kb_context::Text;
 use std::io::Write;
 
-/// Why a writer did not take all bytes.
+/// A writer failed, or took nothing: it did not get all bytes.
 #[derive(Clone, Copy, Debug, PartialEq, Eq)]
-pub enum WriteFault {
-    /// The writer answered an error.
-    Failed,
-    /// The writer took no byte.
-    TookNothing,
-}
+pub struct WriteRefused;
 
 /// Writes all of these bytes, or a part from their beginning.
 #[tactic(auto, using(crate::proofs::WritingLemmas::written_start, crate::proofs::WritingLemmas::written_past, crate::proofs::WritingLemmas::written_end, crate::proofs::WritingLemmas::written_part))]
-fn write_whole<W: Write>(writer: &mut W, bytes: &[u8]) -> Result<(), WriteFault>
+fn write_whole<W: Write>(writer: &mut W, bytes: &[u8]) -> Result<(), WriteRefused>
     ensures ok { OnOk result (Appends (W.contents writer.old) (W.contents writer.new) bytes.now) }
     ensures err { OnErr result (AppendsPart (W.contents writer.old) (W.contents writer.new) bytes.now) }
 {
     let mut rest = bytes;
     while !rest.is_empty() {
         match writer.write(rest) {
-            Ok(0) => return Err(WriteFault::TookNothing),
+            Ok(0) | Err(_) => return Err(WriteRefused),
             Ok(count) => rest = &rest[count..],
-            Err(_) => return Err(WriteFault::Failed),
         }
     }
     Ok(())
 }
 
 #[tactic(auto, using(crate::proofs::WritingLemmas::first_part, crate::proofs::WritingLemmas::second_part, crate::proofs::WritingLemmas::both_parts))]
-fn write_line<W: Write>(writer: &mut W, line: &Text) -> Result<(), WriteFault>
+fn write_line<W: Write>(writer: &mut W, line: &Text) -> Result<(), WriteRefused>
     ensures ok { OnOk result (Appends (W.contents writer.old) (W.contents writer.new) (line.now ++ 10 ∷ [])) }
     ensures err { OnErr result (AppendsPart (W.contents writer.old) (W.contents writer.new) (line.now ++ 10 ∷ [])) }
 {
@@ -44,7 +38,7 @@ fn write_line<W: Write>(writer: &mut W, line: &Text) -> Result<(), WriteFault>
 
 /// Writes lines, each with a line feed behind it, or a part of their text from its beginning.
 #[tactic(auto, using(crate::proofs::WritingLemmas::lines_on, crate::proofs::WritingLemmas::lines_stop, crate::proofs::WritingLemmas::lines_end))]
-pub fn write_lines<W: Write>(writer: &mut W, lines: &[Text]) -> Result<(), WriteFault>
+pub fn write_lines<W: Write>(writer: &mut W, lines: &[Text]) -> Result<(), WriteRefused>
     ensures ok { OnOk result (Appends (W.contents writer.old) (W.contents writer.new) (text_of_lines lines.now)) }
     ensures err { OnErr result (AppendsPart (W.contents writer.old) (W.contents writer.new) (text_of_lines lines.now)) }
 {

@@ -1,4 +1,4 @@
-use Rattle.std.proofs.Common.{◌≡◌, ℕ, List, get_or, map, sym, ap, ◌∙◌, Bor, [], refl}
+use Rattle.std.proofs.Common.{◌≡◌, ℕ, List, get_or, map, sym, ap, ◌∙◌, Bor, []}
 use Rattle.std.proofs.Math.ListN.{get_or-map}
 use Rattle.kb_keys.specs.KeyName.{names, name_of}
 use Rattle.kb_keys.proofs.ReadsBack.{name_of-lowered}
