@@ -1,5 +1,5 @@
--- Which arguments are of a kind.
-use Rattle.std.specs.Prelude.{Bool, true, false}
+-- Which arguments are of a kind, and the empty one of each kind.
+use Rattle.std.specs.Prelude.{Bool, true, false, [], pos}
 use Rattle.kb_core.specs.declared.arg.Arg.{Arg}
 use Rattle.kb_core.specs.declared.arg.Arg.TheVariants.{Text, Number, Truth}
 use Rattle.kb_core.specs.declared.arg.Kind.{Kind}
@@ -17,3 +17,10 @@ is_of kind.Number (Truth truth) = false
 is_of kind.Truth (Text text) = false
 is_of kind.Truth (Number number) = false
 is_of kind.Truth (Truth truth) = true
+
+-- what a parameter gets for which nothing is given
+abbrev pub empty_of : Kind → Arg
+empty_of kind.Text = Text []
+empty_of kind.Number = Number (pos 0)
+empty_of kind.Truth = Truth false
+empty_of kind.Any = Truth false

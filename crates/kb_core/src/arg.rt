@@ -1,5 +1,9 @@
 //! An argument, and the kinds of arguments.
+ghost use Rattle.std.specs.Prelude.{◌≡◌};
+ghost use Rattle.kb_core.specs.Arg.{is_of, empty_of};
+
 use kb_context::Text;
+use std::alloc::Global;
 
 /// An argument of a command. Lists, objects and numbers that are not whole are none (our decision).
 #[derive(Debug, Drop)]
@@ -29,5 +33,32 @@ impl Default for Arg {
 
     fn default() -> Arg {
         Arg::Truth(false)
+    }
+}
+
+impl Kind {
+    /// Whether a parameter of this kind takes the argument. It takes no memory.
+    pub fn takes(self, arg: &Arg) -> bool
+        ensures { result ≡ is_of self arg.now }
+    {
+        match (self, arg) {
+            (Kind::Any, _) => true,
+            (Kind::Text, Arg::Text(_)) => true,
+            (Kind::Number, Arg::Number(_)) => true,
+            (Kind::Truth, Arg::Truth(_)) => true,
+            _ => false,
+        }
+    }
+
+    /// What a parameter of this kind gets where nothing is given for it: the empty text, 0 or
+    /// false. It takes no memory.
+    pub fn empty(self, alloc: Global) -> Arg
+        ensures { result ≡ empty_of self }
+    {
+        match self {
+            Kind::Text => Arg::Text(Text::new(alloc)),
+            Kind::Number => Arg::Number(0),
+            Kind::Truth | Kind::Any => Arg::Truth(false),
+        }
     }
 }

@@ -5,6 +5,7 @@ pub mod arg;
 pub mod args;
 pub mod buffer;
 pub mod native;
+mod reading;
 pub mod run;
 pub mod signature;
 

@@ -1,9 +1,15 @@
 //! What a command takes, and what it may cost.
-ghost use Rattle.std.specs.Prelude.{◌≡◌, ◌≤◌, length};
+ghost use Rattle.std.specs.Prelude.{◌≡◌, ◌≤◌, IfOk, IfSome, IsTrue, length, option_map};
+ghost use Rattle.serde_json.specs.View.{view};
+ghost use Rattle.kb_core.specs.Reading.{arguments_for};
+ghost use Rattle.kb_core.specs.Signature.{fits};
 
 use crate::arg::Kind;
-use crate::args::PARAMETER_LIMIT;
-use kb_context::{Seq, Text};
+use crate::args::{Args, PARAMETER_LIMIT};
+use crate::reading::{arguments_for, fits};
+use kb_context::{NoMemory, Seq, Text};
+use serde_json::Value;
+use std::alloc::Global;
 use std::marker::Model;
 
 /// The largest budget, in instructions and costs of native commands (our decision).
@@ -79,5 +85,24 @@ impl Signature {
         ensures limit { result ≤ DEPTH_LIMIT }
     {
         self.depth
+    }
+
+    /// Whether the arguments fit: one for each parameter, each of its kind. It takes no memory.
+    pub fn fits(&self, args: &Args) -> bool
+        ensures { result ≡ fits self.now.params args.now }
+    {
+        fits(self.params(), args.as_slice())
+    }
+
+    /// The arguments that a JSON value gives the parameters, or `None` where it gives none that
+    /// fit (our decision). Without parameters every value gives the empty list. An absent value
+    /// and `null` give each parameter what is empty of its kind. An object gives each parameter
+    /// its member, where an absent one and `null` count as empty. A lone text, whole number or
+    /// truth value fits a lone parameter. Every value has to be of its parameter's kind.
+    pub fn read_args(&self, alloc: Global, value: Option<&Value>) -> Result<Option<Args>, NoMemory>
+        ensures value { IfOk result (λ args. args ≡ arguments_for self.now.params (option_map (λ v. view v.now) value.entry)) }
+        ensures fits { IfOk result (λ args. IfSome args (λ args. IsTrue (fits self.now.params args))) }
+    {
+        arguments_for(alloc, self.params(), value)
     }
 }

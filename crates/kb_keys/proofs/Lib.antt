@@ -1,1 +1,7 @@
-pub mod ReadsBack
+pub mod ChordLemmas
+pub mod ChordReadsBack
+pub mod KeyNameLemmas
+pub mod KeystrokeLaw
+pub mod KeystrokeLemmas
+pub mod KeystrokeReadsBack
+pub mod ModifiersLemmas

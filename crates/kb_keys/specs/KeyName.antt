@@ -1,4 +1,4 @@
--- The names of keys, and the key that a text names.
+-- The names of the keys, and the key that a text names.
 use Rattle.std.specs.Prelude.{ℕ, List, [], Option, slice_index_or, position, map, bytes_eq}
 use Rattle.std.specs.Char.{to_ascii_lowercase}
 use Rattle.kb_keys.specs.declared.key_name.TheConstants.{NAMES}
@@ -7,11 +7,11 @@ use Rattle.kb_keys.specs.declared.key_name.TheConstants.{NAMES}
 unfoldable pub names : List (List ℕ)
 names = map (λ name. name.now) NAMES
 
--- the name at a place
+-- the name at a place of the table
 abbrev pub name_of : ℕ → List ℕ
-name_of key = slice_index_or names key []
+name_of k = slice_index_or names k []
 
--- the text in lower case
+-- the text with its ASCII letters in lower case
 abbrev pub lowered : List ℕ → List ℕ
 lowered text = map to_ascii_lowercase text
 

@@ -1,3 +1,6 @@
-pub mod Fault
+pub mod Chord
+pub mod KeyFault
 pub mod KeyName
 pub mod Keystroke
+pub mod Modifier
+pub mod Modifiers

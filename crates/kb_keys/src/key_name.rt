@@ -1,16 +1,127 @@
 //! The names of the keys.
-ghost use Rattle.std.specs.Prelude.{◌≡◌, ◌<◌};
+ghost use Rattle.std.specs.Prelude.{◌≡◌, ◌<◌, ◌≤◌, length, Some};
 ghost use Rattle.kb_keys.specs.KeyName.{name_of, key_named, lowered};
 
 use std::marker::Model;
 
-/// The names that a key may have, in lower case: the letters and the digits.
-pub const NAMES: [&str; 36] = [
-    "a", "b", "c", "d", "e", "f", "g", "h", "i", "j", "k", "l", "m", "n", "o", "p", "q", "r", "s",
-    "t", "u", "v", "w", "x", "y", "z", "0", "1", "2", "3", "4", "5", "6", "7", "8", "9",
+/// The number of keys.
+pub const KEYS: usize = 99;
+
+/// The number of bytes of the longest name.
+pub(crate) const LONGEST_NAME: usize = 16;
+
+/// The names that VS Code's documentation accepts, in lower case. The order is ours: a name is
+/// looked for from the front, so those that are typed most come first.
+pub const NAMES: [&str; KEYS] = [
+    // Letters and digits.
+    "a",
+    "b",
+    "c",
+    "d",
+    "e",
+    "f",
+    "g",
+    "h",
+    "i",
+    "j",
+    "k",
+    "l",
+    "m",
+    "n",
+    "o",
+    "p",
+    "q",
+    "r",
+    "s",
+    "t",
+    "u",
+    "v",
+    "w",
+    "x",
+    "y",
+    "z",
+    "0",
+    "1",
+    "2",
+    "3",
+    "4",
+    "5",
+    "6",
+    "7",
+    "8",
+    "9",
+    // Signs.
+    "`",
+    "-",
+    "=",
+    "[",
+    "]",
+    "\\",
+    ";",
+    "'",
+    ",",
+    ".",
+    "/",
+    // Moving.
+    "left",
+    "up",
+    "right",
+    "down",
+    "pageup",
+    "pagedown",
+    "end",
+    "home",
+    // Editing.
+    "tab",
+    "enter",
+    "escape",
+    "space",
+    "backspace",
+    "delete",
+    // Others.
+    "pausebreak",
+    "capslock",
+    "insert",
+    // Function keys.
+    "f1",
+    "f2",
+    "f3",
+    "f4",
+    "f5",
+    "f6",
+    "f7",
+    "f8",
+    "f9",
+    "f10",
+    "f11",
+    "f12",
+    "f13",
+    "f14",
+    "f15",
+    "f16",
+    "f17",
+    "f18",
+    "f19",
+    // Number pad.
+    "numpad0",
+    "numpad1",
+    "numpad2",
+    "numpad3",
+    "numpad4",
+    "numpad5",
+    "numpad6",
+    "numpad7",
+    "numpad8",
+    "numpad9",
+    "numpad_multiply",
+    "numpad_add",
+    "numpad_separator",
+    "numpad_subtract",
+    "numpad_decimal",
+    "numpad_divide",
 ];
 
-/// A key, kept as the place of its name in `NAMES`, which is what contracts see.
+/// A key, by the place of its name in `NAMES`. Contracts see that place.
 #[derive(Clone, Copy, Debug, Default, PartialEq, Eq, Hash)]
 pub struct KeyName {
     index: u8,
@@ -18,19 +129,20 @@ pub struct KeyName {
 
 impl Model for KeyName {
     ghost use Rattle.std.specs.Prelude.{ℕ, ◌<◌};
+    ghost use Rattle.kb_keys.specs.declared.key_name.TheConstants.{KEYS};
 
     ghost Value = { ℕ };
 
     ghost view = { λ k. k.index };
 
-    ghost invariant = { λ k. k.index < 36 };
+    ghost invariant = { λ k. k.index < KEYS };
 
     ghost inverse = { λ n. record { index = n } };
 }
 
 impl KeyName {
-    /// The key that a text names, in any ASCII letter case (VS Code reads key texts so), or `None`
-    /// where it names none.
+    /// The key that a text names, in any ASCII letter case, or `None` where it names no key. The
+    /// names by place on the keyboard, as `[KeyA]`, are not read (our decision).
     pub fn named(text: &str) -> Option<KeyName>
         ensures { result ≡ key_named text.now }
     {
@@ -43,8 +155,10 @@ impl KeyName {
     /// The name, in lower case.
     pub fn as_str(self) -> &'static str
         ensures name { result.now ≡ name_of self }
-        ensures known { self < 36 }
+        ensures known { self < KEYS }
+        ensures read { key_named result.now ≡ Some self }
         ensures lower { lowered result.now ≡ result.now }
+        ensures short { length result.now ≤ LONGEST_NAME }
     {
         let names = NAMES.as_slice();
         names[self.index as usize]

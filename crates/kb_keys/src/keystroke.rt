@@ -1,57 +1,113 @@
-//! A press of a key.
-ghost use Rattle.std.specs.Prelude.{◌≡◌, Ok, string_bytes, IfOk};
-ghost use Rattle.kb_keys.specs.Keystroke.{keystroke_of, spelling};
+//! A key with its modifiers.
+ghost use Rattle.std.specs.Prelude.{◌≡◌, ◌<◌, ◌≤◌, ◌+◌, [], ◌++◌, length, string_bytes, string_len, Ok, IfOk, OnOk, OnErr, if◌then◌else◌};
+ghost use Rattle.std.specs.String.{string_capacity};
+ghost use Rattle.kb_keys.specs.Keystroke.{keystroke_of, spelling, split_of, ReadsFromLeft};
 
-use crate::fault::KeyFault;
-use crate::key_name::KeyName;
+use crate::key_fault::KeyFault;
+use crate::key_name::{KEYS, KeyName, LONGEST_NAME};
+use crate::modifier::Modifier;
+use crate::modifiers::Modifiers;
 use kb_context::NoMemory;
 use std::alloc::Global;
-use std::fmt;
 
-/// A press of a key.
+/// The number of bytes of the longest canonical text: all modifiers, then the longest name.
+const LONGEST: usize = "ctrl+shift+alt+meta+".len() + LONGEST_NAME;
+
+/// A key that is pressed while modifiers are held. Two are equal where both are.
+// `Default` has no meaning here: a chord's list wants one for the places that it has not filled.
 #[derive(Clone, Copy, Debug, Default, PartialEq, Eq, Hash)]
 pub struct Keystroke {
+    pub mods: Modifiers,
     pub key: KeyName,
 }
 
-/// Shows the canonical text.
-impl fmt::Display for Keystroke {
-    ghost use Rattle.std.specs.Prelude.{Some};
-    ghost use Rattle.kb_keys.specs.Keystroke.{spelling};
-
-    ghost output = { λ stroke. Some (spelling stroke) };
-
-    fn fmt<W: fmt::Write>(&self, f: &mut fmt::Formatter<W>) -> fmt::Result {
-        let name = self.key.as_str();
-        write!(f, "{name}")
-    }
-}
-
 impl Keystroke {
-    /// Reads a key text: the name of a key, in any ASCII letter case, and nothing else. Nothing is
-    /// trimmed. It takes no memory.
+    /// Reads a key text: as often as it comes, a modifier (`ctrl`, `shift`, `alt`, `cmd`, `win`,
+    /// `meta`) followed by `+` or `-`, then the name of a key. Modifiers come in any order and
+    /// more than once, and ASCII letter case does not count (`-` as the sign and repeated
+    /// modifiers are our decision). The text is neither split at spaces nor trimmed.
     ///
-    /// Errors: `EmptyKey` where there is no text, `UnknownKey` where it is no name.
-    #[tactic(auto, unfolding(crate::specs::Keystroke::keystroke_of))]
+    /// An empty rest is `EmptyKey`, and another rest that is no key's name is `UnknownKey`. So
+    /// `ctrl` alone is `UnknownKey`, `ctrl+` is `EmptyKey`, and `ctrl--` is `ctrl` with `-`.
+    /// It takes no memory.
+    #[tactic(auto, unfolding(crate::specs::Keystroke::keystroke_of), using(crate::proofs::KeystrokeLaw::reads_from_left))]
     pub fn parse(text: &str) -> Result<Keystroke, KeyFault>
-        ensures { result ≡ keystroke_of text.now }
+        ensures value { result ≡ keystroke_of text.now }
+
+        // What `value` cites, from the left: a modifier with its sign is added to what the text
+        // after them means.
+        ensures law { ReadsFromLeft keystroke_of }
     {
-        if text.is_empty() {
+        let (mods, rest) = split_modifiers(text);
+        if rest.is_empty() {
             return Err(KeyFault::EmptyKey);
         }
-        match KeyName::named(text) {
-            Some(key) => Ok(Keystroke { key }),
+        match KeyName::named(rest) {
+            Some(key) => Ok(Keystroke { mods, key }),
             None => Err(KeyFault::UnknownKey),
         }
     }
 
-    /// The canonical text, in lower case, which `parse` reads back as the same keystroke.
-    #[tactic(auto, using(crate::proofs::ReadsBack::read_back))]
+    /// The canonical text, which `parse` reads back: in lower case, the modifiers in the order
+    /// `ctrl`, `shift`, `alt`, `meta`, each followed by `+`, then the key's name (our decision).
     pub fn text(self, alloc: Global) -> Result<String, NoMemory>
         ensures spelling { IfOk result (λ text. string_bytes text ≡ spelling self) }
         ensures reads_back { IfOk result (λ text. keystroke_of (string_bytes text) ≡ Ok self) }
     {
-        let text = String::from_str(alloc, self.key.as_str())?;
+        let mut text = String::new(alloc);
+        self.write_to(&mut text)?;
         Ok(text)
     }
+
+    /// Appends the canonical text to a line. Without memory the line stays as it was.
+    pub fn write_to(self, line: &mut String) -> Result<(), NoMemory>
+        ensures ok { OnOk result (string_bytes line.new ≡ string_bytes line.old ++ spelling self) }
+        ensures err { OnErr result (string_bytes line.new ≡ string_bytes line.old) }
+        ensures reads_back { keystroke_of (spelling self) ≡ Ok self }
+        ensures known { self.key < KEYS }
+    {
+        line.reserve(LONGEST)?;
+        self.write_reserved(line);
+        Ok(())
+    }
+
+    /// Appends the canonical text to a line that has room for it, which takes no memory.
+    fn write_reserved(self, line: &mut String)
+        requires { string_len line.old + LONGEST ≤ string_capacity line.old }
+        ensures spelling { string_bytes line.new ≡ string_bytes line.old ++ spelling self }
+        ensures known { self.key < KEYS }
+    {
+        let name = self.key.as_str();
+        push_if(line, self.mods.ctrl, "ctrl+");
+        push_if(line, self.mods.shift, "shift+");
+        push_if(line, self.mods.alt, "alt+");
+        push_if(line, self.mods.meta, "meta+");
+        line.push_str(name).unwrap();
+    }
+}
+
+/// Appends a word to a line that has room for it, if its modifier is held.
+fn push_if(line: &mut String, held: bool, word: &str)
+    requires { string_len line.old + length word.now ≤ string_capacity line.old }
+    ensures spelling { string_bytes line.new ≡ string_bytes line.old ++ (if held then word.now else []) }
+    ensures len { string_len line.new ≤ string_len line.old + length word.now }
+    ensures capacity { string_capacity line.old ≤ string_capacity line.new }
+{
+    if held {
+        line.push_str(word).unwrap();
+    }
+}
+
+/// The modifiers that a text begins with, and the rest.
+fn split_modifiers(text: &str) -> (Modifiers, &str)
+    ensures mods { result.0 ≡ (split_of text.now).mods }
+    ensures rest { result.1.now ≡ (split_of text.now).rest }
+{
+    let mut mods = Modifiers::NONE;
+    let mut rest = text;
+    while let Some((modifier, after)) = Modifier::split(rest) {
+        mods = mods.with(modifier);
+        rest = after;
+    }
+    (mods, rest)
 }

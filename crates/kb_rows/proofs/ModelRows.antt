@@ -1,61 +1,78 @@
 -- The definitions alone, tried on rows by computation: no code of the engine runs here.
 use Rattle.std.proofs.Common.{◌≡◌, ℕ, List, [], ◌∷◌, ◌++◌, refl}
-use Rattle.std.specs.Prelude.{codes}
+use Rattle.std.specs.Prelude.{codes, Result, Ok, Err}
 use Rattle.std.specs.Fmt.{digits}
 use Rattle.std.specs.Str.{is_utf8, chars}
 use lib.Utf8.{encode}
 use Rattle.serde_json.proofs.OnLiterals.{serde_json_on_literals}
 use Rattle.kb_context.specs.Text.{without_last, only_last, without_first, only_first}
+use Rattle.kb_jsonc.specs.Pieces.{first_piece}
+use Rattle.kb_jsonc.specs.Text.{plain_text}
+use Rattle.kb_jsonc.specs.Reader.{plain_value, value_of}
 use Rattle.kb_keys.specs.KeyName.{names, key_named}
-use Rattle.kb_keys.specs.Keystroke.{keystroke_of}
-use Rattle.kb_session.specs.Script.{events_of}
+use Rattle.kb_keys.specs.Keystroke.{keystroke_of, split_of, spelling}
+use Rattle.kb_rules.specs.Entry.{entry_of}
+use Rattle.kb_rules.specs.RuleList.{Listed}
+use Rattle.kb_session.specs.declared.fault.FileFault.{FileFault}
+use Rattle.kb_session.specs.Script.{told_of}
 use Rattle.kb_session.specs.ScriptRun.{text_of}
-use Rattle.kb_session.specs.Session.{new_session}
+use Rattle.kb_session.specs.Session.{loaded_session}
+use Rattle.kb_session.specs.UserFile.{user_rules}
 
 -- lines, each with its line feed
 abbrev lines : List (List ℕ) → List ℕ
 lines [] = []
 lines (line ∷ more) = line ++ (10 ∷ lines more)
 
--- what a script writes
-abbrev written : List (List ℕ) → List ℕ
-written script = text_of (events_of (lines script)) new_session
+abbrev written_by : Result Listed FileFault → List ℕ → List ℕ
+written_by (Ok listed) script = text_of (told_of script) (loaded_session listed)
+written_by (Err fault) script = []
 
-a_rule_starts_its_command : written (codes "rule a type hi" ∷ codes "key a" ∷ codes "key b" ∷ [])
-    ≡ lines (codes "rule a" ∷ codes "key a: start type" ∷ codes "done \"hi\" \"\"" ∷ codes "key b: unbound" ∷ [])
-unfolding is_utf8 chars encode names key_named keystroke_of serde_json_on_literals
+-- what a script writes, in a session that is loaded with the user's rules
+abbrev written : List ℕ → List (List ℕ) → List ℕ
+written user script = written_by (user_rules user) (lines script)
+
+a_key_without_rules : written [] (codes "key Shift+CTRL-A" ∷ []) ≡ lines (codes "key ctrl+shift+a: unbound" ∷ [])
+unfolding user_rules value_of plain_text plain_value first_piece is_utf8 chars encode names key_named keystroke_of split_of spelling
+a_key_without_rules = refl
+
+a_rule_starts_its_command : written (codes "[{\"key\":\"a\",\"command\":\"type\",\"args\":\"hi\"}]") (codes "key a" ∷ codes "key b" ∷ [])
+    ≡ lines (codes "key a: start type" ∷ codes "done \"hi\" \"\"" ∷ codes "key b: unbound" ∷ [])
+unfolding user_rules value_of plain_text plain_value first_piece is_utf8 chars encode names key_named keystroke_of split_of spelling entry_of serde_json_on_literals
 a_rule_starts_its_command = refl
 
-the_lowest_rule_goes_first : written (codes "rule a type x" ∷ codes "rule a type y" ∷ codes "key a" ∷ [])
-    ≡ lines (codes "rule a" ∷ codes "rule a" ∷ codes "key a: start type" ∷ codes "done \"y\" \"\"" ∷ [])
-unfolding is_utf8 chars encode names key_named keystroke_of serde_json_on_literals
+the_lowest_rule_goes_first : written (codes "[{\"key\":\"a\",\"command\":\"type\",\"args\":\"x\"},{\"key\":\"a\",\"command\":\"type\",\"args\":\"y\"}]") (codes "key a" ∷ [])
+    ≡ lines (codes "key a: start type" ∷ codes "done \"y\" \"\"" ∷ [])
+unfolding user_rules value_of plain_text plain_value first_piece is_utf8 chars encode names key_named keystroke_of split_of spelling entry_of serde_json_on_literals digits
 the_lowest_rule_goes_first = refl
 
-a_command_need_not_exist : written (codes "rule A nope" ∷ codes "key A" ∷ [])
-    ≡ lines (codes "rule a" ∷ codes "key a: start nope" ∷ codes "not found nope" ∷ [])
-unfolding is_utf8 chars encode names key_named keystroke_of
-a_command_need_not_exist = refl
+a_chord_below_its_first_key : written (codes "[{\"key\":\"ctrl+k\",\"command\":\"x\"},{\"key\":\"ctrl+k ctrl+c\",\"command\":\"y\"}]") (codes "key ctrl+k" ∷ codes "key ctrl+c" ∷ codes "key ctrl+k" ∷ codes "key x" ∷ [])
+    ≡ lines (codes "key ctrl+k: chord" ∷ codes "key ctrl+k ctrl+c: start y" ∷ codes "not found y" ∷ codes "key ctrl+k: chord" ∷ codes "key ctrl+k x: left" ∷ [])
+unfolding user_rules value_of plain_text plain_value first_piece is_utf8 chars encode names key_named keystroke_of split_of spelling entry_of serde_json_on_literals digits
+a_chord_below_its_first_key = refl
 
-modifiers_are_not_read : written (codes "rule ctrl+a type" ∷ []) ≡ lines (codes "unread line 1" ∷ [])
-unfolding is_utf8 chars encode names key_named keystroke_of digits
-modifiers_are_not_read = refl
+a_rule_for_one_key_below_a_chord : written (codes "[{\"key\":\"ctrl+k ctrl+c\",\"command\":\"x\"},{\"key\":\"ctrl+k\",\"command\":\"y\"}]") (codes "key ctrl+k" ∷ [])
+    ≡ lines (codes "key ctrl+k: start y" ∷ codes "not found y" ∷ [])
+unfolding user_rules value_of plain_text plain_value first_piece is_utf8 chars encode names key_named keystroke_of split_of spelling entry_of serde_json_on_literals digits
+a_rule_for_one_key_below_a_chord = refl
 
--- é is the two bytes 195 and 169
-characters_are_scalar_values : written (
-    codes "rule a type ab" ∷ codes "rule b cursorLeft" ∷ (codes "rule c type " ++ 195 ∷ 169 ∷ []) ∷ codes "rule d deleteRight" ∷ codes "rule e deleteLeft"
-    ∷ codes "key a" ∷ codes "key b" ∷ codes "key c" ∷ codes "key d" ∷ codes "key e" ∷ []
-    ) ≡ lines (
-    codes "rule a" ∷ codes "rule b" ∷ codes "rule c" ∷ codes "rule d" ∷ codes "rule e"
-    ∷ codes "key a: start type" ∷ codes "done \"ab\" \"\""
-    ∷ codes "key b: start cursorLeft" ∷ codes "done \"a\" \"b\""
-    ∷ codes "key c: start type" ∷ (codes "done \"a" ++ (195 ∷ 169 ∷ codes "\" \"b\""))
-    ∷ codes "key d: start deleteRight" ∷ (codes "done \"a" ++ (195 ∷ 169 ∷ codes "\" \"\""))
-    ∷ codes "key e: start deleteLeft" ∷ codes "done \"a\" \"\"" ∷ []
-    )
-unfolding is_utf8 chars encode names key_named keystroke_of serde_json_on_literals without_last only_last without_first only_first
+the_empty_command_starts_nothing : written (codes "[{\"key\":\"tab\",\"command\":\"type\"},{\"key\":\"tab\",\"command\":\"\"}]") (codes "key tab" ∷ [])
+    ≡ lines (codes "key tab: no action" ∷ [])
+unfolding user_rules value_of plain_text plain_value first_piece is_utf8 chars encode names key_named keystroke_of split_of spelling entry_of serde_json_on_literals digits
+the_empty_command_starts_nothing = refl
+
+arguments_by_kind : written (codes "[{\"key\":\"t\",\"command\":\"type\",\"args\":{\"text\":5}},{\"key\":\"u\",\"command\":\"type\"},{\"key\":\"v\",\"command\":\"type\",\"args\":[]}]") (codes "key t" ∷ codes "key u" ∷ codes "key v" ∷ [])
+    ≡ lines (codes "key t: start type" ∷ codes "bad arguments type" ∷ codes "key u: start type" ∷ codes "done \"\" \"\"" ∷ codes "key v: start type" ∷ codes "bad arguments type" ∷ [])
+unfolding user_rules value_of plain_text plain_value first_piece is_utf8 chars encode names key_named keystroke_of split_of spelling entry_of serde_json_on_literals digits
+arguments_by_kind = refl
+
+reloads : written (codes "[{\"key\":\"ctrl+k ctrl+c\",\"command\":\"x\"}]") (codes "key ctrl+k" ∷ codes "reload [,]" ∷ codes "reload {}" ∷ codes "reload [] // none" ∷ codes "key ctrl+k" ∷ codes "what" ∷ [])
+    ≡ lines (codes "key ctrl+k: chord" ∷ codes "refused 4 Syntax" ∷ codes "refused 41 WrongShape" ∷ codes "left ctrl+k" ∷ codes "reloaded" ∷ codes "key ctrl+k: unbound" ∷ codes "unread line 6" ∷ [])
+unfolding user_rules value_of plain_text plain_value first_piece is_utf8 chars encode names key_named keystroke_of split_of spelling entry_of serde_json_on_literals digits
+reloads = refl
+
+-- é is the two bytes 195 and 169, and is written with an escape in the file
+characters_are_scalar_values : written (codes "[{\"key\":\"a\",\"command\":\"type\",\"args\":\"a\\u00e9\"},{\"key\":\"b\",\"command\":\"cursorLeft\"},{\"key\":\"c\",\"command\":\"deleteRight\"}]") (codes "key a" ∷ codes "key b" ∷ codes "key c" ∷ [])
+    ≡ lines (codes "key a: start type" ∷ (codes "done \"a" ++ (195 ∷ 169 ∷ codes "\" \"\"")) ∷ codes "key b: start cursorLeft" ∷ (codes "done \"a\" \"" ++ (195 ∷ 169 ∷ codes "\"")) ∷ codes "key c: start deleteRight" ∷ codes "done \"a\" \"\"" ∷ [])
+unfolding user_rules value_of plain_text plain_value first_piece is_utf8 chars encode names key_named keystroke_of split_of spelling entry_of serde_json_on_literals digits without_last only_last without_first only_first
 characters_are_scalar_values = refl
-
-skipped_lines_count : written (codes "# x" ∷ [] ∷ (codes "key a" ++ 13 ∷ []) ∷ (13 ∷ []) ∷ codes "key  a" ∷ [])
-    ≡ lines (codes "key a: unbound" ∷ codes "unread line 5" ∷ [])
-unfolding is_utf8 chars encode names key_named keystroke_of digits
-skipped_lines_count = refl

@@ -1,36 +1,26 @@
 //! Each public call once, with memory at hand.
 use kb_context::{Seq, Text};
 use kb_core::{Arg, Args, Buffer, Core, Kind, Native, plain};
-use kb_keys::{KeyFault, KeyName, Keystroke};
-use kb_rules::{Rule, RuleSet};
-use kb_session::{Answer, Event, ScriptFault, Session, SessionFault};
+use kb_keys::{Chord, Keystroke};
+use kb_resolve::{ChordState, Pressed, Resolved, Resolver};
+use kb_rules::{RuleSet, read_list};
+use kb_session::{
+    Answer, Event, FileFault, Inputs, LoadFault, LoadFile, Refusal, ScriptFault, Session,
+    SessionFault,
+};
+use serde_json::Value;
 use std::test::Fail;
 
 #[test]
-fn key_texts(rt: HostRuntime) -> Result<(), Fail> {
-    for name in ["a", "m", "z", "0", "9"] {
-        let key = Keystroke::parse(name)?;
-        assert_eq!(rt; key.text(rt.alloc())?.as_str(), name);
-        assert_eq!(rt; KeyName::named(name), Some(key.key));
-    }
-    assert_eq!(rt; Keystroke::parse("Q")?.text(rt.alloc())?.as_str(), "q");
-    assert_eq!(rt; Keystroke::parse(""), Err(KeyFault::EmptyKey));
-    for name in ["aa", " a", "f1", "é", "-"] {
-        assert_eq!(rt; Keystroke::parse(name), Err(KeyFault::UnknownKey));
-    }
-    Ok(())
-}
-
-#[test]
 fn faults_have_numbers_and_names(rt: HostRuntime) -> Result<(), Fail> {
+    let fault = LoadFault::Refused(LoadFile::User, FileFault::OpenString);
+    assert_eq!(rt; (fault.number(), fault.name()), (3, "OpenString"));
     assert_eq!(rt;
-        (KeyFault::UnknownKey.number(), KeyFault::UnknownKey.name()),
-        (10, "UnknownKey")
+        (LoadFault::NoMemory.number(), LoadFault::NoMemory.name()),
+        (5, "NoMemory")
     );
-    assert_eq!(rt;
-        (KeyFault::EmptyKey.number(), KeyFault::EmptyKey.name()),
-        (12, "EmptyKey")
-    );
+    let refusal = Refusal::File(FileFault::NotUtf8);
+    assert_eq!(rt; (refusal.number(), refusal.name()), (1, "NotUtf8"));
     assert_eq!(rt;
         (
             SessionFault::NoMemory.number(),
@@ -96,41 +86,69 @@ fn a_native_costs_one(rt: HostRuntime) -> Result<(), Fail> {
     Ok(())
 }
 
+/// The texts round the caret of a buffer.
+fn round_caret(buffer: &Buffer) -> (&str, &str) {
+    (buffer.before.as_str(), buffer.after.as_str())
+}
+
 #[test]
-fn edits_of_a_buffer(rt: HostRuntime) -> Result<(), Fail> {
+fn the_caret_moves_by_characters(rt: HostRuntime) -> Result<(), Fail> {
     let mut buffer = Buffer::new(rt.alloc());
     buffer.insert("aé")?;
     buffer.move_left()?;
-    assert_eq!(rt; (buffer.before.as_str(), buffer.after.as_str()), ("a", "é"));
+    assert_eq!(rt; round_caret(&buffer), ("a", "é"));
     buffer.move_right()?;
     buffer.delete_left();
-    assert_eq!(rt; (buffer.before.as_str(), buffer.after.as_str()), ("a", ""));
-    buffer.insert("b")?;
-    buffer.move_to_top()?;
-    buffer.delete_right();
-    assert_eq!(rt; (buffer.before.as_str(), buffer.after.as_str()), ("", "b"));
-    buffer.move_to_bottom()?;
-    assert_eq!(rt; (buffer.before.as_str(), buffer.after.as_str()), ("b", ""));
-    buffer.clear();
-    assert_eq!(rt; (buffer.before.as_str(), buffer.after.as_str()), ("", ""));
+    assert_eq!(rt; round_caret(&buffer), ("a", ""));
     Ok(())
 }
 
 #[test]
-fn texts_and_lists(rt: HostRuntime) -> Result<(), Fail> {
+fn the_caret_moves_to_the_ends(rt: HostRuntime) -> Result<(), Fail> {
+    let mut buffer = Buffer::new(rt.alloc());
+    buffer.insert("ab")?;
+    buffer.move_to_top()?;
+    buffer.delete_right();
+    assert_eq!(rt; round_caret(&buffer), ("", "b"));
+    buffer.move_to_bottom()?;
+    assert_eq!(rt; round_caret(&buffer), ("b", ""));
+    buffer.clear();
+    assert_eq!(rt; round_caret(&buffer), ("", ""));
+    Ok(())
+}
+
+#[test]
+fn texts_grow_at_both_ends(rt: HostRuntime) -> Result<(), Fail> {
     let mut text = Text::from_str(rt.alloc(), "é")?;
     text.push_str("b")?;
     text.push('c')?;
     text.push_front('ß')?;
     assert_eq!(rt; text.as_str(), "ßébc");
+    Ok(())
+}
+
+#[test]
+fn texts_lose_their_ends(rt: HostRuntime) -> Result<(), Fail> {
+    let mut text = Text::from_str(rt.alloc(), "ßéc")?;
     assert_eq!(rt; (text.first(), text.last()), (Some('ß'), Some('c')));
     assert_eq!(rt; (text.pop_front(), text.pop()), (Some('ß'), Some('c')));
     let copy = text.copied()?;
+    let back = Text::from_string(copy.into_string());
+    assert_eq!(rt; back.as_str(), "é");
+    Ok(())
+}
+
+#[test]
+fn empty_texts_have_no_ends(rt: HostRuntime) -> Result<(), Fail> {
+    let mut text = Text::from_str(rt.alloc(), "é")?;
     text.clear();
     assert_eq!(rt; (text.pop(), text.pop_front()), (None, None));
     assert_eq!(rt; (text.first(), text.last()), (None, None));
-    let back = Text::from_string(copy.into_string());
-    assert_eq!(rt; back.as_str(), "éb");
+    Ok(())
+}
+
+#[test]
+fn lists_grow_at_the_end(rt: HostRuntime) -> Result<(), Fail> {
     let mut list = Seq::from_vec(vec![in rt.alloc(); 1, 2]?);
     list.push(3)?;
     list.push_two(4, 5)?;
@@ -141,39 +159,78 @@ fn texts_and_lists(rt: HostRuntime) -> Result<(), Fail> {
 }
 
 #[test]
-fn rules_are_found_from_the_bottom(rt: HostRuntime) -> Result<(), Fail> {
-    let key = Keystroke::parse("a")?;
-    let mut rules = RuleSet::new(rt.alloc());
-    for command in ["first", "second"] {
-        rules.push(Rule {
-            key,
-            command: Text::from_str(rt.alloc(), command)?,
-            argument: None,
-        })?;
+fn rules_are_shared_and_resolved(rt: HostRuntime) -> Result<(), Fail> {
+    let text =
+        "[{\"key\":\"a b\",\"command\":\"x\"},{\"key\":\"c\",\"command\":\"y\",\"args\":1},{}]";
+    let value = Value::from_str(rt.alloc(), text)?;
+    let list = match value {
+        Value::Array(elements) => read_list(rt.alloc(), elements)?,
+        _ => read_list(rt.alloc(), Vec::new(rt.alloc()))?,
+    };
+    assert_eq!(rt; list.warnings().len(), 1);
+    let set = RuleSet::assemble(rt.alloc(), &list)?;
+    assert_eq!(rt; set.rules().len(), 2);
+    let resolver = Resolver::build(rt.alloc(), &set)?;
+    let chord = Chord::parse(rt.alloc(), "a b").ok().expect(&rt, "a b");
+    for (count, found) in [(1usize, "more"), (2, "x")] {
+        match resolver.resolve(&chord.as_slice()[..count.min(chord.len())])? {
+            Resolved::Found(rule) => assert_eq!(rt; rule.command.as_str(), found),
+            Resolved::More => assert_eq!(rt; "more", found),
+            Resolved::Nothing => assert!(rt; false, "nothing is found"),
+        }
     }
-    assert_eq!(rt; rules.rules().len(), 2);
-    let found = rules.find(key).ok_or("no rule")?;
-    assert_eq!(rt; found.command.as_str(), "second");
-    assert!(rt; rules.find(Keystroke::parse("b")?).is_none());
+    let mut state = ChordState::new(rt.alloc());
+    for stroke in chord.as_slice() {
+        match state.press(*stroke, &resolver)? {
+            Pressed::Start(rule) => assert_eq!(rt; rule.command.as_str(), "x"),
+            Pressed::More => assert_eq!(rt; state.pressed().len(), 1),
+            Pressed::Left | Pressed::Unbound => assert!(rt; false, "it fits no rule"),
+        }
+    }
+    assert!(rt; !state.leave());
+    Ok(())
+}
+
+#[test]
+fn arguments_are_read_and_fit(rt: HostRuntime) -> Result<(), Fail> {
+    let signature = Native::TypeText.signature(rt.alloc())?;
+    let value = Value::from_str(rt.alloc(), "{\"text\":\"hi\"}")?;
+    let args = signature
+        .read_args(rt.alloc(), Some(&value))?
+        .ok_or("they don't fit")?;
+    assert!(rt; signature.fits(&args));
+    assert_eq!(rt; args.as_slice().len(), 1);
+    assert!(rt; !signature.fits(&Args::new(rt.alloc())));
+    let other = Value::from_str(rt.alloc(), "[]")?;
+    assert!(rt; signature.read_args(rt.alloc(), Some(&other))?.is_none());
+    assert!(rt; signature.read_args(rt.alloc(), None)?.is_some());
     Ok(())
 }
 
 #[test]
 fn a_session_handles_and_runs(rt: HostRuntime) -> Result<(), Fail> {
-    let key = Keystroke::parse("a")?;
-    let mut session = Session::new(rt.alloc())?;
-    assert_eq!(rt; session.handle(Event::Key(key)), Ok(Answer::Did));
+    let key = Keystroke::parse("ctrl+a").ok().expect(&rt, "ctrl+a");
+    let user = b"[{\"key\":\"ctrl+a\",\"command\":\"nope\"}]";
+    let inputs = Inputs { user: b"" };
+    let mut session = Session::load(rt.alloc(), inputs)
+        .ok()
+        .expect(&rt, "no session");
+    let first = Event::Key(key);
+    assert_eq!(rt; session.handle(first), Ok(Answer::Did));
+    assert_eq!(rt; session.reload_user(user), Ok(Answer::Did));
+    let refused = Answer::Refused(Refusal::File(FileFault::WrongShape));
+    assert_eq!(rt; session.reload_user(b"{}"), Ok(refused));
     let mut events = Vec::new(rt.alloc());
-    let rule = Event::Rule(key, Text::from_str(rt.alloc(), "nope")?, None);
-    events.push(rule)?;
     events.push(Event::Unread(7))?;
-    events.push(Event::Key(key))?;
+    let again = Keystroke::parse("ctrl+a").ok().expect(&rt, "ctrl+a");
+    events.push(Event::Key(again))?;
     assert_eq!(rt; session.run(events), Ok(()));
     let lines = [
-        "key a: unbound",
-        "rule a",
+        "key ctrl+a: unbound",
+        "reloaded",
+        "refused 41 WrongShape",
         "unread line 7",
-        "key a: start nope",
+        "key ctrl+a: start nope",
         "not found nope",
     ];
     assert_eq!(rt; session.trace().len(), lines.len());

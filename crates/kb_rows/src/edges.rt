@@ -1,14 +1,11 @@
 //! Scripts that are no text, and scripts at the limit of their length.
-use crate::transcript;
+use crate::{Failure, transcript};
 use kb_session::{SCRIPT_LIMIT, ScriptFault};
 use std::test::Fail;
 
-const NO_TEXT: [(&[u8], &[u8]); 4] = [
+static NO_TEXT: [(&[u8], &[u8]); 4] = [
     (b"key \xff\nkey a\n", b"unread line 1\nkey a: unbound\n"),
-    (
-        b"rule a type \xc3\nkey a\n",
-        b"unread line 1\nkey a: unbound\n",
-    ),
+    (b"reload \xc3\nkey a\n", b"unread line 1\nkey a: unbound\n"),
     (b"# \xff\nkey a\n", b"key a: unbound\n"),
     (b"\xef\xbb\xbfkey a\n", b"unread line 1\n"),
 ];
@@ -16,9 +13,9 @@ const NO_TEXT: [(&[u8], &[u8]); 4] = [
 #[test]
 fn bytes_that_are_no_text(rt: HostRuntime) -> Result<(), Fail> {
     for (script, trace) in &NO_TEXT {
-        match transcript(rt.alloc(), script) {
+        match transcript(rt.alloc(), b"", script) {
             Ok(out) => assert_eq!(rt; out.as_slice(), *trace),
-            Err(fault) => assert!(rt; false, "{fault}"),
+            Err(failure) => assert!(rt; false, "{failure:?}"),
         }
     }
     Ok(())
@@ -27,9 +24,9 @@ fn bytes_that_are_no_text(rt: HostRuntime) -> Result<(), Fail> {
 #[test]
 fn the_longest_script_is_run(rt: HostRuntime) -> Result<(), Fail> {
     let script = vec![in rt.alloc(); b'\n'; SCRIPT_LIMIT]?;
-    match transcript(rt.alloc(), script.as_slice()) {
+    match transcript(rt.alloc(), b"", script.as_slice()) {
         Ok(out) => assert_eq!(rt; out.len(), 0),
-        Err(fault) => assert!(rt; false, "{fault}"),
+        Err(failure) => assert!(rt; false, "{failure:?}"),
     }
     Ok(())
 }
@@ -37,9 +34,9 @@ fn the_longest_script_is_run(rt: HostRuntime) -> Result<(), Fail> {
 #[test]
 fn one_byte_more_is_too_long(rt: HostRuntime) -> Result<(), Fail> {
     let script = vec![in rt.alloc(); b'\n'; SCRIPT_LIMIT + 1]?;
-    match transcript(rt.alloc(), script.as_slice()) {
+    match transcript(rt.alloc(), b"", script.as_slice()) {
         Ok(_) => assert!(rt; false, "the script ran"),
-        Err(fault) => assert_eq!(rt; fault, ScriptFault::TooLong),
+        Err(failure) => assert_eq!(rt; failure, Failure::Script(ScriptFault::TooLong)),
     }
     Ok(())
 }

@@ -1,12 +1,16 @@
-//! Tests that cross crates: rows of a script and the trace that it must write, run over memory.
+//! Tests that cross crates: rows of files, scripts and the traces that they must write, run over
+//! memory.
 #![tactic(auto)]
 
-ghost use Rattle.std.specs.Prelude.{◌≡◌, IfOk};
-ghost use Rattle.kb_session.specs.Script.{events_of};
+ghost use Rattle.std.specs.Prelude.{◌≡◌, Ok, IfOk, IfErr};
+ghost use Rattle.kb_rows.specs.Failure.{FailsToGive};
+ghost use Rattle.kb_rules.specs.RuleList.{Listed};
+ghost use Rattle.kb_session.specs.Script.{told_of};
 ghost use Rattle.kb_session.specs.ScriptRun.{text_of};
-ghost use Rattle.kb_session.specs.Session.{new_session};
+ghost use Rattle.kb_session.specs.Session.{loaded_session};
+ghost use Rattle.kb_session.specs.UserFile.{user_rules};
 
-use kb_session::{ScriptFault, Session, run_script};
+use kb_session::{Inputs, LoadFault, ScriptFault, Session, run_script};
 use std::alloc::Global;
 
 #[cfg(test)]
@@ -14,25 +18,41 @@ mod calls;
 #[cfg(test)]
 mod edges;
 #[cfg(test)]
+mod files;
+#[cfg(test)]
+mod json_texts;
+#[cfg(test)]
+mod key_texts;
+#[cfg(test)]
 mod rows;
 #[cfg(test)]
 mod streams;
 
-/// What a script writes in a session of its own: the plain model's text, as the contract of
-/// `run_script` gives it over memory.
+/// Why there is no transcript.
+#[derive(Clone, Copy, Debug, PartialEq, Eq)]
+pub enum Failure {
+    Load(LoadFault),
+    Script(ScriptFault),
+}
+
+/// What a script writes in a session of its own, which is loaded with the user's rules: the plain
+/// model's text, as the contracts of `load` and `run_script` give it over memory.
 ///
-/// Errors: those of `run_script`, but for `ReadFailed` and `WriteFailed`, which memory never gives.
-pub fn transcript(alloc: Global, script: &[u8]) -> Result<Vec<u8>, ScriptFault>
-    ensures { IfOk result (λ out. out.items ≡ text_of (events_of script.now) new_session) }
+/// Errors: those of `load` and `run_script`, but for `ReadFailed` and `WriteFailed`, which memory
+/// never gives.
+pub fn transcript(alloc: Global, user: &[u8], script: &[u8]) -> Result<Vec<u8>, Failure>
+    ensures ok { IfOk result (λ out. (listed : Listed) × (user_rules user.now ≡ Ok listed)
+        × (out.items ≡ text_of (told_of script.now) (loaded_session listed))) }
+    ensures err { IfErr result (λ failure. FailsToGive failure user.now script.now) }
 {
-    let mut session = match Session::new(alloc) {
+    let mut session = match Session::load(alloc, Inputs { user }) {
         Ok(session) => session,
-        Err(_) => return Err(ScriptFault::NoMemory),
+        Err(fault) => return Err(Failure::Load(fault)),
     };
     let mut out = Vec::new(alloc);
     let mut reader = script;
     match run_script(alloc, &mut reader, &mut out, &mut session) {
         Ok(()) => Ok(out),
-        Err(fault) => Err(fault),
+        Err(fault) => Err(Failure::Script(fault)),
     }
 }

@@ -1,10 +1,12 @@
 //! Readers and writers that fail.
-use kb_session::{ScriptFault, Session, run_script};
+use kb_session::{Inputs, LoadFault, ScriptFault, Session, run_script};
+use std::alloc::Global;
 use std::io;
 use std::io::{ErrorKind, Read, Write};
 use std::test::Fail;
 
-const SCRIPT: &[u8] = b"key a\nrule a type hi\nkey a\nkey b\n";
+const SCRIPT: &[u8] =
+    b"key a\nreload [{\"key\":\"a\",\"command\":\"type\",\"args\":\"hi\"}]\nkey a\nkey b\n";
 
 /// Gives its bytes a few at a time, and then fails.
 #[derive(Drop)]
@@ -48,9 +50,13 @@ impl Write for Narrow {
     }
 }
 
+fn opened(alloc: Global) -> Result<Session, LoadFault> {
+    Session::load(alloc, Inputs { user: b"" })
+}
+
 #[test]
 fn a_reader_that_fails_runs_nothing(rt: HostRuntime) -> Result<(), Fail> {
-    let mut session = Session::new(rt.alloc())?;
+    let mut session = opened(rt.alloc())?;
     let mut out = Vec::new(rt.alloc());
     let mut reader = Broken { left: &SCRIPT[..5] };
     let outcome = run_script(rt.alloc(), &mut reader, &mut out, &mut session);
@@ -68,7 +74,7 @@ fn a_reader_that_fails_runs_nothing(rt: HostRuntime) -> Result<(), Fail> {
 #[test]
 fn a_writer_that_stops_has_a_part(rt: HostRuntime) -> Result<(), Fail> {
     for fails in [false, true] {
-        let mut session = Session::new(rt.alloc())?;
+        let mut session = opened(rt.alloc())?;
         let mut writer = Narrow {
             taken: Vec::new(rt.alloc()),
             room: 10,
@@ -91,7 +97,7 @@ fn a_writer_that_stops_has_a_part(rt: HostRuntime) -> Result<(), Fail> {
 
 #[test]
 fn a_writer_that_takes_two_bytes_a_call_has_all(rt: HostRuntime) -> Result<(), Fail> {
-    let mut session = Session::new(rt.alloc())?;
+    let mut session = opened(rt.alloc())?;
     let mut writer = Narrow {
         taken: Vec::new(rt.alloc()),
         room: 1_000,
@@ -105,7 +111,7 @@ fn a_writer_that_takes_two_bytes_a_call_has_all(rt: HostRuntime) -> Result<(), F
         room: _,
         fails: _,
     } = writer;
-    let trace = b"key a: unbound\nrule a\nkey a: start type\ndone \"hi\" \"\"\nkey b: unbound\n";
+    let trace = b"key a: unbound\nreloaded\nkey a: start type\ndone \"hi\" \"\"\nkey b: unbound\n";
     assert_eq!(rt; taken.as_slice(), trace.as_slice());
     Ok(())
 }

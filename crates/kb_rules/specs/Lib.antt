@@ -1,1 +1,5 @@
-pub mod RuleSet
+pub mod Entry
+pub mod EntryFault
+pub mod Json
+pub mod RuleList
+pub mod Whole

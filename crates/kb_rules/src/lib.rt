@@ -1,8 +1,22 @@
-//! Key rules: which command a press starts.
+//! Key rules: the elements of a rule file that are kept, a warning for each that isn't, and the
+//! list of the rules in force.
+//!
+//! The members of a rule are those of VS Code's documentation of keyboard shortcuts. What it leaves
+//! open is our decision, and is said so where it is made.
 #![tactic(auto)]
 
+mod entry;
+pub mod entry_fault;
+pub mod json;
 pub mod rule;
+pub mod rule_list;
 pub mod rule_set;
+pub mod warning;
+mod whole;
 
+pub use entry_fault::EntryFault;
+pub use json::Json;
 pub use rule::Rule;
+pub use rule_list::{RuleList, read_list};
 pub use rule_set::RuleSet;
+pub use warning::Warning;

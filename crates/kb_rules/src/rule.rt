@@ -1,14 +1,18 @@
 //! One key rule.
+use crate::json::Json;
 use kb_context::Text;
-use kb_keys::Keystroke;
+use kb_keys::Chord;
 
-/// A key, and the command that a press of it starts.
+/// Keystrokes, and the command that they start.
 #[derive(Debug, Drop)]
 pub struct Rule {
-    /// The press that the rule waits for.
-    pub key: Keystroke,
-    /// The identifier of the command, which need not exist.
+    /// The keystrokes, one after another.
+    pub chord: Chord,
+    /// The identifier of the command, which need not exist. The empty one starts nothing: such a
+    /// rule takes its keystrokes from the rules above it (VS Code's documentation).
     pub command: Text,
-    /// The text that the command gets, if the rule gives one.
-    pub argument: Option<Text>,
+    /// The member `args`, if the rule has it: each number in it is whole within i64.
+    pub args: Option<Json>,
+    /// Where the rule stands in its file: the number of elements above it, dropped ones too.
+    pub place: usize,
 }

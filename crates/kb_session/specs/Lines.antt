@@ -1,26 +1,39 @@
 -- The lines of a trace, as bytes.
-use Rattle.std.specs.Prelude.{ℕ, List, ◌++◌, codes, decimal}
+use Rattle.std.specs.Prelude.{ℕ, List, [], ◌∷◌, ◌++◌, codes, decimal}
 use Rattle.serde_json.specs.Data.{string}
 use Rattle.serde_json.specs.Written.{compact_text}
 use Rattle.kb_keys.specs.declared.keystroke.Keystroke.{Keystroke}
-use Rattle.kb_keys.specs.Keystroke.{spelling}
+use Rattle.kb_keys.specs.Chord.{chord_spelling}
 use Rattle.kb_core.specs.declared.buffer.Buffer.{Buffer}
+use Rattle.kb_session.specs.declared.fault.Refusal.{Refusal}
+use Rattle.kb_session.specs.Fault.{refusal_number, refusal_name}
 
--- rule a
-abbrev pub rule_line : Keystroke → List ℕ
-rule_line key = codes "rule " ++ spelling key
+-- key ctrl+k ctrl+c
+abbrev pub key_text : List Keystroke → Keystroke → List ℕ
+key_text pressed key = codes "key " ++ chord_spelling (pressed ++ key ∷ [])
 
--- key a: start type
-abbrev pub start_line : Keystroke → List ℕ → List ℕ
-start_line key command = codes "key " ++ (spelling key ++ (codes ": start " ++ command))
+-- key ctrl+k: start type, from its beginning
+abbrev pub start_line : List ℕ → List ℕ → List ℕ
+start_line text command = text ++ (codes ": start " ++ command)
 
--- key a: unbound
-abbrev pub unbound_line : Keystroke → List ℕ
-unbound_line key = codes "key " ++ (spelling key ++ codes ": unbound")
+-- left ctrl+k
+abbrev pub left_line : List Keystroke → List ℕ
+left_line pressed = codes "left " ++ chord_spelling pressed
+
+abbrev pub reloaded_line : List ℕ
+reloaded_line = codes "reloaded"
+
+-- refused 4 Syntax
+abbrev pub refused_line : Refusal → List ℕ
+refused_line refusal = codes "refused " ++ (decimal (refusal_number refusal) ++ (codes " " ++ refusal_name refusal))
 
 -- not found type
 abbrev pub not_found_line : List ℕ → List ℕ
 not_found_line command = codes "not found " ++ command
+
+-- bad arguments type
+abbrev pub bad_arguments_line : List ℕ → List ℕ
+bad_arguments_line command = codes "bad arguments " ++ command
 
 -- unread line 7
 abbrev pub unread_line : ℕ → List ℕ

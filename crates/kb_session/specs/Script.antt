@@ -1,12 +1,12 @@
--- The events that the bytes of a script hold.
+-- What the bytes of a script tell a session.
 use Rattle.std.specs.Prelude.{ℕ, ◌+◌, ◌-◌, Bool, false, List, [], ◌∷◌, ◌++◌, Option, Some, None, Result, Ok, Err, codes, ◌==◌, nat_lt, length, take, slice_get, if◌then◌else◌, option_to_list}
 use Rattle.std.specs.List.{slice_split, before_first, after_first, position_or_len}
 use Rattle.std.specs.Str.{bytes_eq, is_utf8}
-use Rattle.kb_keys.specs.declared.fault.KeyFault.{KeyFault}
+use Rattle.kb_keys.specs.declared.key_fault.KeyFault.{KeyFault}
 use Rattle.kb_keys.specs.declared.keystroke.Keystroke.{Keystroke}
 use Rattle.kb_keys.specs.Keystroke.{keystroke_of}
-use Rattle.kb_session.specs.declared.event.Event.{Event}
 use Rattle.kb_session.specs.declared.event.Event.TheVariants as event
+use Rattle.kb_session.specs.State.{Told, happens, reload}
 
 abbrev pub is_space : ℕ → Bool
 is_space b = b == 32
@@ -43,55 +43,42 @@ split_word text =
     if nat_lt (position_or_len is_space text) (length text) then Some (before_first is_space text, after_first is_space text) else None
 
 -- key KEY
-abbrev pub pressed_event : Result Keystroke KeyFault → Option Event
-pressed_event (Err fault) = None
-pressed_event (Ok key) = Some (event.Key key)
+abbrev pub pressed_told : Result Keystroke KeyFault → Option Told
+pressed_told (Err fault) = None
+pressed_told (Ok key) = Some (happens (event.Key key))
 
-abbrev pub key_event : List ℕ → Option Event
-key_event key = pressed_event (keystroke_of key)
+abbrev pub key_told : List ℕ → Option Told
+key_told key = pressed_told (keystroke_of key)
 
--- rule KEY COMMAND, or rule KEY COMMAND TEXT; a command is not empty, and the text is all behind the space
-abbrev pub named_event : Keystroke → List ℕ → Option (List ℕ) → Option Event
-named_event key [] argument = None
-named_event key (b ∷ bs) argument = Some (event.Rule key (b ∷ bs) argument)
+-- a line of one word: reload alone is told the empty text
+abbrev pub lone_told : List ℕ → Option Told
+lone_told word = if bytes_eq word (codes "reload") then Some (reload []) else None
 
-abbrev pub command_event : Keystroke → List ℕ → Option (List ℕ × List ℕ) → Option Event
-command_event key text None = named_event key text None
-command_event key text (Some parts) = named_event key parts.0 (Some parts.1)
+-- a line by its first word and what follows the space behind it
+abbrev pub word_told : List ℕ → Option (List ℕ × List ℕ) → Option Told
+word_told text None = lone_told text
+word_told text (Some parts) =
+    if bytes_eq parts.0 (codes "key") then key_told parts.1
+    else (if bytes_eq parts.0 (codes "reload") then Some (reload parts.1) else None)
 
-abbrev pub bound_event : Result Keystroke KeyFault → List ℕ → Option Event
-bound_event (Err fault) text = None
-bound_event (Ok key) text = command_event key text (split_word text)
+-- what a line tells, where it can be read
+abbrev pub said_told : List ℕ → Option Told
+said_told line = if is_utf8 line then word_told line (split_word line) else None
 
-abbrev pub rule_event : Option (List ℕ × List ℕ) → Option Event
-rule_event None = None
-rule_event (Some parts) = bound_event (keystroke_of parts.0) parts.1
+abbrev pub or_unread : ℕ → Option Told → Told
+or_unread number None = happens (event.Unread number)
+or_unread number (Some told) = told
 
--- the event of a line that is cut behind its first word
-abbrev pub word_event : Option (List ℕ × List ℕ) → Option Event
-word_event None = None
-word_event (Some parts) =
-    if bytes_eq parts.0 (codes "key") then key_event parts.1
-    else (if bytes_eq parts.0 (codes "rule") then rule_event (split_word parts.1) else None)
+-- an empty line and one that begins with # tell nothing
+abbrev pub line_told : ℕ → List ℕ → Option Told
+line_told number [] = None
+line_told number (b ∷ bs) = if b == 35 then None else Some (or_unread number (said_told (b ∷ bs)))
 
--- the event that a line says, where it can be read
-abbrev pub said_event : List ℕ → Option Event
-said_event line = if is_utf8 line then word_event (split_word line) else None
+-- what lines tell, of which the first has this number
+abbrev pub told_from : ℕ → List (List ℕ) → List Told
+told_from number [] = []
+told_from number (line ∷ lines) = option_to_list (line_told number line) ++ told_from (number + 1) lines
 
-abbrev pub or_unread : ℕ → Option Event → Event
-or_unread number None = event.Unread number
-or_unread number (Some said) = said
-
--- an empty line and one that begins with # say nothing
-abbrev pub line_event : ℕ → List ℕ → Option Event
-line_event number [] = None
-line_event number (b ∷ bs) = if b == 35 then None else Some (or_unread number (said_event (b ∷ bs)))
-
--- the events of lines, of which the first has this number
-abbrev pub events_from : ℕ → List (List ℕ) → List Event
-events_from number [] = []
-events_from number (line ∷ lines) = option_to_list (line_event number line) ++ events_from (number + 1) lines
-
--- the events of a script
-abbrev pub events_of : List ℕ → List Event
-events_of bytes = events_from 1 (lines_of bytes)
+-- what a script tells
+abbrev pub told_of : List ℕ → List Told
+told_of bytes = told_from 1 (lines_of bytes)

@@ -1,76 +1,137 @@
--- The plain model of a session: what an event does to its state, the lines that it writes, and the run of events.
-use Rattle.std.specs.Prelude.{ℕ, List, [], ◌∷◌, ◌++◌, Option, Some, None, unwrap_or}
+-- The plain model of a session: what it is loaded as, what each thing that it is told does to its state, the lines that are
+-- written, and the run of a list of such things.
+use Rattle.std.specs.Prelude.{ℕ, List, [], ◌∷◌, ◌++◌, Option, Some, None, Result, Ok, Err, codes}
+use Rattle.serde_json.specs.Data.{Data}
 use Rattle.kb_keys.specs.declared.keystroke.Keystroke.{Keystroke}
 use Rattle.kb_rules.specs.declared.rule.Rule.{Rule}
-use Rattle.kb_rules.specs.RuleSet.{found}
+use Rattle.kb_rules.specs.RuleList.{Listed}
+use Rattle.kb_resolve.specs.Pressed as press
+use Rattle.kb_resolve.specs.Pressed.{Step}
+use Rattle.kb_resolve.specs.ChordState.{step, pressed_after}
 use Rattle.kb_core.specs.declared.arg.Arg.{Arg}
-use Rattle.kb_core.specs.declared.arg.Arg.TheVariants.{Text}
 use Rattle.kb_core.specs.declared.native.Native.{Native}
-use Rattle.kb_core.specs.declared.native.Native.TheVariants.{TypeText, DeleteLeft, DeleteRight, CursorLeft, CursorRight, BufferClear, BufferTop, BufferBottom}
 use Rattle.kb_core.specs.declared.run.Core.{Core}
-use Rattle.kb_core.specs.Native.{named}
+use Rattle.kb_core.specs.Native.{named, parameters_of}
+use Rattle.kb_core.specs.Reading.{arguments_for}
 use Rattle.kb_core.specs.Core.{empty_core, core_after}
 use Rattle.kb_session.specs.declared.event.Event.{Event}
 use Rattle.kb_session.specs.declared.event.Event.TheVariants as event
-use Rattle.kb_session.specs.Lines.{rule_line, start_line, unbound_line, not_found_line, unread_line, done_line}
+use Rattle.kb_session.specs.declared.event.Answer.{Answer}
+use Rattle.kb_session.specs.declared.event.Answer.TheVariants.{Did, Refused}
+use Rattle.kb_session.specs.declared.fault.FileFault.{FileFault}
+use Rattle.kb_session.specs.declared.fault.Refusal.TheVariants.{File}
+use Rattle.kb_session.specs.UserFile.{user_rules}
+use Rattle.kb_session.specs.Lines as line
 
 pub record State : Type 0 where
   pub core : Core
-  pub rules : List Rule
+  pub user : Listed
+  pub pressed : List Keystroke
 
--- no text and no rule
-abbrev pub empty_state : State
-empty_state = record { core = empty_core; rules = [] }
+-- what a session is told: an event, or the bytes of the user's rules, to be read anew
+pub data Told : Type 0 where
+  happens : Event → Told
+  reload : List ℕ → Told
 
--- the text of a rule is the argument of type, which gets the empty text where there is none; the other natives take nothing
-abbrev pub arguments_of : Native → Option (List ℕ) → List Arg
-arguments_of TypeText argument = Text (unwrap_or argument []) ∷ []
-arguments_of DeleteLeft argument = []
-arguments_of DeleteRight argument = []
-arguments_of CursorLeft argument = []
-arguments_of CursorRight argument = []
-arguments_of BufferClear argument = []
-arguments_of BufferTop argument = []
-arguments_of BufferBottom argument = []
+-- what the start of a command does, by its identifier and the arguments that its rule gives
+pub data Start : Type 0 where
+  not_found : Start
+  bad_arguments : Start
+  runs : Native → List Arg → Start
 
--- the core after the start of a command, which changes nothing where no native has its identifier
-abbrev pub started : Option Native → Option (List ℕ) → Core → Core
-started None argument core = core
-started (Some native) argument core = core_after native (arguments_of native argument) core
+abbrev pub start_with : Native → Option (List Arg) → Start
+start_with native None = bad_arguments
+start_with native (Some args) = runs native args
 
--- the line that ends the start of a command
-abbrev pub end_line : Option Native → Rule → Core → List ℕ
-end_line None rule core = not_found_line rule.command
-end_line (Some native) rule core = done_line (core_after native (arguments_of native rule.argument) core).buffer
+abbrev pub start_by : Option Native → Option Data → Start
+start_by None given = not_found
+start_by (Some native) given = start_with native (arguments_for (parameters_of native) given)
 
--- the core after a press, for the rule that it starts
-abbrev pub core_after_press : Option Rule → Core → Core
-core_after_press None core = core
-core_after_press (Some rule) core = started (named rule.command) rule.argument core
+abbrev pub start_of : Rule → Start
+start_of rule = start_by (named rule.command) rule.args
 
--- the lines of a press, for the rule that it starts
-abbrev pub press_lines : Keystroke → Option Rule → Core → List (List ℕ)
-press_lines key None core = unbound_line key ∷ []
-press_lines key (Some rule) core = start_line key rule.command ∷ end_line (named rule.command) rule core ∷ []
+abbrev pub core_started : Start → Core → Core
+core_started not_found core = core
+core_started bad_arguments core = core
+core_started (runs native args) core = core_after native args core
 
--- the state after an event
-abbrev pub state_after : Event → State → State
-state_after (event.Key key) s = record { core = core_after_press (found key s.rules) s.core; rules = s.rules }
-state_after (event.Unread number) s = s
-state_after (event.Rule key command argument) s =
-    record { core = s.core; rules = s.rules ++ record { key = key; command = command; argument = argument } ∷ [] }
+-- the line that ends a start
+abbrev pub end_line : List ℕ → Start → Core → List ℕ
+end_line command not_found core = line.not_found_line command
+end_line command bad_arguments core = line.bad_arguments_line command
+end_line command (runs native args) core = line.done_line (core_after native args core).buffer
 
--- the lines of an event
-abbrev pub lines_of : Event → State → List (List ℕ)
-lines_of (event.Key key) s = press_lines key (found key s.rules) s.core
-lines_of (event.Unread number) s = unread_line number ∷ []
-lines_of (event.Rule key command argument) s = rule_line key ∷ []
+-- a rule with the empty command starts nothing
+abbrev pub core_after_rule : List ℕ → Rule → Core → Core
+core_after_rule [] rule core = core
+core_after_rule (b ∷ bs) rule core = core_started (start_of rule) core
 
--- the state after a run of events, and the lines of the run
-abbrev pub state_after_all : List Event → State → State
+abbrev pub rule_lines : List ℕ → List ℕ → Rule → Core → List (List ℕ)
+rule_lines text [] rule core = (text ++ codes ": no action") ∷ []
+rule_lines text (b ∷ bs) rule core = line.start_line text rule.command ∷ end_line rule.command (start_of rule) core ∷ []
+
+-- the core after a press, and its lines, which begin with a text
+abbrev pub core_after_step : Step → Core → Core
+core_after_step (press.start rule) core = core_after_rule rule.command rule core
+core_after_step press.more core = core
+core_after_step press.left core = core
+core_after_step press.unbound core = core
+
+abbrev pub step_lines : List ℕ → Step → Core → List (List ℕ)
+step_lines text (press.start rule) core = rule_lines text rule.command rule core
+step_lines text press.more core = (text ++ codes ": chord") ∷ []
+step_lines text press.left core = (text ++ codes ": left") ∷ []
+step_lines text press.unbound core = (text ++ codes ": unbound") ∷ []
+
+abbrev pub pressed_key : Keystroke → State → State
+pressed_key key s = record {
+  core = core_after_step (step s.pressed key s.user.rules) s.core;
+  user = s.user;
+  pressed = pressed_after s.pressed key s.user.rules;
+}
+
+-- the line of a chord that is left, where one is open
+abbrev pub left_lines : List Keystroke → List (List ℕ)
+left_lines [] = []
+left_lines (key ∷ keys) = line.left_line (key ∷ keys) ∷ []
+
+-- rules that are read anew leave the chord; a file that is refused changes nothing
+abbrev pub state_reloaded : Result Listed FileFault → State → State
+state_reloaded (Ok user) s = record { core = s.core; user = user; pressed = [] }
+state_reloaded (Err fault) s = s
+
+abbrev pub reload_lines : Result Listed FileFault → State → List (List ℕ)
+reload_lines (Ok user) s = left_lines s.pressed ++ line.reloaded_line ∷ []
+reload_lines (Err fault) s = line.refused_line (File fault) ∷ []
+
+abbrev pub reload_answer : Result Listed FileFault → Answer
+reload_answer (Ok user) = Did
+reload_answer (Err fault) = Refused (File fault)
+
+-- the state after what a session is told, the lines, and the answer
+abbrev pub state_after : Told → State → State
+state_after (happens (event.Key key)) s = pressed_key key s
+state_after (happens (event.Unread number)) s = s
+state_after (reload bytes) s = state_reloaded (user_rules bytes) s
+
+abbrev pub lines_of : Told → State → List (List ℕ)
+lines_of (happens (event.Key key)) s = step_lines (line.key_text s.pressed key) (step s.pressed key s.user.rules) s.core
+lines_of (happens (event.Unread number)) s = line.unread_line number ∷ []
+lines_of (reload bytes) s = reload_lines (user_rules bytes) s
+
+abbrev pub answer_to : Told → Answer
+answer_to (happens event) = Did
+answer_to (reload bytes) = reload_answer (user_rules bytes)
+
+-- the state after a run of things that are told, and the lines of the run
+abbrev pub state_after_all : List Told → State → State
 state_after_all [] s = s
-state_after_all (e ∷ events) s = state_after_all events (state_after e s)
+state_after_all (t ∷ told) s = state_after_all told (state_after t s)
 
-abbrev pub lines_of_all : List Event → State → List (List ℕ)
+abbrev pub lines_of_all : List Told → State → List (List ℕ)
 lines_of_all [] s = []
-lines_of_all (e ∷ events) s = lines_of e s ++ lines_of_all events (state_after e s)
+lines_of_all (t ∷ told) s = lines_of t s ++ lines_of_all told (state_after t s)
+
+-- what a session is loaded as
+abbrev pub loaded_state : Listed → State
+loaded_state user = record { core = empty_core; user = user; pressed = [] }

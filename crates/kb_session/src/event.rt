@@ -1,21 +1,21 @@
 //! What a session is told, and what it answers.
-use kb_context::Text;
+use crate::fault::Refusal;
 use kb_keys::Keystroke;
 
 /// What a session is told.
 #[derive(Debug, Drop)]
 pub enum Event {
-    /// A press of a key.
+    /// A press of a key, with the modifiers that are held.
     Key(Keystroke),
     /// A line of a script that can't be read, by its number, counted from 1.
     Unread(u64),
-    /// A rule to add at the bottom: its key, its command, and the text that the command gets.
-    Rule(Keystroke, Text, Option<Text>),
 }
 
-/// What a session answers to an event.
+/// What a session answers.
 #[derive(Clone, Copy, Debug, PartialEq, Eq)]
 pub enum Answer {
-    /// The event was handled, and the trace has its lines.
+    /// What was asked is done, and the trace has its lines.
     Did,
+    /// It is refused: nothing changed but the trace, which has the line of the refusal.
+    Refused(Refusal),
 }

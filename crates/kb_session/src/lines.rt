@@ -1,32 +1,73 @@
 //! The lines of a trace.
-ghost use Rattle.std.specs.Prelude.{◌≡◌, IfOk, string_bytes};
+ghost use Rattle.std.specs.Prelude.{◌≡◌, ◌++◌, IfOk, string_bytes};
 ghost use Rattle.kb_session.specs.Lines as line;
 
+use crate::fault::Refusal;
 use kb_context::{NoMemory, Text};
 use kb_core::Buffer;
-use kb_keys::Keystroke;
+use kb_keys::{Keystroke, write_strokes};
 use serde_json::Value;
 use std::alloc::Global;
 
-/// `rule KEY`, for a rule that was added.
-pub fn rule_line(alloc: Global, key: Keystroke) -> Result<Text, NoMemory>
-    ensures { IfOk result (λ made. made ≡ line.rule_line key) }
+/// `key PRESSED`, the beginning of the line of a press: the keystrokes that were pressed before,
+/// and the one that is pressed.
+#[tactic(auto, using(crate::proofs::LineTexts::key_text_first, crate::proofs::LineTexts::key_text_more))]
+pub fn key_text(alloc: Global, pressed: &[Keystroke], key: Keystroke) -> Result<String, NoMemory>
+    ensures { IfOk result (λ made. string_bytes made ≡ line.key_text pressed.now key) }
 {
-    Ok(Text::from_string(format!(in alloc; "rule {key}")?))
+    let mut text = String::from_str(alloc, "key ")?;
+    if pressed.is_empty() {
+        key.write_to(&mut text)?;
+        return Ok(text);
+    }
+    write_strokes(pressed, &mut text)?;
+    text.push(' ')?;
+    key.write_to(&mut text)?;
+    Ok(text)
 }
 
-/// `key KEY: start COMMAND`, for a press that starts a command.
-pub fn start_line(alloc: Global, key: Keystroke, command: &str) -> Result<Text, NoMemory>
-    ensures { IfOk result (λ made. made ≡ line.start_line key command.now) }
+/// The line that a text begins and another one ends.
+pub fn ended(text: String, end: &str) -> Result<Text, NoMemory>
+    ensures { IfOk result (λ made. made ≡ string_bytes text ++ end.now) }
 {
-    Ok(Text::from_string(format!(in alloc; "key {key}: start {command}")?))
+    let mut text = text;
+    text.push_str(end)?;
+    Ok(Text::from_string(text))
 }
 
-/// `key KEY: unbound`, for a press that has no rule.
-pub fn unbound_line(alloc: Global, key: Keystroke) -> Result<Text, NoMemory>
-    ensures { IfOk result (λ made. made ≡ line.unbound_line key) }
+/// `key PRESSED: start COMMAND`, from its beginning.
+pub fn start_line(text: String, command: &str) -> Result<Text, NoMemory>
+    ensures { IfOk result (λ made. made ≡ line.start_line (string_bytes text) command.now) }
 {
-    Ok(Text::from_string(format!(in alloc; "key {key}: unbound")?))
+    let mut text = text;
+    text.push_str(": start ")?;
+    text.push_str(command)?;
+    Ok(Text::from_string(text))
+}
+
+/// `left PRESSED`, for an event that leaves a chord.
+pub fn left_line(alloc: Global, pressed: &[Keystroke]) -> Result<Text, NoMemory>
+    ensures { IfOk result (λ made. made ≡ line.left_line pressed.now) }
+{
+    let mut text = String::from_str(alloc, "left ")?;
+    write_strokes(pressed, &mut text)?;
+    Ok(Text::from_string(text))
+}
+
+/// `reloaded`, for rules of the user that were read anew.
+pub fn reloaded_line(alloc: Global) -> Result<Text, NoMemory>
+    ensures { IfOk result (λ made. made ≡ line.reloaded_line) }
+{
+    Text::from_str(alloc, "reloaded")
+}
+
+/// `refused NUMBER NAME`, for what is refused.
+pub fn refused_line(alloc: Global, refusal: Refusal) -> Result<Text, NoMemory>
+    ensures { IfOk result (λ made. made ≡ line.refused_line refusal) }
+{
+    let number = refusal.number();
+    let name = refusal.name();
+    Ok(Text::from_string(format!(in alloc; "refused {number} {name}")?))
 }
 
 /// `not found COMMAND`, for a command that doesn't exist.
@@ -34,6 +75,13 @@ pub fn not_found_line(alloc: Global, command: &str) -> Result<Text, NoMemory>
     ensures { IfOk result (λ made. made ≡ line.not_found_line command.now) }
 {
     Ok(Text::from_string(format!(in alloc; "not found {command}")?))
+}
+
+/// `bad arguments COMMAND`, for arguments that don't fit the command.
+pub fn bad_arguments_line(alloc: Global, command: &str) -> Result<Text, NoMemory>
+    ensures { IfOk result (λ made. made ≡ line.bad_arguments_line command.now) }
+{
+    Ok(Text::from_string(format!(in alloc; "bad arguments {command}")?))
 }
 
 /// `unread line NUMBER`, for a line of a script that can't be read.

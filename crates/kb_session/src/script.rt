@@ -1,24 +1,32 @@
-//! The lines of a script, and the event that each one says.
-ghost use Rattle.std.specs.Prelude.{◌≡◌, ◌<◌, ◌∷◌, false, true, IfOk, IfSome, MatchOption, option_map, position, length};
+//! The lines of a script, and what each one tells a session.
+ghost use Rattle.std.specs.Prelude.{◌≡◌, ◌<◌, ◌∷◌, false, true, IfSome, MatchOption, option_map, position, length};
 ghost use Rattle.std.specs.Str.{is_utf8};
 ghost use Rattle.kb_session.specs.Script as script;
+ghost use Rattle.kb_session.specs.ScriptLine.{told_by};
 
 use crate::event::Event;
-use kb_context::{NoMemory, Text};
 use kb_keys::Keystroke;
-use std::alloc::Global;
 use std::str;
 
-/// The event that a line says, if it says one: an empty line and one that begins with `#` say
-/// nothing, and one that can't be read is `Unread` with its number.
-pub fn line_event(alloc: Global, number: u64, line: &[u8]) -> Result<Option<Event>, NoMemory>
-    ensures { IfOk result (λ event. event ≡ script.line_event number line.now) }
+/// What a line of a script tells a session.
+#[derive(Drop)]
+pub enum ScriptLine<'a> {
+    /// An event.
+    Event(Event),
+    /// The bytes of the user's rules, to be read anew.
+    Reload(&'a str),
+}
+
+/// What a line tells, if it tells something: an empty line and one that begins with `#` tell
+/// nothing, and one that can't be read is the event `Unread` with its number. It takes no memory.
+pub fn read_line(number: u64, line: &[u8]) -> Option<ScriptLine<'_>>
+    ensures { option_map told_by result ≡ script.line_told number line.now }
 {
     match line {
-        [] | [b'#', ..] => Ok(None),
-        _ => match said_event(alloc, line)? {
-            Some(event) => Ok(Some(event)),
-            None => Ok(Some(Event::Unread(number))),
+        [] | [b'#', ..] => None,
+        _ => match read_said(line) {
+            Some(said) => Some(said),
+            None => Some(ScriptLine::Event(Event::Unread(number))),
         },
     }
 }
@@ -51,12 +59,12 @@ fn without_return(line: &[u8]) -> &[u8]
     }
 }
 
-fn said_event(alloc: Global, line: &[u8]) -> Result<Option<Event>, NoMemory>
-    ensures { IfOk result (λ event. event ≡ script.said_event line.now) }
+fn read_said(line: &[u8]) -> Option<ScriptLine<'_>>
+    ensures { option_map told_by result ≡ script.said_told line.now }
 {
     match text_of(line) {
-        Some(text) => word_event(alloc, text),
-        None => Ok(None),
+        Some(text) => read_words(text),
+        None => None,
     }
 }
 
@@ -71,17 +79,17 @@ fn text_of(line: &[u8]) -> Option<&str>
     }
 }
 
-/// The event of a line by its first word.
-fn word_event(alloc: Global, text: &str) -> Result<Option<Event>, NoMemory>
-    ensures { IfOk result (λ event. event ≡ script.word_event (script.split_word text.now)) }
+/// What a line tells by its first word.
+fn read_words(text: &str) -> Option<ScriptLine<'_>>
+    ensures { option_map told_by result ≡ script.word_told text.now (script.split_word text.now) }
 {
     let Some((word, rest)) = split_word(text) else {
-        return Ok(None);
+        return read_lone(text);
     };
     match word {
-        "key" => Ok(key_event(rest)),
-        "rule" => rule_event(alloc, rest),
-        _ => Ok(None),
+        "key" => read_key(rest),
+        "reload" => Some(ScriptLine::Reload(rest)),
+        _ => None,
     }
 }
 
@@ -92,53 +100,20 @@ fn split_word(text: &str) -> Option<(&str, &str)>
     text.split_once(' ')
 }
 
-fn key_event(key: &str) -> Option<Event>
-    ensures { result ≡ script.key_event key.now }
+fn read_lone(word: &str) -> Option<ScriptLine<'_>>
+    ensures { option_map told_by result ≡ script.lone_told word.now }
+{
+    match word {
+        "reload" => Some(ScriptLine::Reload("")),
+        _ => None,
+    }
+}
+
+fn read_key(key: &str) -> Option<ScriptLine<'_>>
+    ensures { option_map told_by result ≡ script.key_told key.now }
 {
     match Keystroke::parse(key) {
-        Ok(key) => Some(Event::Key(key)),
+        Ok(key) => Some(ScriptLine::Event(Event::Key(key))),
         Err(_) => None,
-    }
-}
-
-fn rule_event(alloc: Global, text: &str) -> Result<Option<Event>, NoMemory>
-    ensures { IfOk result (λ event. event ≡ script.rule_event (script.split_word text.now)) }
-{
-    let Some((key, rest)) = split_word(text) else {
-        return Ok(None);
-    };
-    match Keystroke::parse(key) {
-        Ok(key) => command_event(alloc, key, rest),
-        Err(_) => Ok(None),
-    }
-}
-
-fn command_event(alloc: Global, key: Keystroke, text: &str) -> Result<Option<Event>, NoMemory>
-    ensures { IfOk result (λ event. event ≡ script.command_event key text.now (script.split_word text.now)) }
-{
-    match split_word(text) {
-        Some((command, argument)) => named_event(alloc, key, command, Some(argument)),
-        None => named_event(alloc, key, text, None),
-    }
-}
-
-fn named_event(
-    alloc: Global,
-    key: Keystroke,
-    command: &str,
-    argument: Option<&str>,
-) -> Result<Option<Event>, NoMemory>
-    ensures { IfOk result (λ event. event ≡ script.named_event key command.now (option_map (λ text. text.now) argument.entry)) }
-{
-    if command.is_empty() {
-        return Ok(None);
-    }
-    let command = Text::from_str(alloc, command)?;
-    match argument {
-        Some(argument) => {
-            let argument = Text::from_str(alloc, argument)?;
-            Ok(Some(Event::Rule(key, command, Some(argument))))
-        }
-        None => Ok(Some(Event::Rule(key, command, None))),
     }
 }

@@ -1,13 +1,16 @@
 //! Runs the script that a reader gives, and writes its lines of the trace to a writer.
-ghost use Rattle.std.specs.Prelude.{◌≡◌, ◌^◌, ◌<◌, ◌+◌, ◌∷◌, [], false, OnOk, IfErr, option_to_list, length};
+ghost use Rattle.std.specs.Prelude.{◌≡◌, ◌^◌, ◌<◌, ◌≤◌, ◌+◌, ◌∷◌, [], false, OnOk, IfErr, option_to_list, length, drop};
+ghost use Rattle.std.specs.Io.KnownBytes.{Appends};
 ghost use Rattle.kb_session.specs.Reading.{ConsumesAtMost};
 ghost use Rattle.kb_session.specs.Script as script;
+ghost use Rattle.kb_session.specs.State.{happens, reload};
+ghost use Rattle.kb_session.specs.Writing.{AppendsPart, text_of_lines};
 ghost use Rattle.kb_session.specs.ScriptRun.{Ran, Fails, RunsAndWrites, FailsAmong};
 
 use crate::event::Event;
 use crate::fault::ScriptFault;
 use crate::reading::{ReadFault, read_within};
-use crate::script::{line_event, split_line};
+use crate::script::{ScriptLine, read_line, split_line};
 use crate::session::Session;
 use crate::writing::write_lines;
 use std::alloc::Global;
@@ -47,7 +50,7 @@ pub fn run_script<R: Read, W: Write>(
     if session.is_stopped() {
         return Err(ScriptFault::Stopped);
     }
-    match run_lines(alloc, script.as_slice(), writer, session) {
+    match run_lines(script.as_slice(), writer, session) {
         Ok(()) => Ok(()),
         Err(RunFault::NoMemory) => Err(ScriptFault::NoMemory),
         Err(RunFault::Write) => Err(ScriptFault::WriteFailed),
@@ -63,22 +66,17 @@ pub enum RunFault {
 
 /// Runs the lines of a script, the first of which has the number 1.
 #[tactic(auto, using(crate::proofs::ScriptRuns::progress))]
-fn run_lines<W: Write>(
-    alloc: Global,
-    bytes: &[u8],
-    writer: &mut W,
-    session: &mut Session,
-) -> Result<(), RunFault>
+fn run_lines<W: Write>(bytes: &[u8], writer: &mut W, session: &mut Session) -> Result<(), RunFault>
     requires running { session.old.stopped ≡ false }
     requires short { length bytes.now < 2 ^ 32 }
-    ensures ok { OnOk result (RunsAndWrites (script.events_of bytes.now) session.old session.new (W.contents writer.old) (W.contents writer.new)) }
-    ensures err { IfErr result (λ fault. FailsAmong fault (script.events_of bytes.now) session.old session.new (W.contents writer.old) (W.contents writer.new)) }
+    ensures ok { OnOk result (RunsAndWrites (script.told_of bytes.now) session.old session.new (W.contents writer.old) (W.contents writer.new)) }
+    ensures err { IfErr result (λ fault. FailsAmong fault (script.told_of bytes.now) session.old session.new (W.contents writer.old) (W.contents writer.new)) }
 {
     let mut rest = bytes;
     let mut number = 1u64;
     loop {
         let (line, after) = split_line(rest);
-        run_line(alloc, number, line, writer, session)?;
+        run_line(number, line, writer, session)?;
         match after {
             Some(after) => rest = after,
             None => return Ok(()),
@@ -88,41 +86,60 @@ fn run_lines<W: Write>(
 }
 
 /// Runs one line of a script.
-#[tactic(auto, using(crate::proofs::ScriptRuns::no_run, crate::proofs::ScriptRuns::stop_now))]
+#[tactic(auto, using(crate::proofs::ScriptRuns::no_run))]
 fn run_line<W: Write>(
-    alloc: Global,
     number: u64,
     line: &[u8],
     writer: &mut W,
     session: &mut Session,
 ) -> Result<(), RunFault>
     requires { session.old.stopped ≡ false }
-    ensures ok { OnOk result (RunsAndWrites (option_to_list (script.line_event number line.now)) session.old session.new (W.contents writer.old) (W.contents writer.new)) }
-    ensures err { IfErr result (λ fault. FailsAmong fault (option_to_list (script.line_event number line.now)) session.old session.new (W.contents writer.old) (W.contents writer.new)) }
+    ensures ok { OnOk result (RunsAndWrites (option_to_list (script.line_told number line.now)) session.old session.new (W.contents writer.old) (W.contents writer.new)) }
+    ensures err { IfErr result (λ fault. FailsAmong fault (option_to_list (script.line_told number line.now)) session.old session.new (W.contents writer.old) (W.contents writer.new)) }
 {
-    match line_event(alloc, number, line) {
-        Ok(Some(event)) => run_event(event, writer, session),
-        Ok(None) => Ok(()),
-        Err(_) => {
-            session.stop();
-            Err(RunFault::NoMemory)
-        }
+    match read_line(number, line) {
+        Some(ScriptLine::Event(event)) => run_event(event, writer, session),
+        Some(ScriptLine::Reload(text)) => run_reload(text, writer, session),
+        None => Ok(()),
     }
 }
 
-/// Handles an event, and writes the lines that it adds to the trace.
-#[tactic(auto, using(crate::proofs::ScriptRuns::one_event))]
+/// Has the session handle an event, and writes the lines that this adds to the trace.
+#[tactic(auto, using(crate::proofs::ScriptRuns::one_told))]
 fn run_event<W: Write>(event: Event, writer: &mut W, session: &mut Session) -> Result<(), RunFault>
     requires { session.old.stopped ≡ false }
-    ensures ok { OnOk result (RunsAndWrites (event ∷ []) session.old session.new (W.contents writer.old) (W.contents writer.new)) }
-    ensures err { IfErr result (λ fault. FailsAmong fault (event ∷ []) session.old session.new (W.contents writer.old) (W.contents writer.new)) }
+    ensures ok { OnOk result (RunsAndWrites (happens event ∷ []) session.old session.new (W.contents writer.old) (W.contents writer.new)) }
+    ensures err { IfErr result (λ fault. FailsAmong fault (happens event ∷ []) session.old session.new (W.contents writer.old) (W.contents writer.new)) }
 {
     let before = session.trace().len();
     match session.handle(event) {
-        Ok(_) => match write_lines(writer, &session.trace()[before..]) {
-            Ok(()) => Ok(()),
-            Err(_) => Err(RunFault::Write),
-        },
+        Ok(_) => write_from(before, writer, session),
         Err(_) => Err(RunFault::NoMemory),
+    }
+}
+
+/// Has the session read the user's rules anew, and writes the lines that this adds to the trace.
+#[tactic(auto, using(crate::proofs::ScriptRuns::one_told))]
+fn run_reload<W: Write>(text: &str, writer: &mut W, session: &mut Session) -> Result<(), RunFault>
+    requires { session.old.stopped ≡ false }
+    ensures ok { OnOk result (RunsAndWrites (reload text.now ∷ []) session.old session.new (W.contents writer.old) (W.contents writer.new)) }
+    ensures err { IfErr result (λ fault. FailsAmong fault (reload text.now ∷ []) session.old session.new (W.contents writer.old) (W.contents writer.new)) }
+{
+    let before = session.trace().len();
+    match session.reload_user(text.as_bytes()) {
+        Ok(_) => write_from(before, writer, session),
+        Err(_) => Err(RunFault::NoMemory),
+    }
+}
+
+/// Writes the lines of the trace from a place on.
+fn write_from<W: Write>(from: usize, writer: &mut W, session: &Session) -> Result<(), RunFault>
+    requires { from ≤ length session.now.trace }
+    ensures ok { OnOk result (Appends (W.contents writer.old) (W.contents writer.new) (text_of_lines (drop from session.now.trace))) }
+    ensures err { IfErr result (λ fault. (fault ≡ RunFault.Write) × AppendsPart (W.contents writer.old) (W.contents writer.new) (text_of_lines (drop from session.now.trace))) }
+{
+    match write_lines(writer, &session.trace()[from..]) {
+        Ok(()) => Ok(()),
+        Err(_) => Err(RunFault::Write),
     }
 }

@@ -1,64 +1,97 @@
-//! A session: its state, what events do to it, and the trace of them.
-ghost use Rattle.std.specs.Prelude.{◌≡◌, false, [], ◌∷◌, ◌++◌, OnOk, OnErr, IfOk, IfErr, IsTrue, Some, option_map};
-ghost use Rattle.kb_core.specs.Core.{core_after};
-ghost use Rattle.kb_core.specs.Native.{parameters_of, named};
-ghost use Rattle.kb_core.specs.Signature.{fits};
+//! A session: its state, what it is told and does, and the trace of that.
+ghost use Rattle.std.specs.Prelude.{◌≡◌, false, [], ◌∷◌, ◌++◌, OnOk, OnErr, IfOk, IfErr, map, Ok, string_bytes};
+ghost use Rattle.kb_session.specs.Lines as line;
 ghost use Rattle.kb_session.specs.State as model;
-ghost use Rattle.kb_session.specs.Session.{new_session, after_event, after_events, Stops, FailsAt, FailsAmong};
+ghost use Rattle.kb_session.specs.State.{happens, reload};
+ghost use Rattle.kb_session.specs.Session.{loaded, FailsToLoad, after_told, after_all, Stops, FailsAt, FailsAmong};
 
 use crate::event::{Answer, Event};
-use crate::fault::SessionFault;
+use crate::fault::{LoadFault, LoadFile, Refusal, SessionFault};
+use crate::inputs::Inputs;
 use crate::lines;
-use kb_context::{NoMemory, Seq, Text};
-use kb_core::{Arg, Args, Core, Native, plain};
+use crate::start::start_command;
+use crate::user_file::read_user_rules;
+use kb_context::{NoMemory, ReadError, Seq, Text};
+use kb_core::Core;
 use kb_keys::Keystroke;
-use kb_rules::{Rule, RuleSet};
-use std::alloc::Global;
+use kb_resolve::{ChordState, Pressed, Resolver};
+use kb_rules::{Rule, RuleList, RuleSet, Warning};
+use std::alloc::{AllocError, Global};
 use std::collections::VecDeque;
 use std::marker::Model;
-use std::mem;
 
-/// A session of the engine. Contracts see its state (the core and the rules), its trace, and
-/// whether it is stopped. Once memory was refused it is stopped for good: each later call answers
-/// `Stopped`, and `trace` gives the lines up to the event that was refused memory.
+/// A session of the engine. Contracts see its state (the core, the user's rules and the keystrokes
+/// of the chord that is open), its trace, and whether it is stopped. Once memory was refused it is
+/// stopped for good: each later call answers `Stopped`, and `trace` gives the lines up to the one
+/// call that was refused memory.
 #[derive(Drop)]
 pub struct Session {
     core: Core,
-    rules: RuleSet,
+    user: RuleList,
+    resolver: Resolver,
+    chord: ChordState,
     trace: Seq<Text>,
     stopped: bool,
     alloc: Global,
 }
 
 impl Model for Session {
+    ghost use Rattle.std.specs.Prelude.{◌≡◌};
+    ghost use Rattle.std.specs.Coded.{codes};
+    ghost use Rattle.kb_rules.specs.contracts.rule.Rule as rule;
+    ghost use Rattle.kb_rules.specs.contracts.warning.Warning as warning;
     ghost use Rattle.kb_session.specs.Session.{Seen};
 
     ghost Value = { Seen };
 
-    ghost view = { λ s. record { state = record { core = s.core; rules = s.rules }; trace = s.trace; stopped = s.stopped } };
+    ghost coded = { Prim.hlevel (codes, rule.the_row.coded, warning.the_row.coded) };
+
+    ghost view = { λ s. record { state = record { core = s.core; user = s.user; pressed = s.chord }; trace = s.trace; stopped = s.stopped } };
+
+    // The search is among the user's rules.
+    ghost invariant = { λ s. s.resolver ≡ s.user.rules };
 }
 
 impl Session {
-    /// A session without text, rules and trace.
+    /// A session of these files, without text and trace.
     ///
-    /// Errors: `NoMemory`, which stands for what later sessions take memory for; this one takes none.
-    pub fn new(alloc: Global) -> Result<Session, NoMemory>
-        ensures { IfOk result (λ session. session ≡ new_session) }
+    /// Errors: `Refused` with the first file that has a fault, and its first fault; `NoMemory`.
+    pub fn load(alloc: Global, inputs: Inputs<'_>) -> Result<Session, LoadFault>
+        ensures ok { IfOk result (λ session. loaded inputs.entry.user.now ≡ Ok session) }
+        ensures err { IfErr result (λ fault. FailsToLoad fault (loaded inputs.entry.user.now)) }
     {
+        let user = match read_user_rules(alloc, inputs.user) {
+            Ok(user) => user,
+            Err(ReadError::NoMemory) => return Err(LoadFault::NoMemory),
+            Err(ReadError::Fault(fault)) => {
+                return Err(LoadFault::Refused(LoadFile::User, fault));
+            }
+        };
+        let resolver = resolver_of(alloc, &user)?;
         Ok(Session {
             core: Core::new(alloc),
-            rules: RuleSet::new(alloc),
+            user,
+            resolver,
+            chord: ChordState::new(alloc),
             trace: Seq::new(alloc),
             stopped: false,
             alloc,
         })
     }
 
-    /// All lines that the session has written, the first first.
+    /// All lines that the session has written, the first first. It takes no memory.
     pub fn trace(&self) -> &[Text]
         ensures { result.now ≡ self.now.trace }
     {
         self.trace.as_slice()
+    }
+
+    /// What was dropped of the user's rules as they stand, in the order of the file. It takes no
+    /// memory.
+    pub fn warnings(&self) -> &[Warning]
+        ensures { result.now ≡ self.now.state.user.warnings }
+    {
+        self.user.warnings()
     }
 
     /// Handles one event.
@@ -66,7 +99,7 @@ impl Session {
     /// Errors: `Stopped` where the session was stopped before; `NoMemory` where memory was
     /// refused: the trace is as before the event, and the session is stopped.
     pub fn handle(&mut self, event: Event) -> Result<Answer, SessionFault>
-        ensures ok { OnOk result ((self.old.stopped ≡ false) × (self.new ≡ after_event event self.old)) }
+        ensures ok { IfOk result (λ answer. (self.old.stopped ≡ false) × (answer ≡ model.answer_to (happens event)) × (self.new ≡ after_told (happens event) self.old)) }
         ensures err { IfErr result (λ fault. FailsAt fault self.old self.new) }
     {
         if self.stopped {
@@ -75,14 +108,29 @@ impl Session {
         let done = match event {
             Event::Key(key) => self.press(key),
             Event::Unread(number) => self.note_unread(number),
-            Event::Rule(key, command, argument) => self.add_rule(Rule {
-                key,
-                command,
-                argument,
-            }),
         };
         match done {
             Ok(()) => Ok(Answer::Did),
+            Err(_) => {
+                self.stop();
+                Err(SessionFault::NoMemory)
+            }
+        }
+    }
+
+    /// Reads the user's rules anew, from the bytes of their file. Rules that are taken leave a chord
+    /// that is open (our decision). A file that is refused changes nothing but the trace.
+    ///
+    /// Errors: as `handle`.
+    pub fn reload_user(&mut self, bytes: &[u8]) -> Result<Answer, SessionFault>
+        ensures ok { IfOk result (λ answer. (self.old.stopped ≡ false) × (answer ≡ model.answer_to (reload bytes.now)) × (self.new ≡ after_told (reload bytes.now) self.old)) }
+        ensures err { IfErr result (λ fault. FailsAt fault self.old self.new) }
+    {
+        if self.stopped {
+            return Err(SessionFault::Stopped);
+        }
+        match self.reload(bytes) {
+            Ok(answer) => Ok(answer),
             Err(_) => {
                 self.stop();
                 Err(SessionFault::NoMemory)
@@ -96,8 +144,8 @@ impl Session {
     /// in an event: no later one is handled, and the session is stopped.
     #[tactic(auto, using(crate::proofs::Runs::progress))]
     pub fn run(&mut self, events: Vec<Event>) -> Result<(), SessionFault>
-        ensures ok { OnOk result ((self.old.stopped ≡ false) × (self.new ≡ after_events events.items self.old)) }
-        ensures err { IfErr result (λ fault. FailsAmong fault events.items self.old self.new) }
+        ensures ok { OnOk result ((self.old.stopped ≡ false) × (self.new ≡ after_all (map happens events.items) self.old)) }
+        ensures err { IfErr result (λ fault. FailsAmong fault (map happens events.items) self.old self.new) }
     {
         if self.stopped {
             return Err(SessionFault::Stopped);
@@ -124,75 +172,100 @@ impl Session {
     }
 
     fn press(&mut self, key: Keystroke) -> Result<(), NoMemory>
-        ensures ok { OnOk result (self.new ≡ after_event (Event.Key key) self.old) }
+        ensures ok { OnOk result (self.new ≡ after_told (happens (Event.Key key)) self.old) }
         ensures err { OnErr result (self.new.trace ≡ self.old.trace) }
     {
-        let Some(rule) = self.rules.find(key) else {
-            return self.trace.push(lines::unbound_line(self.alloc, key)?);
-        };
-        let start = lines::start_line(self.alloc, key, rule.command.as_str())?;
-        let end = start_command(self.alloc, rule, &mut self.core)?;
-        self.trace.push_two(start, end)
+        let key = &key;
+        let text = lines::key_text(self.alloc, self.chord.pressed(), *key)?;
+        match self.chord.press(*key, &self.resolver)? {
+            Pressed::Start(rule) => start_rule(
+                self.alloc,
+                text,
+                &rule,
+                &mut self.core,
+                &mut self.trace,
+            ),
+            Pressed::More => self.trace.push(lines::ended(text, ": chord")?),
+            Pressed::Left => self.trace.push(lines::ended(text, ": left")?),
+            Pressed::Unbound => self.trace.push(lines::ended(text, ": unbound")?),
+        }
     }
 
     fn note_unread(&mut self, number: u64) -> Result<(), NoMemory>
-        ensures ok { OnOk result (self.new ≡ after_event (Event.Unread number) self.old) }
+        ensures ok { OnOk result (self.new ≡ after_told (happens (Event.Unread number)) self.old) }
         ensures err { OnErr result (self.new.trace ≡ self.old.trace) }
     {
         self.trace.push(lines::unread_line(self.alloc, number)?)
     }
 
-    fn add_rule(&mut self, rule: Rule) -> Result<(), NoMemory>
-        ensures ok { OnOk result (self.new ≡ after_event (Event.Rule rule.key rule.command rule.argument) self.old) }
+    fn reload(&mut self, bytes: &[u8]) -> Result<Answer, NoMemory>
+        ensures ok { IfOk result (λ answer. (answer ≡ model.answer_to (reload bytes.now)) × (self.new ≡ after_told (reload bytes.now) self.old)) }
         ensures err { OnErr result (self.new.trace ≡ self.old.trace) }
     {
-        let line = lines::rule_line(self.alloc, rule.key)?;
-        self.rules.push(rule)?;
-        self.trace.push(line)
+        match read_user_rules(self.alloc, bytes) {
+            Ok(user) => {
+                self.take_rules(user)?;
+                Ok(Answer::Did)
+            }
+            Err(ReadError::Fault(fault)) => {
+                let refusal = Refusal::File(fault);
+                self.trace.push(lines::refused_line(self.alloc, refusal)?)?;
+                Ok(Answer::Refused(refusal))
+            }
+            Err(ReadError::NoMemory) => Err(AllocError),
+        }
+    }
+
+    /// Takes rules of the user in the place of those that it has.
+    fn take_rules(&mut self, user: RuleList) -> Result<(), NoMemory>
+        ensures ok { OnOk result (self.new ≡ record self.old { state = model.state_reloaded (Ok user) self.old.state; trace = self.old.trace ++ model.reload_lines (Ok user) self.old.state }) }
+        ensures err { OnErr result (self.new.trace ≡ self.old.trace) }
+    {
+        let resolver = resolver_of(self.alloc, &user)?;
+        note_reload(self.alloc, self.chord.pressed(), &mut self.trace)?;
+        self.chord.leave();
+        self.resolver = resolver;
+        self.user = user;
+        Ok(())
     }
 }
 
-/// Starts the command of a rule, and gives the line that ends the start.
-fn start_command(alloc: Global, rule: &Rule, core: &mut Core) -> Result<Text, NoMemory>
-    ensures core { OnOk result (core.new ≡ model.core_after_press (Some rule.now) core.old) }
-    ensures line { IfOk result (λ line. line ≡ model.end_line (named rule.now.command) rule.now core.old) }
+/// The search among the user's rules.
+fn resolver_of(alloc: Global, user: &RuleList) -> Result<Resolver, NoMemory>
+    ensures { IfOk result (λ resolver. resolver ≡ user.now.rules) }
 {
-    let Some(native) = Native::named(rule.command.as_str()) else {
-        return lines::not_found_line(alloc, rule.command.as_str());
-    };
-    run_native(alloc, native, rule.argument.as_ref(), core)?;
-    lines::done_line(alloc, &core.buffer)
+    let rules = RuleSet::assemble(alloc, user)?;
+    Resolver::build(alloc, &rules)
 }
 
-/// Runs a native command on the core, in place.
-fn run_native(
+/// Notes a reload, and the chord that it leaves, if one is open.
+fn note_reload(alloc: Global, pressed: &[Keystroke], trace: &mut Seq<Text>) -> Result<(), NoMemory>
+    ensures ok { OnOk result (trace.new ≡ trace.old ++ (model.left_lines pressed.now ++ line.reloaded_line ∷ [])) }
+    ensures err { OnErr result (trace.new ≡ trace.old) }
+{
+    let reloaded = lines::reloaded_line(alloc)?;
+    if pressed.is_empty() {
+        return trace.push(reloaded);
+    }
+    trace.push_two(lines::left_line(alloc, pressed)?, reloaded)
+}
+
+/// Starts the command of a rule, and notes its lines, the first of which begins with a text.
+fn start_rule(
     alloc: Global,
-    native: Native,
-    argument: Option<&Text>,
+    text: String,
+    rule: &Rule,
     core: &mut Core,
+    trace: &mut Seq<Text>,
 ) -> Result<(), NoMemory>
-    ensures { OnOk result (core.new ≡ core_after native (model.arguments_of native (option_map (λ text. text.now) argument.entry)) core.old) }
+    ensures core { OnOk result (core.new ≡ model.core_after_rule rule.now.command rule.now core.old) }
+    ensures trace { OnOk result (trace.new ≡ trace.old ++ model.rule_lines (string_bytes text) rule.now.command rule.now core.old) }
+    ensures err { OnErr result (trace.new ≡ trace.old) }
 {
-    let args = arguments_of(alloc, native, argument)?;
-    let taken = mem::replace(core, Core::new(alloc));
-    let ran = plain(native, taken, args);
-    *core = ran.core;
-    ran.cost?;
-    Ok(())
-}
-
-/// The arguments that a native command gets from a rule.
-fn arguments_of(alloc: Global, native: Native, argument: Option<&Text>) -> Result<Args, NoMemory>
-    ensures args { IfOk result (λ args. args ≡ model.arguments_of native (option_map (λ text. text.now) argument.entry)) }
-    ensures fits { IfOk result (λ args. IsTrue (fits (parameters_of native) args)) }
-{
-    let mut args = Args::new(alloc);
-    if native == Native::TypeText {
-        let text = match argument {
-            Some(text) => text.copied()?,
-            None => Text::new(alloc),
-        };
-        args.push(Arg::Text(text));
+    if rule.command.as_str().is_empty() {
+        return trace.push(lines::ended(text, ": no action")?);
     }
-    Ok(args)
+    let start = lines::start_line(text, rule.command.as_str())?;
+    let end = start_command(alloc, rule, core)?;
+    trace.push_two(start, end)
 }

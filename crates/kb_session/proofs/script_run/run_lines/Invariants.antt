@@ -1,11 +1,11 @@
 use Rattle.std.proofs.Common.{◌+◌, ◌≤◌, length}
-use Rattle.kb_session.specs.Script.{lines_of, events_from, events_of}
+use Rattle.kb_session.specs.Script.{lines_of, told_from, told_of}
 use Rattle.kb_session.proofs.ScriptRuns.{RunsUpTo}
 use Rattle.kb_session.proofs.script_run.run_lines.Given as goal
 
 abbrev pub invariant-loop-after : goal.invariant-loop-after
 invariant-loop-after g l =
-    RunsUpTo (events_of l.bytes) l.fn.session l.session (g.W.Write.contents l.fn.writer) (g.W.Write.contents l.writer) (events_from l.number (lines_of l.rest))
+    RunsUpTo (told_of l.bytes) l.fn.session l.session (g.W.Write.contents l.fn.writer) (g.W.Write.contents l.writer) (told_from l.number (lines_of l.rest))
     × (l.number + length l.rest ≤ length l.bytes + 1)
 
 abbrev pub decreases-loop-after : goal.decreases-loop-after

@@ -1,0 +1,46 @@
+-- Reading that stops at its first fault, and what a function that reads answers.
+use Rattle.std.specs.Prelude.{◌≡◌, Option, Some, None, Result, Ok, Err, Bool, ⊤, if◌then◌else◌}
+use Rattle.kb_context.specs.declared.reading.ReadError.{ReadError}
+use Rattle.kb_context.specs.declared.reading.ReadError.TheVariants as errors
+
+infixl 10 ◌>>=◌
+abbrev pub ◌>>=◌ : {F A B : Type 0} → Result A F → (A → Result B F) → Result B F
+(Ok x) >>= f = f x
+(Err e) >>= f = Err e
+
+infixl 10 ◌>>◌
+abbrev pub ◌>>◌ : {F A B : Type 0} → Result A F → Result B F → Result B F
+(Ok x) >> r = r
+(Err e) >> r = Err e
+
+-- What a function answered, seen by view, is what reading gives, unless memory ran out.
+abbrev pub Fails : {F Y : Type 0} → ReadError F → Result Y F → Type 0
+Fails errors.NoMemory read = Unit {0}
+Fails (errors.Fault f) read = read ≡ Err f
+
+abbrev pub Gives : {F X Y : Type 0} → (X → Y) → Result X (ReadError F) → Result Y F → Type 0
+Gives view (Ok x) read = read ≡ Ok (view x)
+Gives view (Err e) read = Fails e read
+
+-- the value, or the fault where there is none
+abbrev pub or_fault : {F A : Type 0} → F → Option A → Result A F
+or_fault f None = Err f
+or_fault f (Some x) = Ok x
+
+-- the same value where the test holds, and else the fault
+abbrev pub unless : {F A : Type 0} → F → Bool → A → Result A F
+unless f b x = if b then Ok x else Err f
+
+-- what is read of the value, or the default where there is none
+abbrev pub or_default : {F A B : Type 0} → A → (B → Result A F) → Option B → Result A F
+or_default x read None = Ok x
+or_default x read (Some y) = read y
+
+-- nothing where the test holds, and else the fault
+abbrev pub guard : {F : Type 0} → F → Bool → Result ⊤ F
+guard f b = if b then Ok tt else Err f
+
+-- the same answer, with its value seen by view
+abbrev pub seen : {F X Y : Type 0} → (X → Y) → Result X F → Result Y F
+seen view (Ok x) = Ok (view x)
+seen view (Err f) = Err f

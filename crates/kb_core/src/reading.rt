@@ -1,0 +1,125 @@
+//! The reading of arguments from JSON, by parameters.
+ghost use Rattle.std.specs.Prelude.{◌≡◌, ◌≤◌, IfOk, [], ◌∷◌, length, map, option_map, Some};
+ghost use Rattle.serde_json.specs.View.{view};
+ghost use Rattle.kb_core.specs.Arg.{empty_of};
+ghost use Rattle.kb_core.specs.Reading.{plain_of, arg_of, member_arg, object_args, arguments_for};
+ghost use Rattle.kb_core.specs.Signature.{fits};
+
+use crate::arg::{Arg, Kind};
+use crate::args::Args;
+use crate::signature::Param;
+use kb_context::{NoMemory, Text};
+use serde_json::Value;
+use std::alloc::Global;
+
+pub(crate) fn fits(params: &[Param], args: &[Arg]) -> bool
+    ensures { result ≡ fits params.now args.now }
+{
+    if params.len() != args.len() {
+        return false;
+    }
+    for (i, param) in params.iter().enumerate() {
+        if !param.kind.takes(&args[i]) {
+            return false;
+        }
+    }
+    true
+}
+
+/// The argument that a text, a whole number or a truth value is.
+fn plain_of(alloc: Global, value: &Value) -> Result<Option<Arg>, NoMemory>
+    ensures { IfOk result (λ arg. arg ≡ plain_of (view value.now)) }
+{
+    match value {
+        Value::String(text) => Ok(Some(Arg::Text(Text::from_str(alloc, text.as_str())?))),
+        Value::Number(number) => Ok(number.as_i64().map(Arg::Number)),
+        Value::Bool(truth) => Ok(Some(Arg::Truth(*truth))),
+        Value::Null | Value::Array(_) | Value::Object(_) => Ok(None),
+    }
+}
+
+/// The argument that the value is, if it is of the kind.
+fn arg_of(alloc: Global, kind: Kind, value: &Value) -> Result<Option<Arg>, NoMemory>
+    ensures { IfOk result (λ arg. arg ≡ arg_of kind (view value.now)) }
+{
+    match plain_of(alloc, value)? {
+        Some(arg) if kind.takes(&arg) => Ok(Some(arg)),
+        _ => Ok(None),
+    }
+}
+
+/// The argument of a parameter whose member of an object this is.
+fn member_arg(alloc: Global, kind: Kind, member: Option<&Value>) -> Result<Option<Arg>, NoMemory>
+    ensures { IfOk result (λ arg. arg ≡ member_arg kind (option_map (λ v. view v.now) member.entry)) }
+{
+    match member {
+        None | Some(Value::Null) => Ok(Some(kind.empty(alloc))),
+        Some(value) => arg_of(alloc, kind, value),
+    }
+}
+
+/// For each parameter its member.
+fn object_args(alloc: Global, params: &[Param], object: &Value) -> Result<Option<Args>, NoMemory>
+    requires { length params.now ≤ 8 }
+    ensures { IfOk result (λ args. args ≡ object_args (view object.now) params.now) }
+{
+    let mut args = Args::new(alloc);
+    for param in params {
+        let member = object.get(param.name.as_str());
+        match member_arg(alloc, param.kind, member)? {
+            Some(arg) => args.push(arg),
+            None => return Ok(None),
+        }
+    }
+    Ok(Some(args))
+}
+
+/// For each parameter the empty value of its kind.
+fn empty_args(alloc: Global, params: &[Param]) -> Args
+    requires { length params.now ≤ 8 }
+    ensures { result ≡ map (λ p. empty_of p.kind) params.now }
+{
+    let mut args = Args::new(alloc);
+    for param in params {
+        args.push(param.kind.empty(alloc));
+    }
+    args
+}
+
+/// A lone value for a lone parameter.
+fn lone_arg(alloc: Global, kind: Kind, value: &Value) -> Result<Option<Args>, NoMemory>
+    ensures { IfOk result (λ args. args ≡ option_map (λ a. a ∷ []) (arg_of kind (view value.now))) }
+{
+    let Some(arg) = arg_of(alloc, kind, value)? else {
+        return Ok(None);
+    };
+    let mut args = Args::new(alloc);
+    args.push(arg);
+    Ok(Some(args))
+}
+
+/// The arguments that the value gives the parameters.
+pub(crate) fn arguments_for(
+    alloc: Global,
+    params: &[Param],
+    value: Option<&Value>,
+) -> Result<Option<Args>, NoMemory>
+    requires { length params.now ≤ 8 }
+    ensures { IfOk result (λ args. args ≡ arguments_for params.now (option_map (λ v. view v.now) value.entry)) }
+{
+    if params.is_empty() {
+        return Ok(Some(Args::new(alloc)));
+    }
+    match value {
+        None | Some(Value::Null) => Ok(Some(empty_args(alloc, params))),
+        Some(value) => {
+            if value.is_object() {
+                return object_args(alloc, params, value);
+            }
+            match params {
+                [param] => lone_arg(alloc, param.kind, value),
+                _ => Ok(None),
+            }
+        }
+    }
+}

@@ -1,0 +1,5 @@
+pub mod PassLemmas
+pub mod PieceLawsLemmas
+pub mod PiecesLemmas
+pub mod ReaderLemmas
+pub mod ScanLemmas

@@ -1,0 +1,72 @@
+-- The pieces that a text is cut into.
+use Rattle.std.specs.Prelude.{◌≡◌, ℕ, zero, suc, ◌+◌, ◌-◌, ◌<◌, ◌≤◌, ◌==◌, ◌&&◌, not, Bool, false, if◌then◌else◌, List, [], ◌∷◌, length, take, drop, slice_index, Option, Some, None, option_map, Result, Ok, Err}
+use Rattle.std.specs.List.{prefix_len}
+use Rattle.std.specs.Str.{IsUtf8}
+use Rattle.kb_jsonc.specs.declared.fault.JsoncFault.{JsoncFault}
+use Rattle.kb_jsonc.specs.declared.fault.JsoncFault.TheVariants.{OpenComment, OpenString}
+use Rattle.kb_jsonc.specs.Fault.{◌>>=◌}
+use Rattle.kb_jsonc.specs.Bytes.{quote, backslash, slash, star, is_line_end}
+
+-- a string with its quotes, a comment with its marks, or any other byte
+pub data Piece : Type 0 where
+  quoted : List ℕ → Piece
+  comment : List ℕ → Piece
+  single : ℕ → Piece
+
+abbrev pub bytes_of : Piece → List ℕ
+bytes_of (quoted bytes) = bytes
+bytes_of (comment bytes) = bytes
+bytes_of (single b) = b ∷ []
+
+-- how far the string goes, with its closing quote: the first that no backslash escapes
+abbrev pub string_len : List ℕ → Option ℕ
+string_len [] = None
+string_len (b ∷ []) = if b == quote then Some 1 else None
+string_len (b ∷ c ∷ bs) = if b == quote then Some 1 else if b == backslash then option_map (λ n. n + 2) (string_len bs) else option_map (λ n. n + 1) (string_len (c ∷ bs))
+
+-- how far the block comment goes, with its end mark: the first
+abbrev pub block_len : List ℕ → Option ℕ
+block_len [] = None
+block_len (b ∷ []) = None
+block_len (b ∷ c ∷ bs) = if b == star && c == slash then Some 2 else option_map (λ n. n + 1) (block_len (c ∷ bs))
+
+-- how far the line goes, without its end
+abbrev pub line_len : List ℕ → ℕ
+line_len bs = prefix_len (λ b. not (is_line_end b)) bs
+
+abbrev pub begins : ℕ → List ℕ → Bool
+begins b [] = false
+begins b (c ∷ bs) = c == b
+
+abbrev pub piece_or : JsoncFault → Option Piece → Result Piece JsoncFault
+piece_or fault (Some piece) = Ok piece
+piece_or fault None = Err fault
+
+-- the piece that stands first in b ∷ bs
+unfoldable pub first_piece : ℕ → List ℕ → Result Piece JsoncFault
+first_piece b bs =
+    if b == quote then piece_or OpenString (option_map (λ n. quoted (b ∷ take n bs)) (string_len bs))
+    else if b == slash && begins slash bs then Ok (comment (b ∷ take (line_len bs) bs))
+    else if b == slash && begins star bs then piece_or OpenComment (option_map (λ n. comment (b ∷ take (n + 1) bs)) (block_len (drop 1 bs)))
+    else Ok (single b)
+
+-- the piece that stands first in a text that isn't empty
+abbrev pub first_of : List ℕ → Result Piece JsoncFault
+first_of text = first_piece (slice_index text 0) (drop 1 text)
+
+-- the pieces of what follows the first n bytes
+abbrev pub pieces_past : ℕ → List ℕ → Result (List Piece) JsoncFault
+pieces_past n [] = Ok []
+pieces_past zero (b ∷ bs) = first_piece b bs >>= λ piece. pieces_past (length (bytes_of piece) - 1) bs >>= λ rest. Ok (piece ∷ rest)
+pieces_past (suc n) (b ∷ bs) = pieces_past n bs
+
+-- the pieces of a text, which is cut from the left
+abbrev pub pieces : List ℕ → Result (List Piece) JsoncFault
+pieces text = pieces_past 0 text
+
+-- a comment of n bytes stands first, and what follows it is text again
+pub record OpensComment (text : List ℕ) (n : ℕ) : Type 0 where
+  pub first : first_of text ≡ Ok (comment (take n text))
+  pub some : 0 < n
+  pub within : n ≤ length text
+  pub rest : IsUtf8 text → IsUtf8 (drop n text)

@@ -1,0 +1,27 @@
+-- The plain text of a text: its comments are made blank, and then its trailing commas, all at once.
+use Rattle.std.specs.Prelude.{ℕ, ◌==◌, ◌&&◌, Bool, if◌then◌else◌, List, [], ◌∷◌, ◌++◌, map, Option, Some, None, Result, Ok}
+use Rattle.kb_jsonc.specs.declared.fault.JsoncFault.{JsoncFault}
+use Rattle.kb_jsonc.specs.Fault.{◌>>=◌}
+use Rattle.kb_jsonc.specs.Bytes.{quote, comma, space, is_blank, blanked, closes, ends_value}
+use Rattle.kb_jsonc.specs.Pieces.{Piece, quoted, comment, single, pieces}
+
+-- the next byte that isn't blank, where comments are blank
+abbrev pub next_of : List Piece → Option ℕ
+next_of [] = None
+next_of (quoted bytes ∷ ps) = Some quote
+next_of (comment bytes ∷ ps) = next_of ps
+next_of (single b ∷ ps) = if is_blank b then next_of ps else Some b
+
+-- a comma is trailing behind an element or a member, before a closing bracket
+abbrev pub is_trailing : Option ℕ → ℕ → Option ℕ → Bool
+is_trailing before b after = b == comma && (ends_value before && closes after)
+
+-- the plain text of pieces, where `before` is the last byte ahead of them that isn't blank
+abbrev pub plain_of : Option ℕ → List Piece → List ℕ
+plain_of before [] = []
+plain_of before (quoted bytes ∷ ps) = bytes ++ plain_of (Some quote) ps
+plain_of before (comment bytes ∷ ps) = map blanked bytes ++ plain_of before ps
+plain_of before (single b ∷ ps) = (if is_trailing before b (next_of ps) then space else b) ∷ plain_of (if is_blank b then before else Some b) ps
+
+unfoldable pub plain_text : List ℕ → Result (List ℕ) JsoncFault
+plain_text text = pieces text >>= λ ps. Ok (plain_of None ps)

@@ -1,0 +1,60 @@
+-- What a chord text means, and the canonical text of a chord.
+use Rattle.std.specs.Prelude.{ℕ, List, [], ◌∷◌, ◌++◌, Bool, cond, ◌==◌, not, map, filter, nat_lt, length, Result, Ok, Err}
+use Rattle.std.specs.List.{slice_split, starts_with, join_with_byte}
+use Rattle.kb_keys.specs.declared.chord.TheConstants.{LIMIT}
+use Rattle.kb_keys.specs.declared.key_fault.KeyFault.{KeyFault}
+use Rattle.kb_keys.specs.declared.key_fault.KeyFault.TheVariants.{TooManySteps, EmptyKey}
+use Rattle.kb_keys.specs.declared.keystroke.Keystroke.{Keystroke}
+use Rattle.kb_keys.specs.Keystroke.{keystroke_of, spelling, same_stroke}
+
+-- the texts between spaces, without the empty ones
+abbrev pub steps_of : List ℕ → List (List ℕ)
+steps_of text = filter (λ step. not (length step == 0)) (slice_split (λ byte. byte == 32) text)
+
+-- a step before the others, if it isn't empty
+abbrev pub with_step : List ℕ → List (List ℕ) → List (List ℕ)
+with_step [] steps = steps
+with_step (b ∷ bs) steps = (b ∷ bs) ∷ steps
+
+-- the keystrokes that were read, or the first fault
+abbrev pub Strokes : Type 0
+Strokes = Result (List Keystroke) KeyFault
+
+-- one more keystroke in front, where the others were read
+abbrev pub prepend : Keystroke → Strokes → Strokes
+prepend stroke (Ok strokes) = Ok (stroke ∷ strokes)
+prepend stroke (Err fault) = Err fault
+
+-- a step before the others: its fault comes before theirs
+abbrev pub if_read : Result Keystroke KeyFault → Strokes → Strokes
+if_read (Ok stroke) strokes = prepend stroke strokes
+if_read (Err fault) strokes = Err fault
+
+-- each step read, or the fault of the first that isn't
+abbrev pub strokes_of : List (List ℕ) → Strokes
+strokes_of [] = Ok []
+strokes_of (step ∷ steps) = if_read (keystroke_of step) (strokes_of steps)
+
+-- no step and too many steps come before a fault of a step
+abbrev pub chord_from : List (List ℕ) → Strokes
+chord_from steps =
+    cond (length steps == 0) (Err EmptyKey)
+    (cond (nat_lt LIMIT (length steps)) (Err TooManySteps)
+    (strokes_of steps))
+
+-- the keystrokes that a text means, or the fault
+abbrev pub chord_of : List ℕ → Strokes
+chord_of text = chord_from (steps_of text)
+
+-- each canonical spelling after a space
+abbrev pub spelling_after : List Keystroke → List ℕ
+spelling_after [] = []
+spelling_after (stroke ∷ strokes) = 32 ∷ (spelling stroke ++ spelling_after strokes)
+
+-- the canonical spellings with one space between them
+abbrev pub chord_spelling : List Keystroke → List ℕ
+chord_spelling strokes = join_with_byte 32 (map spelling strokes)
+
+-- whether the first keystrokes are the pressed ones
+abbrev pub begins_with : List Keystroke → List Keystroke → Bool
+begins_with chord pressed = starts_with same_stroke chord pressed

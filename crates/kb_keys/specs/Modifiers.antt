@@ -1,0 +1,34 @@
+-- Sets of modifiers, and how they are spelled.
+use Rattle.std.specs.Prelude.{ℕ, List, [], ◌++◌, Bool, true, false, cond, ◌&&◌, codes}
+use Rattle.std.proofs.Math.Bool.{beq}
+use Rattle.kb_keys.specs.declared.modifier.Modifier.{Modifier}
+use Rattle.kb_keys.specs.declared.modifier.Modifier.TheVariants.{Ctrl, Shift, Alt, Meta}
+use Rattle.kb_keys.specs.declared.modifiers.Modifiers.{Modifiers}
+
+-- no modifier is held
+abbrev pub no_modifiers : Modifiers
+no_modifiers = record { ctrl = false; shift = false; alt = false; meta = false }
+
+-- the modifiers and one more
+abbrev pub with_modifier : Modifier → Modifiers → Modifiers
+with_modifier Ctrl m = record m { ctrl = true }
+with_modifier Shift m = record m { shift = true }
+with_modifier Alt m = record m { alt = true }
+with_modifier Meta m = record m { meta = true }
+
+-- a word, where its modifier is held
+abbrev pub spelled_if : Bool → List ℕ → List ℕ
+spelled_if held word = cond held word []
+
+-- the held modifiers in one order, each followed by `+`
+abbrev pub spelled : Modifiers → List ℕ
+spelled m =
+    spelled_if m.ctrl (codes "ctrl+")
+    ++ (spelled_if m.shift (codes "shift+")
+    ++ (spelled_if m.alt (codes "alt+")
+    ++ spelled_if m.meta (codes "meta+")))
+
+-- whether the same modifiers are held
+abbrev pub same_modifiers : Modifiers → Modifiers → Bool
+same_modifiers a b =
+    beq a.ctrl b.ctrl && (beq a.shift b.shift && (beq a.alt b.alt && beq a.meta b.meta))

@@ -1,0 +1,216 @@
+//! Keystrokes that are pressed one after another.
+ghost use Rattle.std.specs.Prelude.{◌≡◌, ◌<◌, ◌≤◌, ◌+◌, ◌↔◌, length, List, [], ◌∷◌, ◌++◌, IfOk, OnOk, Ok, string_bytes, option_to_list, IsTrue, IsSome};
+ghost use Rattle.std.specs.Str.{IsUtf8};
+ghost use Rattle.kb_keys.specs.Keystroke.{KnownKeys};
+ghost use Rattle.kb_keys.specs.Chord.{chord_of, steps_of, with_step, chord_spelling, spelling_after, begins_with};
+
+use crate::key_fault::KeyFault;
+use crate::keystroke::Keystroke;
+use kb_context::NoMemory;
+use smallvec::SmallVec;
+use std::alloc::Global;
+use std::marker::Model;
+
+/// The largest number of keystrokes of a chord (our decision; VS Code's documentation describes
+/// chords of two).
+pub const LIMIT: usize = 2;
+
+/// Up to `LIMIT` keystrokes in the order that they are pressed. They are kept inline, so a chord
+/// never takes memory. The allocator that some calls take is a value that the list inside wants.
+#[derive(Debug, Drop, PartialEq, Eq, Hash)]
+pub struct Chord {
+    strokes: SmallVec<Keystroke, LIMIT, Global>,
+}
+
+impl Model for Chord {
+    ghost use Rattle.std.specs.Prelude.{◌≡◌, ◌≤◌, List, length};
+    ghost use Rattle.kb_keys.specs.declared.keystroke.Keystroke.{Keystroke};
+    ghost use Rattle.kb_keys.specs.declared.chord.TheConstants.{LIMIT};
+
+    ghost Value = { List Keystroke };
+
+    ghost view = { λ c. c.strokes.items };
+
+    ghost invariant = { λ c. (length c.strokes.items ≤ LIMIT) × (c.strokes.capacity ≡ LIMIT) };
+
+    ghost inverse = { λ strokes. record { strokes = record { items = strokes; capacity = LIMIT } } };
+
+    ghost use Rattle.std.proofs.Common.{ap, sym};
+
+    ghost inverse_ok = { λ a h. ap (λ n. record { strokes = record { items = a.strokes.items; capacity = n } }) (sym h.1) };
+}
+
+impl Chord {
+    /// The chord without keystrokes, as before the first is pressed. No text means it.
+    pub fn new(alloc: Global) -> Chord
+        ensures { result ≡ [] }
+    {
+        Chord {
+            strokes: SmallVec::new(alloc),
+        }
+    }
+
+    /// Reads a chord text: key texts (`Keystroke::parse`) between spaces. Only U+0020 separates
+    /// them (our decision); several count as one, and those at the ends are ignored.
+    ///
+    /// A text that holds nothing but spaces is `EmptyKey`, more than `LIMIT` key texts are
+    /// `TooManySteps`, and else the fault is that of the first key text that has one. It takes no
+    /// memory.
+    pub fn parse(alloc: Global, text: &str) -> Result<Chord, KeyFault>
+        ensures { result ≡ chord_of text.now }
+    {
+        let count = count_steps(text);
+        if count == 0 {
+            return Err(KeyFault::EmptyKey);
+        }
+        if count > LIMIT {
+            return Err(KeyFault::TooManySteps);
+        }
+        let mut chord = Chord::new(alloc);
+        let mut rest = text;
+        while !rest.is_empty() {
+            let (step, after) = cut_at_space(rest);
+            if !step.is_empty() {
+                chord.push(Keystroke::parse(step)?);
+            }
+            rest = after;
+        }
+        Ok(chord)
+    }
+
+    /// The canonical text: that of each keystroke, with one space between them. `parse` reads it
+    /// back, but for the chord without keystrokes, whose text is empty.
+    pub fn text(&self, alloc: Global) -> Result<String, NoMemory>
+        ensures spelling { IfOk result (λ text. string_bytes text ≡ chord_spelling self.now) }
+        ensures reads_back { 0 < length self.now → IfOk result (λ text. chord_of (string_bytes text) ≡ Ok self.now) }
+    {
+        let mut text = String::new(alloc);
+        write_strokes(self.as_slice(), &mut text)?;
+        Ok(text)
+    }
+
+    /// A second chord of the same keystrokes, which takes no memory.
+    pub fn copied(&self, alloc: Global) -> Chord
+        ensures { result ≡ self.now }
+    {
+        let strokes = SmallVec::from_slice(alloc, self.strokes.as_slice()).unwrap();
+        Chord { strokes }
+    }
+
+    /// How many keystrokes the chord has.
+    pub fn len(&self) -> usize
+        ensures value { result ≡ length self.now }
+        ensures fits { result ≤ LIMIT }
+    {
+        self.strokes.len()
+    }
+
+    /// Whether the chord has no keystrokes.
+    pub fn is_empty(&self) -> bool
+        ensures { IsTrue result ↔ (self.now ≡ []) }
+    {
+        self.strokes.is_empty()
+    }
+
+    /// The keystrokes, in order.
+    pub fn as_slice(&self) -> &[Keystroke]
+        ensures strokes { result.now ≡ self.now }
+        ensures fits { length self.now ≤ LIMIT }
+    {
+        self.strokes.as_slice()
+    }
+
+    /// Adds a keystroke at the end, which takes no memory.
+    pub fn push(&mut self, stroke: Keystroke)
+        requires { length self.old < LIMIT }
+        ensures { self.new ≡ self.old ++ stroke ∷ [] }
+    {
+        self.strokes.push_reserved(stroke);
+    }
+
+    /// Takes the last keystroke off and gives it, or `None` where there is none.
+    pub fn pop(&mut self) -> Option<Keystroke>
+        ensures taken { self.old ≡ self.new ++ option_to_list result }
+        ensures some { IsSome result ↔ (0 < length self.old) }
+    {
+        self.strokes.pop()
+    }
+
+    /// Takes all keystrokes away.
+    pub fn clear(&mut self)
+        ensures { self.new ≡ [] }
+    {
+        self.strokes.clear();
+    }
+
+    /// Whether the chord's first keystrokes are these.
+    pub fn begins_with(&self, pressed: &[Keystroke]) -> bool
+        ensures value { result ≡ begins_with self.now pressed.now }
+        ensures front { IsTrue result ↔ ((more : List Keystroke) × (self.now ≡ pressed.now ++ more)) }
+        ensures bound { IsTrue result → length pressed.now ≤ length self.now }
+    {
+        self.strokes.as_slice().starts_with(pressed)
+    }
+
+    /// Whether the chords have the same keystrokes in the same order.
+    pub fn same_keys(&self, other: &Chord) -> bool
+        ensures { IsTrue result ↔ (self.now ≡ other.now) }
+    {
+        self == other
+    }
+}
+
+/// Appends the canonical text of keystrokes to a line, as `Chord::text` gives it. Without memory
+/// the line may have got a part of it.
+pub fn write_strokes(strokes: &[Keystroke], line: &mut String) -> Result<(), NoMemory>
+    ensures spelling { OnOk result (string_bytes line.new ≡ string_bytes line.old ++ chord_spelling strokes.now) }
+    ensures known { OnOk result (KnownKeys strokes.now) }
+{
+    let Some((first, more)) = strokes.split_first() else {
+        return Ok(());
+    };
+    first.write_to(line)?;
+    write_more(more, line)?;
+    Ok(())
+}
+
+/// Appends a space and the canonical text of each of these keystrokes to a line.
+fn write_more(more: &[Keystroke], line: &mut String) -> Result<(), NoMemory>
+    ensures spelling { OnOk result (string_bytes line.new ≡ string_bytes line.old ++ spelling_after more.now) }
+    ensures known { OnOk result (KnownKeys more.now) }
+{
+    for stroke in more {
+        line.push(' ')?;
+        stroke.write_to(line)?;
+    }
+    Ok(())
+}
+
+/// The number of steps of a chord text.
+fn count_steps(text: &str) -> usize
+    ensures { result ≡ length (steps_of text.now) }
+{
+    let mut count = 0;
+    let mut rest = text;
+    while !rest.is_empty() {
+        let (step, after) = cut_at_space(rest);
+        if !step.is_empty() {
+            count += 1;
+        }
+        rest = after;
+    }
+    count
+}
+
+/// What stands before the first space, and what follows it.
+fn cut_at_space(text: &str) -> (&str, &str)
+    requires { 0 < length text.now }
+    ensures steps { steps_of text.now ≡ with_step result.0.now (steps_of result.1.now) }
+    ensures shorter { length result.1.now < length text.now }
+    ensures text { IsUtf8 result.0.now × IsUtf8 result.1.now }
+{
+    match text.split_once(' ') {
+        Some((step, after)) => (step, after),
+        None => (text, ""),
+    }
+}

@@ -1,0 +1,40 @@
+//! The modifiers that are held.
+ghost use Rattle.std.specs.Prelude.{◌≡◌};
+ghost use Rattle.kb_keys.specs.Modifiers.{with_modifier};
+
+use crate::modifier::Modifier;
+
+/// Which of the four modifiers are held. `meta` is the Command key of macOS, the Windows key, and
+/// the Meta key of Linux.
+#[derive(Clone, Copy, Debug, Default, PartialEq, Eq, Hash)]
+pub struct Modifiers {
+    pub ctrl: bool,
+    pub shift: bool,
+    pub alt: bool,
+    pub meta: bool,
+}
+
+impl Modifiers {
+    /// No modifier.
+    pub const NONE: Modifiers = Modifiers {
+        ctrl: false,
+        shift: false,
+        alt: false,
+        meta: false,
+    };
+
+    /// These modifiers and one more. One that is held already changes nothing.
+    pub(crate) fn with(self, modifier: Modifier) -> Modifiers
+        ensures { result ≡ with_modifier modifier self }
+    {
+        match modifier {
+            Modifier::Ctrl => Modifiers { ctrl: true, ..self },
+            Modifier::Shift => Modifiers {
+                shift: true,
+                ..self
+            },
+            Modifier::Alt => Modifiers { alt: true, ..self },
+            Modifier::Meta => Modifiers { meta: true, ..self },
+        }
+    }
+}

@@ -1,0 +1,3 @@
+mod CommandLineLemmas
+mod CommandLineRows
+pub mod FilesLemmas

@@ -1,0 +1,5 @@
+pub mod CommandLine
+pub mod Files
+pub mod ReadFaults
+pub mod Report
+pub mod Run

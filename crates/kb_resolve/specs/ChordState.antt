@@ -1,0 +1,34 @@
+-- What a key press does to the chord that is open.
+use Rattle.std.specs.Prelude.{List, [], ◌∷◌, ◌++◌}
+use Rattle.kb_keys.specs.declared.keystroke.Keystroke.{Keystroke}
+use Rattle.kb_rules.specs.declared.rule.Rule.{Rule}
+use Rattle.kb_resolve.specs.Pressed as press
+use Rattle.kb_resolve.specs.Pressed.{Step}
+use Rattle.kb_resolve.specs.Resolved.{Resolution, found, more, nothing}
+use Rattle.kb_resolve.specs.Resolver.{resolved}
+
+-- a press that fits no rule is unbound where no chord is open, and else leaves it
+abbrev pub unmatched_step : List Keystroke → Step
+unmatched_step [] = press.unbound
+unmatched_step (stroke ∷ strokes) = press.left
+
+-- what a press does after these keystrokes, by what the search finds
+abbrev pub step_by : List Keystroke → Resolution → Step
+step_by before (found rule) = press.start rule
+step_by before more = press.more
+step_by before nothing = unmatched_step before
+
+-- which of these keystrokes stay pressed, by what the search for them finds
+abbrev pub kept_by : List Keystroke → Resolution → List Keystroke
+kept_by strokes (found rule) = []
+kept_by strokes more = strokes
+kept_by strokes nothing = []
+
+-- what a press does
+abbrev pub step : List Keystroke → Keystroke → List Rule → Step
+step before stroke rules = step_by before (resolved (before ++ stroke ∷ []) rules)
+
+-- the keystrokes that are pressed after it
+abbrev pub pressed_after : List Keystroke → Keystroke → List Rule → List Keystroke
+pressed_after before stroke rules =
+    kept_by (before ++ stroke ∷ []) (resolved (before ++ stroke ∷ []) rules)

@@ -1,0 +1,4 @@
+pub mod ChordState
+pub mod Pressed
+pub mod Resolved
+pub mod Resolver

@@ -1,0 +1,16 @@
+-- What a key press does, with the rule in place of the share of it.
+use Rattle.kb_rules.specs.declared.rule.Rule.{Rule}
+use Rattle.kb_resolve.specs.declared.pressed.Pressed.{Pressed}
+use Rattle.kb_resolve.specs.declared.pressed.Pressed.TheVariants.{Start, More, Left, Unbound}
+
+pub data Step : Type 0 where
+  start : Rule → Step
+  more : Step
+  left : Step
+  unbound : Step
+
+abbrev pub step_of : Pressed → Step
+step_of (Start shared) = start shared.value
+step_of More = more
+step_of Left = left
+step_of Unbound = unbound

@@ -1,0 +1,14 @@
+-- What a search finds, with the rule in place of the share of it.
+use Rattle.kb_rules.specs.declared.rule.Rule.{Rule}
+use Rattle.kb_resolve.specs.declared.resolved.Resolved.{Resolved}
+use Rattle.kb_resolve.specs.declared.resolved.Resolved.TheVariants.{Found, More, Nothing}
+
+pub data Resolution : Type 0 where
+  found : Rule → Resolution
+  more : Resolution
+  nothing : Resolution
+
+abbrev pub resolution_of : Resolved → Resolution
+resolution_of (Found shared) = found shared.value
+resolution_of More = more
+resolution_of Nothing = nothing

@@ -1,0 +1,77 @@
+//! The search for the rule that pressed keystrokes choose.
+ghost use Rattle.std.specs.Prelude.{◌≡◌, ◌<◌, ◌≤◌, length, map, reverse, find, option_map, IfOk, IfSome};
+ghost use Rattle.kb_resolve.specs.Resolved.{more, resolution_of};
+ghost use Rattle.kb_resolve.specs.Resolver.{chosen, matches, resolved, IsGreatest};
+
+use crate::resolved::Resolved;
+use kb_context::{NoMemory, Seq};
+use kb_keys::{Keystroke, LIMIT};
+use kb_rules::{Rule, RuleSet};
+use std::alloc::Global;
+use std::marker::Model;
+use std::rc::Rc;
+
+/// The rules in force, as they are searched. Contracts see their list, from the top down.
+#[derive(Drop)]
+pub struct Resolver {
+    rules: Seq<Rc<Rule>>,
+}
+
+impl Model for Resolver {
+    ghost use Rattle.std.specs.Prelude.{List, map};
+    ghost use Rattle.std.specs.Coded.{codes};
+    ghost use Rattle.kb_rules.specs.declared.rule.Rule.{Rule};
+    ghost use Rattle.kb_rules.specs.contracts.rule.Rule as rule;
+
+    ghost Value = { List Rule };
+
+    ghost coded = { Prim.hlevel (codes, rule.the_row.coded) };
+
+    ghost view = { λ s. map (λ r. r.value) s.rules };
+}
+
+impl Resolver {
+    /// The search among these rules, which are shared. `NoMemory` where memory was refused.
+    pub fn build(alloc: Global, set: &RuleSet) -> Result<Resolver, NoMemory>
+        ensures { IfOk result (λ resolver. resolver ≡ set.now) }
+    {
+        let mut rules = Seq::new(alloc);
+        for rule in set.rules() {
+            rules.push(Rc::clone(rule)?)?;
+        }
+        Ok(Resolver { rules })
+    }
+
+    /// Searches the rules from the bottom to the top for the first whose keystrokes begin with the
+    /// pressed ones (VS Code's documentation: the rules are evaluated from the bottom to the top, and
+    /// the first that matches counts). A rule with the empty command is found as any other.
+    /// `NoMemory` where the rule could not be shared.
+    #[tactic(auto, using(crate::proofs::ResolverLemmas::resolved_is_greatest))]
+    pub fn resolve(&self, pressed: &[Keystroke]) -> Result<Resolved, NoMemory>
+        ensures value { IfOk result (λ found. resolution_of found ≡ resolved pressed.now self.now) }
+
+        // What `value` cites, in terms of positions.
+        ensures greatest { IsGreatest pressed.now self.now (resolved pressed.now self.now) }
+
+        // A longer rule has at most `LIMIT` keystrokes, so there is room for one more.
+        ensures fits { IfOk result (λ found. resolution_of found ≡ more → length pressed.now < LIMIT) }
+    {
+        let Some(rule) = lowest(self.rules.as_slice(), pressed) else {
+            return Ok(Resolved::Nothing);
+        };
+        if rule.chord.len() > pressed.len() {
+            return Ok(Resolved::More);
+        }
+        Ok(Resolved::Found(Rc::clone(rule)?))
+    }
+}
+
+/// The lowest rule whose keystrokes begin with the pressed ones.
+fn lowest<'r>(rules: &'r [Rc<Rule>], pressed: &[Keystroke]) -> Option<&'r Rc<Rule>>
+    ensures { option_map (λ r. r.now.value) result ≡ chosen pressed.now (map (λ r. r.value) rules.now) }
+{
+    rules
+        .iter()
+        .rev()
+        .find(|rule| rule.chord.begins_with(pressed))
+}

@@ -1,0 +1,59 @@
+-- The rule that an element of a rule file is, or its first fault.
+use Rattle.std.specs.Prelude.{ℕ, ◌==◌, ◌||◌, not, Bool, List, [], Option, None, Some, Result, Ok, Err, is_some, codes, nat_eq}
+use Rattle.std.specs.List.{list_all, starts_with}
+use Rattle.kb_context.specs.Reading.{◌>>=◌, ◌>>◌, or_fault, or_default, unless, guard}
+use Rattle.kb_keys.specs.declared.key_fault.KeyFault.{KeyFault}
+use Rattle.kb_keys.specs.declared.keystroke.Keystroke.{Keystroke}
+use Rattle.kb_keys.specs.Chord.{chord_of}
+use Rattle.serde_json.specs.Data.{Data}
+use Rattle.serde_json.specs.Find.{get, as_object, as_str}
+use Rattle.kb_rules.specs.declared.entry_fault.EntryFault.{EntryFault}
+use Rattle.kb_rules.specs.declared.entry_fault.EntryFault.TheVariants.{Key, UnreadWhen, MissingMember, WrongShape}
+use Rattle.kb_rules.specs.declared.rule.Rule.{Rule}
+use Rattle.kb_rules.specs.Whole.{is_whole}
+
+-- the text that a value is
+abbrev pub text_of : Data → Result (List ℕ) EntryFault
+text_of d = or_fault WrongShape (as_str d)
+
+-- the text of a member that must be there
+abbrev pub required_text : List ℕ → Data → Result (List ℕ) EntryFault
+required_text name d = or_fault MissingMember (get name d) >>= text_of
+
+-- the text of a member, or the empty text where it is absent
+abbrev pub optional_text : List ℕ → Data → Result (List ℕ) EntryFault
+optional_text name d = or_default [] text_of (get name d)
+
+-- the command begins with `-`
+abbrev pub is_removal : List ℕ → Bool
+is_removal command = starts_with nat_eq command (codes "-")
+
+-- space, tab, CR or LF
+abbrev pub is_blank_byte : ℕ → Bool
+is_blank_byte byte = byte == 32 || byte == 9 || byte == 13 || byte == 10
+
+-- the clause is empty, or white space alone
+abbrev pub is_blank : List ℕ → Bool
+is_blank clause = list_all is_blank_byte clause
+
+-- a fault of the key text is one of the element
+abbrev pub of_key : Result (List Keystroke) KeyFault → Result (List Keystroke) EntryFault
+of_key (Ok chord) = Ok chord
+of_key (Err fault) = Err (Key fault)
+
+-- the arguments, if there are any: each number is whole within i64
+abbrev pub args_of : Data → Result (Option Data) EntryFault
+args_of d = or_default None (λ args. unless WrongShape (is_whole args) (Some args)) (get (codes "args") d)
+
+-- the rule that the element at a place is, or its first fault
+unfoldable pub entry_of : ℕ → Data → Result Rule EntryFault
+entry_of place d = do
+  guard WrongShape (is_some (as_object d))
+  command ← required_text (codes "command") d
+  guard WrongShape (not (is_removal command))
+  key ← required_text (codes "key") d
+  chord ← of_key (chord_of key)
+  when ← optional_text (codes "when") d
+  guard UnreadWhen (is_blank when)
+  args ← args_of d
+  Ok (record { chord = chord; command = command; args = args; place = place })

@@ -1,0 +1,121 @@
+//! The reading of one element of a rule file.
+ghost use Rattle.std.specs.Prelude.{◌≡◌, option_map};
+ghost use Rattle.std.specs.List.{list_all};
+ghost use Rattle.kb_context.specs.Reading.{Gives, seen};
+ghost use Rattle.serde_json.specs.Data.{object};
+ghost use Rattle.serde_json.specs.Find.{get};
+ghost use Rattle.serde_json.specs.View.{view, members_view};
+ghost use Rattle.kb_rules.specs.Entry.{text_of, required_text, optional_text, is_blank, is_blank_byte, is_removal, args_of, entry_of};
+
+use crate::entry_fault::{EntryError, EntryFault};
+use crate::json::Json;
+use crate::rule::Rule;
+use crate::whole::has_whole_numbers;
+use kb_context::Text;
+use kb_keys::Chord;
+use serde_json::{Map, Value};
+use std::alloc::Global;
+
+/// The rule that an element is, with the place that it stands at, or the element's first fault. The
+/// arguments are moved out of the element.
+#[tactic(auto, unfolding(crate::specs::Entry::entry_of))]
+pub(crate) fn read_entry(alloc: Global, entry: Value, place: usize) -> Result<Rule, EntryError>
+    ensures { Gives (λ rule. rule) result (entry_of place (view entry)) }
+{
+    if !entry.is_object() {
+        return Err(EntryError::Fault(EntryFault::WrongShape));
+    }
+    let command = required_text(&entry, "command")?;
+    if is_removal(command) {
+        return Err(EntryError::Fault(EntryFault::WrongShape));
+    }
+    let key = required_text(&entry, "key")?;
+    let chord = Chord::parse(alloc, key).map_err(EntryFault::Key)?;
+    let when = optional_text(&entry, "when")?;
+    if !is_blank(when) {
+        return Err(EntryError::Fault(EntryFault::UnreadWhen));
+    }
+    let command = Text::from_str(alloc, command)?;
+    let args = take_args(entry)?;
+    Ok(Rule {
+        chord,
+        command,
+        args,
+        place,
+    })
+}
+
+/// The text that a value is.
+fn text_of(value: &Value) -> Result<&str, EntryFault>
+    ensures { seen (λ text. text.now) result ≡ text_of (view value.now) }
+{
+    value.as_str().ok_or(EntryFault::WrongShape)
+}
+
+/// The text of a member that must be there.
+fn required_text<'v>(entry: &'v Value, name: &str) -> Result<&'v str, EntryFault>
+    ensures { seen (λ text. text.now) result ≡ required_text name.now (view entry.now) }
+{
+    text_of(entry.get(name).ok_or(EntryFault::MissingMember)?)
+}
+
+/// The text of a member, or the empty text where there is no such member.
+fn optional_text<'v>(entry: &'v Value, name: &str) -> Result<&'v str, EntryFault>
+    ensures { seen (λ text. text.now) result ≡ optional_text name.now (view entry.now) }
+{
+    match entry.get(name) {
+        Some(member) => text_of(member),
+        None => Ok(""),
+    }
+}
+
+/// Whether a command is one to be taken away (VS Code's documentation: it begins with `-`).
+fn is_removal(command: &str) -> bool
+    ensures { result ≡ is_removal command.now }
+{
+    command.as_bytes().starts_with(b"-")
+}
+
+/// Whether a clause says nothing: it is empty, or white space alone (our decision).
+fn is_blank(clause: &str) -> bool
+    ensures { result ≡ is_blank clause.now }
+{
+    clause.as_bytes().iter().all(|byte| is_blank_byte(*byte))
+}
+
+/// Whether a byte is space, tab, CR or LF.
+fn is_blank_byte(byte: u8) -> bool
+    ensures { result ≡ is_blank_byte byte }
+{
+    matches!(byte, b' ' | b'\t' | b'\r' | b'\n')
+}
+
+/// The arguments of an element, moved out of it, if it has any: whole within i64 in each number.
+fn take_args(entry: Value) -> Result<Option<Json>, EntryFault>
+    ensures { result ≡ args_of (view entry) }
+{
+    let Some(args) = take_member(entry, "args") else {
+        return Ok(None);
+    };
+    if !has_whole_numbers(&args) {
+        return Err(EntryFault::WrongShape);
+    }
+    Ok(Some(Json::from_value(args)))
+}
+
+/// A member of an object, moved out of it, if it is there.
+fn take_member(entry: Value, name: &str) -> Option<Value>
+    ensures { option_map view result ≡ get name.now (view entry) }
+{
+    match entry {
+        Value::Object(members) => removed(members, name),
+        _ => None,
+    }
+}
+
+fn removed(members: Map<String, Value>, name: &str) -> Option<Value>
+    ensures { option_map view result ≡ get name.now (object (members_view members.entries)) }
+{
+    let mut members = members;
+    members.remove(name)
+}
