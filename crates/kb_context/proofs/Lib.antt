@@ -1,1 +1,6 @@
+pub mod DraftLemmas
+pub mod LayoutLemmas
+pub mod OutwardLemmas
+pub mod ScopesLemmas
 pub mod TextLemmas
+pub mod TextMapLemmas

@@ -7,7 +7,7 @@ use std::marker::Model;
 
 /// A growable list. A `Vec` shows its capacity to contracts, so records that contracts compare
 /// whole hold this type instead: it shows its items alone.
-#[derive(Drop)]
+#[derive(Debug, Drop)]
 pub struct Seq<T> {
     items: Vec<T>,
 }

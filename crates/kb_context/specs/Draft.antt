@@ -1,0 +1,38 @@
+-- The scopes of a layout, put one behind the other.
+use Rattle.std.specs.Prelude.{◌≡◌, ℕ, if◌then◌else◌, List, [], ◌∷◌, ◌++◌, Option, Some, None, option_map, option_and_then, is_some}
+use Rattle.kb_context.specs.declared.layout.LayoutScope.{LayoutScope}
+use Rattle.kb_context.specs.declared.scopes.Scope.{Scope}
+use Rattle.kb_context.specs.declared.fault.ScopeFault.{ScopeFault}
+use Rattle.kb_context.specs.declared.fault.ScopeFault.TheVariants.{UnknownScope, BadLayout, TooManyKeys, NoMemory}
+use Rattle.kb_context.specs.Scopes.{place_of}
+
+-- the place of a parent, if the parent fits: the first scope has none, and each other has one that is named before it
+abbrev pub parent_in : Option (List ℕ) → List Scope → Option (Option ℕ)
+parent_in (Some name) scopes = option_map (λ i. Some i) (place_of name scopes)
+parent_in None [] = Some None
+parent_in None (s ∷ scopes) = None
+
+-- the scopes with one more behind them, if its name is new and its parent fits
+abbrev pub after_scope : List Scope → LayoutScope → Option (List Scope)
+after_scope done s =
+    if is_some (place_of s.name done) then None
+    else option_map (λ parent. done ++ record { name = s.name; parent = parent; keys = s.keys } ∷ []) (parent_in s.parent done)
+
+-- the scopes with all of these behind them, if each fits
+abbrev pub built : List Scope → List LayoutScope → Option (List Scope)
+built done [] = Some done
+built done (s ∷ scopes) = option_and_then (λ more. built more scopes) (after_scope done s)
+
+-- a scope that doesn't fit is a bad layout
+abbrev pub IsBadScope : List Scope → LayoutScope → ScopeFault → Type 0
+IsBadScope done s NoMemory = Unit {0}
+IsBadScope done s BadLayout = after_scope done s ≡ None
+IsBadScope done s UnknownScope = ⊥
+IsBadScope done s TooManyKeys = ⊥
+
+-- as are scopes of which one doesn't fit
+abbrev pub IsBadList : List LayoutScope → ScopeFault → Type 0
+IsBadList scopes NoMemory = Unit {0}
+IsBadList scopes BadLayout = built [] scopes ≡ None
+IsBadList scopes UnknownScope = ⊥
+IsBadList scopes TooManyKeys = ⊥

@@ -1,0 +1,206 @@
+//! Scopes of context keys, and which of them has the focus.
+ghost use Rattle.std.specs.Prelude.{◌≡◌, ◌<◌, None, Some, length, option_copied, IfOk, IfErr, IsSome, OnOk, OnErr};
+ghost use Rattle.std.specs.FinMap as map;
+ghost use Rattle.kb_context.specs.Scopes.{IsRooted, seen_from};
+
+use crate::draft::Draft;
+use crate::fault::{ScopeFault, UnknownScope};
+use crate::layout::{Layout, SCOPE_LIMIT, count_keys};
+use crate::text::Text;
+use crate::text_map::TextMap;
+use crate::value::ContextValue;
+use std::alloc::Global;
+use std::marker::Model;
+
+/// How many keys may stand in all scopes together (our decision).
+pub const KEY_LIMIT: usize = 10_000;
+
+/// A scope: its name, the place of the scope around it, and the values of its keys.
+#[derive(Debug, Drop)]
+pub(crate) struct Scope {
+    pub(crate) name: Text,
+    pub(crate) parent: Option<usize>,
+    pub(crate) keys: TextMap<ContextValue>,
+}
+
+/// The innermost value of a key from a scope outward. Each scope on the way costs one look-up.
+fn look<'a>(scopes: &'a [Scope], from: usize, key: &str) -> Option<&'a ContextValue>
+    requires inside { from < length scopes.now }
+    requires rooted { IsRooted scopes.now }
+    ensures { option_copied result ≡ map.get (seen_from scopes.now from) key.now }
+{
+    let mut at = from;
+    loop {
+        let scope = &scopes[at];
+        if let Some(value) = scope.keys.get(key) {
+            return Some(value);
+        }
+        match scope.parent {
+            Some(parent) => at = parent,
+            None => return None,
+        }
+    }
+}
+
+/// Nested scopes of context keys, one of which has the focus. A clause sees the keys of the
+/// focus and of the scopes around it, and where several have a key, the innermost value: so the
+/// documentation of when clause contexts has it for the parts of an editor's window. A refused
+/// call leaves the scopes as they were.
+#[derive(Debug, Drop)]
+pub struct Scopes {
+    scopes: Vec<Scope>,
+    places: TextMap<usize>,
+    focus: usize,
+    keys: usize,
+}
+
+impl Model for Scopes {
+    ghost use Rattle.kb_context.specs.Scopes.{ScopesData, IsWellFormed, scopes_code};
+    ghost use Rattle.kb_context.specs.contracts.scopes.Scope as scope;
+
+    ghost Value = { ScopesData };
+
+    ghost coded = { scopes_code scope.the_row.coded };
+
+    ghost view = { λ s. record { scopes = s.scopes.items; focus = s.focus } };
+
+    ghost invariant = { λ s. IsWellFormed s.scopes.items s.places s.focus s.keys };
+}
+
+impl Scopes {
+    ghost use Rattle.kb_context.specs.ScopeFault.{IsRefusal};
+    ghost use Rattle.kb_context.specs.Layout.{layout_fault, scopes_of};
+    ghost use Rattle.kb_context.specs.Scopes.{context, place_of, value_in, value_at, set_fault_at, set_fault, with_value_at, with_value, without_value, with_focus, ReachesRoot, ChangesOnly, ChangesOnlyIn};
+
+    /// The scopes of a layout.
+    ///
+    /// `BadLayout` (21) where there is no scope or more than `SCOPE_LIMIT`, the first has a parent,
+    /// another has none or one that isn't named before it, a name stands twice, or the focus names
+    /// no scope. Then `TooManyKeys` (22) where more than `KEY_LIMIT` keys stand in all scopes
+    /// together. `NoMemory` (5). These rules are our decision.
+    pub fn new(alloc: Global, layout: Layout) -> Result<Scopes, ScopeFault>
+        ensures good { OnOk result (layout_fault layout ≡ None) }
+        ensures ok { IfOk result (λ scopes. scopes ≡ scopes_of layout) }
+        ensures err { IfErr result (IsRefusal (layout_fault layout)) }
+    {
+        let Layout { scopes, focus } = layout;
+        let scopes = scopes.into_vec();
+        if scopes.len() > SCOPE_LIMIT {
+            return Err(ScopeFault::BadLayout);
+        }
+        let count = count_keys(&scopes);
+        let Draft { scopes, places } = Draft::of(alloc, scopes)?;
+        let Some(&focus) = places.get(focus.as_str()) else {
+            return Err(ScopeFault::BadLayout);
+        };
+        let Some(keys) = count else {
+            return Err(ScopeFault::TooManyKeys);
+        };
+        Ok(Scopes {
+            scopes,
+            places,
+            focus,
+            keys,
+        })
+    }
+
+    /// The value of a key that the focus sees: the innermost one from the focus outward, or `None`
+    /// where no scope on the way has the key.
+    pub fn get(&self, key: &str) -> Option<&ContextValue>
+        ensures value { option_copied result ≡ map.get (context self.now) key.now }
+
+        // The context has the maps of all scopes on the way, up to the outermost.
+        ensures whole { ReachesRoot self.now }
+    {
+        look(&self.scopes, self.focus, key)
+    }
+
+    /// Gives a key a value in the scope at a place.
+    fn set_at(&mut self, at: usize, key: &str, value: ContextValue) -> Result<(), ScopeFault>
+        requires { at < length self.old.scopes }
+        ensures allowed { OnOk result (set_fault_at self.old at key.now ≡ None) }
+        ensures ok { OnOk result (self.new ≡ with_value_at self.old at key.now value) }
+        ensures err { IfErr result (IsRefusal (set_fault_at self.old at key.now)) }
+        ensures unchanged { OnErr result (self.new ≡ self.old) }
+        ensures absent { OnErr result (value_at self.old at key.now ≡ None) }
+        ensures change { OnOk result (ChangesOnly self.old self.new at key.now (Some value)) }
+    {
+        let alloc = *self.scopes.allocator();
+        let scope = &mut self.scopes[at];
+        if self.keys >= KEY_LIMIT && !scope.keys.contains_key(key) {
+            return Err(ScopeFault::TooManyKeys);
+        }
+        let before = scope.keys.len();
+        scope.keys.set(alloc, key, value)?;
+        self.keys = self.keys - before + scope.keys.len();
+        Ok(())
+    }
+
+    /// Gives a key a value in the scope of a name.
+    ///
+    /// `UnknownScope` (20) where no scope has the name. `TooManyKeys` (22) where the key is new in
+    /// the scope and `KEY_LIMIT` keys stand in all scopes together. `NoMemory` (5), only where the
+    /// key is new. Both rules are our decision.
+    pub fn set(&mut self, scope: &str, key: &str, value: ContextValue) -> Result<(), ScopeFault>
+        ensures allowed { OnOk result (set_fault self.old scope.now key.now ≡ None) }
+        ensures ok { OnOk result (self.new ≡ with_value self.old scope.now key.now value) }
+        ensures err { IfErr result (IsRefusal (set_fault self.old scope.now key.now)) }
+        ensures unchanged { OnErr result (self.new ≡ self.old) }
+        ensures absent { OnErr result (value_in self.old scope.now key.now ≡ None) }
+        ensures change { OnOk result (ChangesOnlyIn self.old self.new scope.now key.now (Some value)) }
+    {
+        match self.places.get(scope) {
+            Some(&at) => self.set_at(at, key, value),
+            None => Err(ScopeFault::UnknownScope),
+        }
+    }
+
+    /// Gives a key a value in the outermost scope, which is the first one: `TooManyKeys` (22) and
+    /// `NoMemory` (5) as for `set`.
+    pub fn set_root(&mut self, key: &str, value: ContextValue) -> Result<(), ScopeFault>
+        ensures allowed { OnOk result (set_fault_at self.old 0 key.now ≡ None) }
+        ensures ok { OnOk result (self.new ≡ with_value_at self.old 0 key.now value) }
+        ensures err { IfErr result (IsRefusal (set_fault_at self.old 0 key.now)) }
+        ensures unchanged { OnErr result (self.new ≡ self.old) }
+        ensures absent { OnErr result (value_at self.old 0 key.now ≡ None) }
+        ensures change { OnOk result (ChangesOnly self.old self.new 0 key.now (Some value)) }
+    {
+        // No effect at run time: the proof reads from it that there is a scope.
+        let _focus = &self.focus;
+        self.set_at(0, key, value)
+    }
+
+    /// Takes a key out of the scope of a name, which changes nothing where the scope lacks it. It
+    /// takes no memory. `UnknownScope` (20) where no scope has the name.
+    pub fn unset(&mut self, scope: &str, key: &str) -> Result<(), UnknownScope>
+        ensures known { OnOk result (IsSome (place_of scope.now self.old.scopes)) }
+        ensures ok { OnOk result (self.new ≡ without_value self.old scope.now key.now) }
+        ensures unknown { OnErr result (place_of scope.now self.old.scopes ≡ None) }
+        ensures unchanged { OnErr result (self.new ≡ self.old) }
+        ensures change { OnOk result (ChangesOnlyIn self.old self.new scope.now key.now None) }
+    {
+        let Some(&at) = self.places.get(scope) else {
+            return Err(UnknownScope);
+        };
+        let scope = &mut self.scopes[at];
+        let before = scope.keys.len();
+        scope.keys.remove(key);
+        self.keys = self.keys - before + scope.keys.len();
+        Ok(())
+    }
+
+    /// Gives the focus to the scope of a name. It takes no memory. `UnknownScope` (20) where no
+    /// scope has the name.
+    pub fn focus(&mut self, scope: &str) -> Result<(), UnknownScope>
+        ensures known { OnOk result (IsSome (place_of scope.now self.old.scopes)) }
+        ensures ok { OnOk result (self.new ≡ with_focus self.old scope.now) }
+        ensures unknown { OnErr result (place_of scope.now self.old.scopes ≡ None) }
+        ensures unchanged { OnErr result (self.new ≡ self.old) }
+    {
+        let Some(&at) = self.places.get(scope) else {
+            return Err(UnknownScope);
+        };
+        self.focus = at;
+        Ok(())
+    }
+}

@@ -1,0 +1,16 @@
+pub mod Builder
+pub mod Characters
+pub mod Clause
+pub mod ClauseCode
+pub mod ClauseText
+pub mod Grammar
+pub mod Number
+pub mod Operator
+pub mod Parser
+pub mod Same
+pub mod Scan
+pub mod Tokenizer
+pub mod Tree
+pub mod Value
+pub mod WhenFault
+pub mod Words

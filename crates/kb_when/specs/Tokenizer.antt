@@ -1,0 +1,167 @@
+-- The tokens of a text. The rules are our decision.
+use Rattle.std.specs.Prelude.{◌≡◌, ℕ, zero, suc, ◌<◌, List, [], ◌∷◌, Bool, true, false, if◌then◌else◌, nat_eq, not, ◌&&◌, ◌||◌, Option, Some, None, option_map, codes, length, chars}
+use Rattle.kb_when.specs.declared.operator.Operator.TheVariants.{Below, AtMost, Above, AtLeast}
+use Rattle.kb_when.specs.declared.fault.WhenFault.{WhenFault}
+use Rattle.kb_when.specs.declared.fault.WhenFault.TheVariants.{BadToken, NoMemory}
+use Rattle.kb_when.specs.declared.token.Token.{Token}
+use Rattle.kb_when.specs.declared.token.Token.TheVariants.{Or, And, Not, Open, Close, Equal, Unequal, Comparison, Like, Word, Quoted, Pattern}
+use Rattle.kb_when.specs.Characters.{begins_blank, ends_word, is_quote, is_no_letter, front, behind, skipped, bytes_of, behind_sign}
+
+-- a token and the characters that follow it, if there is one
+abbrev pub Read : Type 0
+Read = Option (Token × List ℕ)
+
+-- the token of a sign, or else what the later rules give
+abbrev pub sign_or : Option (List ℕ) → Token → Read → Read
+sign_or (Some rest) t later = Some (t, rest)
+sign_or None t later = later
+
+-- what follows a sign, if white space stands before it and after it
+abbrev pub blank_around : Bool → Option (List ℕ) → Option (List ℕ)
+blank_around spaced None = None
+blank_around spaced (Some rest) = if spaced && begins_blank rest then Some rest else None
+
+-- the token of the first of these signs that is found, or else what the later rules give
+abbrev pub signs_or : (List ℕ → Option (List ℕ)) → List (List ℕ × Token) → Read → Read
+signs_or found [] later = later
+signs_or found (p ∷ signs) later = sign_or (found p.0) p.1 (signs_or found signs later)
+
+-- the comparisons, a longer one before a shorter one
+abbrev pub comparisons : List (List ℕ × Token)
+comparisons =
+    (codes "<=", Comparison AtMost) ∷ (codes ">=", Comparison AtLeast)
+    ∷ (codes "<", Comparison Below) ∷ (codes ">", Comparison Above) ∷ []
+
+-- the other signs, a longer one before a shorter one
+abbrev pub signs : List (List ℕ × Token)
+signs =
+    (codes "===", Equal) ∷ (codes "!==", Unequal) ∷ (codes "==", Equal) ∷ (codes "!=", Unequal) ∷ (codes "=~", Like)
+    ∷ (codes "&&", And) ∷ (codes "||", Or) ∷ (codes "!", Not) ∷ (codes "(", Open) ∷ (codes ")", Close) ∷ []
+
+-- a comparison, which needs white space on both sides
+abbrev pub next_comparison : Bool → List ℕ → Read → Read
+next_comparison spaced cs = signs_or (λ sign. blank_around spaced (behind_sign sign cs)) comparisons
+
+-- another sign
+abbrev pub next_sign : List ℕ → Read → Read
+next_sign cs = signs_or (λ sign. behind_sign sign cs) signs
+
+-- ---- patterns
+
+-- whether the place behind a character is inside a "[..]"; no "[..]" stands in another
+abbrev pub in_class : Bool → ℕ → Bool
+in_class inside c = nat_eq c 91 || (inside && not (nat_eq c 93))
+
+-- a backslash (92) and the character after it, of which a "/" (47) stands for itself
+abbrev pub pair : ℕ → List ℕ → List ℕ
+pair c cs = if nat_eq c 47 then 47 ∷ cs else 92 ∷ c ∷ cs
+
+-- whether a character closes the pattern: a "/" outside a "[..]"
+abbrev pub closes : Bool → ℕ → Bool
+closes inside c = nat_eq c 47 && not inside
+
+-- the text of a pattern up to the "/" that closes it: behind a backslash or not, inside a "[..]" or not
+abbrev pub pattern_text : Bool → Bool → List ℕ → List ℕ
+pattern_text escaped inside [] = []
+pattern_text true inside (c ∷ cs) = pair c (pattern_text false inside cs)
+pattern_text false inside (c ∷ cs) =
+    if nat_eq c 92 then pattern_text true inside cs
+    else (if closes inside c then [] else c ∷ pattern_text false (in_class inside c) cs)
+
+-- the characters from that "/" on, or none
+abbrev pub from_close : Bool → Bool → List ℕ → List ℕ
+from_close escaped inside [] = []
+from_close true inside (c ∷ cs) = from_close false inside cs
+from_close false inside (c ∷ cs) =
+    if nat_eq c 92 then from_close true inside cs
+    else (if closes inside c then c ∷ cs else from_close false (in_class inside c) cs)
+
+-- a pattern and its flags, the letters behind it, unless no "/" closes it
+abbrev pub patterned : List ℕ → List ℕ → Read
+patterned text [] = None
+patterned text (c ∷ rest) = Some (Pattern (bytes_of text) (bytes_of (front is_no_letter rest)), behind is_no_letter rest)
+
+-- the pattern behind its first "/"
+abbrev pub next_pattern : List ℕ → Read
+next_pattern cs = patterned (pattern_text false false cs) (from_close false false cs)
+
+-- right behind "=~" a "/" begins a pattern
+abbrev pub pattern_or : Bool → Option (List ℕ) → Read → Read
+pattern_or true (Some rest) later = next_pattern rest
+pattern_or true None later = later
+pattern_or false o later = later
+
+-- ---- quoted texts and words
+
+-- the text before a quote, unless there is none
+abbrev pub quoted : List ℕ → List ℕ → Read
+quoted text [] = None
+quoted text (c ∷ rest) = Some (Quoted (bytes_of text), rest)
+
+-- the quoted text behind its first quote, up to the next quote
+abbrev pub next_quoted : List ℕ → Read
+next_quoted cs = quoted (front is_quote cs) (behind is_quote cs)
+
+-- a quote begins a quoted text
+abbrev pub quoted_or : Option (List ℕ) → Read → Read
+quoted_or (Some rest) later = next_quoted rest
+quoted_or None later = later
+
+-- a word, which isn't empty
+abbrev pub word_of : List ℕ → List ℕ → Read
+word_of [] rest = None
+word_of (c ∷ cs) rest = Some (Word (bytes_of (c ∷ cs)), rest)
+
+-- the word that they begin with, if they begin with one
+abbrev pub next_word : List ℕ → Read
+next_word cs = word_of (front ends_word cs) (behind ends_word cs)
+
+-- ---- tokens
+
+-- The token by the first rule that applies: where white space stands right before or doesn't, and the token before
+-- is "=~" or isn't.
+abbrev pub next_token : Bool → Bool → List ℕ → Read
+next_token spaced like cs =
+    next_comparison spaced cs
+    (next_sign cs
+    (pattern_or like (behind_sign (codes "/") cs)
+    (quoted_or (behind_sign (codes "'") cs)
+    (word_of (front ends_word cs) (behind ends_word cs)))))
+
+abbrev pub is_like : Token → Bool
+is_like Like = true
+is_like _ = false
+
+-- no tokens at the end of the characters
+abbrev pub unless_empty : List ℕ → Option (List Token) → Option (List Token)
+unless_empty [] o = Some []
+unless_empty (c ∷ cs) o = o
+
+-- a token, if there is one, and those behind it, if they can be read
+abbrev pub after_token : Read → (Token → List ℕ → Option (List Token)) → Option (List Token)
+after_token None later = None
+after_token (Some p) later = option_map (λ ts. p.0 ∷ ts) (later p.0 p.1)
+
+-- the tokens of characters that don't begin with white space, fewer than the count
+abbrev pub lex : ℕ → Bool → Bool → List ℕ → Option (List Token)
+lex zero spaced like cs = None
+lex (suc count) spaced like cs =
+    unless_empty cs (after_token (next_token spaced like cs) (λ t rest. lex count (begins_blank rest) (is_like t) (skipped rest)))
+
+-- the tokens of a text, if each can be read and they are fewer than the count
+unfoldable pub tokens_within : ℕ → List ℕ → Option (List Token)
+tokens_within count text = lex count (begins_blank (chars text)) false (skipped (chars text))
+
+-- The tokens of a text, if each can be read. Each has a character, so there are no more of them than characters.
+unfoldable pub tokens_of : List ℕ → Option (List Token)
+tokens_of text = tokens_within (suc (length (chars text))) text
+
+-- any higher count finds the same tokens
+abbrev pub CountSuffices : List ℕ → Type 0
+CountSuffices text = (count : ℕ) → length (chars text) < count → tokens_within count text ≡ tokens_of text
+
+-- that nothing was read is a bad token; where memory is refused, that may be answered instead
+abbrev pub IsBadToken : {X : Type 0} → Option X → WhenFault → Type 0
+IsBadToken read BadToken = read ≡ None
+IsBadToken read NoMemory = Unit {0}
+IsBadToken read _ = ⊥

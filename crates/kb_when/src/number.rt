@@ -1,0 +1,28 @@
+//! Whole numbers in texts.
+ghost use Rattle.std.specs.Prelude.{◌≡◌};
+ghost use Rattle.std.specs.Str.{bytes_eq};
+ghost use Rattle.std.specs.Fmt.{signed_decimal};
+ghost use Rattle.kb_when.specs.Number.{number_of};
+
+use itoa::Buffer;
+
+/// The number that a text spells, or `None`: an optional `-` and digits, within 64 signed bits.
+/// Leading zeros count for nothing. It takes no memory.
+pub(crate) fn read_number(text: &str) -> Option<i64>
+    ensures { result ≡ number_of text.now }
+{
+    // A clause has no `+` before a number, and Rust's reading has one.
+    let bytes = text.as_bytes();
+    if !bytes.is_empty() && bytes[0] == b'+' {
+        return None;
+    }
+    text.parse().ok()
+}
+
+/// Whether a text is a number's decimal spelling, which has no leading zeros. It takes no memory.
+pub(crate) fn is_spelling(text: &str, number: i64) -> bool
+    ensures { result ≡ bytes_eq (signed_decimal number) text.now }
+{
+    let mut buffer = Buffer::new();
+    buffer.format(number) == text
+}

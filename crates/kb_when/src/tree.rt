@@ -1,0 +1,160 @@
+//! Trees of clauses.
+ghost use Rattle.std.specs.Prelude.{◌≡◌, map};
+ghost use Rattle.std.specs.Str.{bytes_eq};
+ghost use Rattle.kb_when.specs.Same.{same_all};
+ghost use Rattle.kb_when.specs.Tree.{clause_of, clauses_of};
+
+use crate::operator::Operator;
+use kb_context::Text;
+
+/// A clause as the program holds it. Parentheses leave no node of their own.
+#[derive(Debug, Drop)]
+pub(crate) enum Tree {
+    /// `true`.
+    True,
+    /// `false`.
+    False,
+    /// A key alone.
+    Key(Text),
+    /// A key and the text that its value is to be.
+    Equals(Text, Text),
+    /// A key and the number that its value is compared with.
+    Compare(Text, Operator, i64),
+    /// A key, and the key of the list or object in which its value is to be.
+    Member(Text, Text),
+    /// What is not to hold.
+    Not(Box<Tree>),
+    /// Two or more that are all to hold, in the order of the text.
+    And(Vec<Tree>),
+    /// Two or more of which one is to hold, in the order of the text.
+    Or(Vec<Tree>),
+}
+
+/// The trees by their cases. The clause of a tree is a fold, which doesn't compute in a proof:
+/// these functions say what each case stands for.
+impl Tree {
+    ghost use Rattle.kb_when.specs.Clause.{always, never, key, equals, compare, member, not_of, all_of, any_of};
+    ghost use Rattle.kb_when.specs.Tree.{clause_of, clauses_of};
+
+    pub(crate) fn always() -> Tree
+        ensures { clause_of result ≡ always }
+    {
+        Tree::True
+    }
+
+    pub(crate) fn never() -> Tree
+        ensures { clause_of result ≡ never }
+    {
+        Tree::False
+    }
+
+    pub(crate) fn key(name: Text) -> Tree
+        ensures { clause_of result ≡ key name }
+    {
+        Tree::Key(name)
+    }
+
+    pub(crate) fn equal(name: Text, text: Text) -> Tree
+        ensures { clause_of result ≡ equals name text }
+    {
+        Tree::Equals(name, text)
+    }
+
+    pub(crate) fn compare(name: Text, operator: Operator, number: i64) -> Tree
+        ensures { clause_of result ≡ compare name operator number }
+    {
+        Tree::Compare(name, operator, number)
+    }
+
+    pub(crate) fn member(name: Text, other: Text) -> Tree
+        ensures { clause_of result ≡ member name other }
+    {
+        Tree::Member(name, other)
+    }
+
+    pub(crate) fn negation(tree: Box<Tree>) -> Tree
+        ensures { clause_of result ≡ not_of (clause_of tree.value) }
+    {
+        Tree::Not(tree)
+    }
+
+    pub(crate) fn all(trees: Vec<Tree>) -> Tree
+        ensures { clause_of result ≡ all_of (clauses_of (map clause_of trees.items)) }
+    {
+        Tree::And(trees)
+    }
+
+    pub(crate) fn any(trees: Vec<Tree>) -> Tree
+        ensures { clause_of result ≡ any_of (clauses_of (map clause_of trees.items)) }
+    {
+        Tree::Or(trees)
+    }
+}
+
+fn same_text(one: &Text, other: &Text) -> bool
+    ensures { result ≡ bytes_eq one.now other.now }
+{
+    one.as_str() == other.as_str()
+}
+
+#[cycle(same)]
+fn same_trees(trees: &[Tree], others: &[Tree]) -> bool
+    ensures { result ≡
+        same_all (clauses_of (map clause_of trees.now)) (clauses_of (map clause_of others.now)) }
+{
+    if trees.len() != others.len() {
+        return false;
+    }
+    for (i, tree) in trees.iter().enumerate() {
+        if !tree.same(&others[i]) {
+            return false;
+        }
+    }
+    true
+}
+
+impl Tree {
+    ghost use Rattle.kb_when.specs.Same.{same};
+    ghost use Rattle.kb_when.specs.Tree.{clause_of};
+
+    /// Whether both are one clause. It takes no memory.
+    #[cycle(same)]
+    pub(crate) fn same(&self, other: &Tree) -> bool
+        ensures { result ≡ same (clause_of self.now) (clause_of other.now) }
+    {
+        match self {
+            Tree::True => matches!(other, Tree::True),
+            Tree::False => matches!(other, Tree::False),
+            Tree::Key(key) => match other {
+                Tree::Key(other) => same_text(key, other),
+                _ => false,
+            },
+            Tree::Equals(key, text) => match other {
+                Tree::Equals(other, value) => same_text(key, other) && same_text(text, value),
+                _ => false,
+            },
+            Tree::Compare(key, operator, number) => match other {
+                Tree::Compare(other, by, with) => {
+                    same_text(key, other) && operator.is(*by) && *number == *with
+                }
+                _ => false,
+            },
+            Tree::Member(key, among) => match other {
+                Tree::Member(other, list) => same_text(key, other) && same_text(among, list),
+                _ => false,
+            },
+            Tree::Not(tree) => match other {
+                Tree::Not(other) => tree.same(other),
+                _ => false,
+            },
+            Tree::And(trees) => match other {
+                Tree::And(others) => same_trees(trees, others),
+                _ => false,
+            },
+            Tree::Or(trees) => match other {
+                Tree::Or(others) => same_trees(trees, others),
+                _ => false,
+            },
+        }
+    }
+}

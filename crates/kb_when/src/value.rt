@@ -1,0 +1,116 @@
+//! The values of clauses over the values of context keys.
+ghost use Rattle.std.specs.Prelude.{◌≡◌, option_copied};
+ghost use Rattle.std.specs.List.{list_any};
+ghost use Rattle.std.specs.Str.{bytes_eq};
+ghost use Rattle.kb_when.specs.Value.{key_holds, equals_holds, compare_holds, member_holds};
+
+use crate::number::{is_spelling, read_number};
+use crate::operator::Operator;
+use crate::tree::Tree;
+use kb_context::{ContextValue, Scopes, Seq, Text};
+
+/// Whether a key alone holds.
+fn key_of(value: Option<&ContextValue>) -> bool
+    ensures { result ≡ key_holds (option_copied value.entry) }
+{
+    match value {
+        None => false,
+        Some(ContextValue::Truth(truth)) => *truth,
+        Some(ContextValue::Number(number)) => *number != 0,
+        Some(ContextValue::Text(text)) => !text.as_str().is_empty(),
+        Some(ContextValue::Texts(_)) => true,
+        Some(ContextValue::Names(_)) => true,
+    }
+}
+
+/// Whether a key's value is a text, or a number of that spelling.
+fn equals_of(value: Option<&ContextValue>, text: &str) -> bool
+    ensures { result ≡ equals_holds (option_copied value.entry) text.now }
+{
+    match value {
+        Some(ContextValue::Text(found)) => found.as_str() == text,
+        Some(ContextValue::Number(number)) => is_spelling(text, *number),
+        _ => false,
+    }
+}
+
+/// Whether a key's value is a number, or a text that spells one, of which the comparison is true.
+fn compare_of(value: Option<&ContextValue>, operator: Operator, number: i64) -> bool
+    ensures { result ≡ compare_holds (option_copied value.entry) operator number }
+{
+    match value {
+        Some(ContextValue::Number(found)) => operator.compares(*found, number),
+        Some(ContextValue::Text(text)) => match read_number(text.as_str()) {
+            Some(found) => operator.compares(found, number),
+            None => false,
+        },
+        _ => false,
+    }
+}
+
+fn contains(texts: &Seq<Text>, text: &str) -> bool
+    ensures { result ≡ list_any (bytes_eq text.now) texts.now }
+{
+    for item in texts.as_slice() {
+        if text == item.as_str() {
+            return true;
+        }
+    }
+    false
+}
+
+/// Whether a key's value is a text that another key's list contains, or that is the name of a
+/// member of its object.
+fn member_of(value: Option<&ContextValue>, other: Option<&ContextValue>) -> bool
+    ensures { result ≡ member_holds (option_copied value.entry) (option_copied other.entry) }
+{
+    match value {
+        Some(ContextValue::Text(text)) => match other {
+            Some(ContextValue::Texts(texts)) => contains(texts, text.as_str()),
+            Some(ContextValue::Names(names)) => contains(names, text.as_str()),
+            _ => false,
+        },
+        _ => false,
+    }
+}
+
+impl Tree {
+    ghost use Rattle.kb_context.specs.Scopes.{context};
+    ghost use Rattle.kb_when.specs.Tree.{clause_of};
+    ghost use Rattle.kb_when.specs.Value.{value};
+
+    /// Whether the clause holds over the keys that the focus sees. It takes no memory.
+    pub(crate) fn holds(&self, scopes: &Scopes) -> bool
+        ensures { result ≡ value (context scopes.now) (clause_of self.now) }
+    {
+        match self {
+            Tree::True => true,
+            Tree::False => false,
+            Tree::Key(key) => key_of(scopes.get(key.as_str())),
+            Tree::Equals(key, text) => equals_of(scopes.get(key.as_str()), text.as_str()),
+            Tree::Compare(key, operator, number) => {
+                compare_of(scopes.get(key.as_str()), *operator, *number)
+            }
+            Tree::Member(key, other) => {
+                member_of(scopes.get(key.as_str()), scopes.get(other.as_str()))
+            }
+            Tree::Not(tree) => !tree.holds(scopes),
+            Tree::And(trees) => {
+                for tree in trees {
+                    if !tree.holds(scopes) {
+                        return false;
+                    }
+                }
+                true
+            }
+            Tree::Or(trees) => {
+                for tree in trees {
+                    if tree.holds(scopes) {
+                        return true;
+                    }
+                }
+                false
+            }
+        }
+    }
+}
