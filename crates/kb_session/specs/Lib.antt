@@ -1,10 +1,3 @@
 pub mod Fault
-pub mod Lines
-pub mod Reading
-pub mod Script
-pub mod ScriptLine
-pub mod ScriptRun
 pub mod Session
 pub mod State
-pub mod UserFile
-pub mod Writing

@@ -1,14 +1,16 @@
 -- What the calls of a session do to it.
-use Rattle.std.specs.Prelude.{◌≡◌, ℕ, Bool, true, false, List, [], ◌++◌, Result, Ok, Err, ⊤}
+use Rattle.std.specs.Prelude.{◌≡◌, ℕ, Bool, true, false, List, [], ◌++◌, Option, Result, Ok, Err, ⊤}
 use Rattle.kb_rules.specs.RuleList.{Listed}
-use Rattle.kb_session.specs.declared.fault.FileFault.{FileFault}
-use Rattle.kb_session.specs.declared.fault.LoadFile.TheVariants.{User}
+use Rattle.kb_files.specs.declared.fault.FileFault.{FileFault}
+use Rattle.kb_files.specs.Layout.{layout_scopes}
+use Rattle.kb_files.specs.UserFile.{user_rules}
+use Rattle.kb_context.specs.Scopes.{ScopesData}
+use Rattle.kb_session.specs.declared.fault.LoadFile.TheVariants.{Layout, User}
 use Rattle.kb_session.specs.declared.fault.LoadFault.{LoadFault}
 use Rattle.kb_session.specs.declared.fault.LoadFault.TheVariants as load
 use Rattle.kb_session.specs.declared.fault.SessionFault.{SessionFault}
 use Rattle.kb_session.specs.declared.fault.SessionFault.TheVariants.{NoMemory, Stopped}
 use Rattle.kb_session.specs.State.{State, Told, loaded_state, state_after, lines_of, state_after_all, lines_of_all}
-use Rattle.kb_session.specs.UserFile.{user_rules}
 
 -- what contracts see of a session
 pub record Seen : Type 0 where
@@ -16,16 +18,17 @@ pub record Seen : Type 0 where
   pub trace : List (List ℕ)
   pub stopped : Bool
 
-abbrev pub loaded_session : Listed → Seen
-loaded_session user = record { state = loaded_state user; trace = []; stopped = false }
+abbrev pub loaded_session : ScopesData → Listed → Seen
+loaded_session scopes user = record { state = loaded_state scopes user; trace = []; stopped = false }
 
--- what the bytes of the user's rules load: a session, or the fault of the file
-abbrev pub loaded_by : Result Listed FileFault → Result Seen LoadFault
-loaded_by (Ok user) = Ok (loaded_session user)
-loaded_by (Err fault) = Err (load.Refused User fault)
+-- what the layout and the user's rules load: a session, or the first file's fault
+abbrev pub loaded_by : Result ScopesData FileFault → Result Listed FileFault → Result Seen LoadFault
+loaded_by (Err fault) user = Err (load.Refused Layout fault)
+loaded_by (Ok scopes) (Err fault) = Err (load.Refused User fault)
+loaded_by (Ok scopes) (Ok user) = Ok (loaded_session scopes user)
 
-abbrev pub loaded : List ℕ → Result Seen LoadFault
-loaded user = loaded_by (user_rules user)
+abbrev pub loaded : Option (List ℕ) → List ℕ → Result Seen LoadFault
+loaded layout user = loaded_by (layout_scopes layout) (user_rules user)
 
 -- a load that fails has the fault of a file, or was refused memory
 abbrev pub FailsToLoad : LoadFault → Result Seen LoadFault → Type 0

@@ -1,35 +1,17 @@
-//! Why a load, a call of a session or a script was refused. The numbers and the names are the
-//! engine's own.
+//! Why a load or a call of a session was refused. The numbers and the names are the engine's own.
 ghost use Rattle.std.specs.Prelude.{◌≡◌};
 ghost use Rattle.kb_session.specs.Fault as fault;
 
 use kb_context::NoMemory;
+use kb_files::FileFault;
 use std::fmt;
 use thiserror::Error;
 
-/// What is wrong with a file as a whole.
-#[derive(Clone, Copy, Debug, PartialEq, Eq, Error)]
-pub enum FileFault {
-    /// The bytes are no UTF-8 text.
-    #[error("the file is no UTF-8 text")]
-    NotUtf8,
-    /// A block comment has no end.
-    #[error("a block comment has no end")]
-    OpenComment,
-    /// A string has no closing quote.
-    #[error("a string has no end")]
-    OpenString,
-    /// Without comments and trailing commas the text is no JSON, or nests deeper than 127 levels.
-    #[error("the file is no JSON text")]
-    Syntax,
-    /// The JSON value is none of the kind that the file has to be.
-    #[error("the file has another shape")]
-    WrongShape,
-}
-
-/// A file that a load reads.
+/// A file that a load reads, in the order of loading.
 #[derive(Clone, Copy, Debug, PartialEq, Eq)]
 pub enum LoadFile {
+    /// The layout of the scopes.
+    Layout,
     /// The user's rules.
     User,
 }
@@ -45,14 +27,6 @@ pub enum LoadFault {
     Refused(LoadFile, FileFault),
 }
 
-/// Why an event was refused. A refused event changes nothing but the trace, which has its line.
-#[derive(Clone, Copy, Debug, PartialEq, Eq, Error)]
-pub enum Refusal {
-    /// The file of a reload is refused.
-    #[error("{0}")]
-    File(FileFault),
-}
-
 /// Why a call of a session did nothing more.
 #[derive(Clone, Copy, Debug, PartialEq, Eq, Error)]
 pub enum SessionFault {
@@ -64,54 +38,6 @@ pub enum SessionFault {
     Stopped,
 }
 
-/// Why a script did not run to its end.
-#[derive(Clone, Copy, Debug, PartialEq, Eq, Error)]
-pub enum ScriptFault {
-    /// Memory was refused. From then on the session is stopped.
-    #[error("out of memory")]
-    NoMemory,
-    /// The session was stopped before.
-    #[error("the session is stopped")]
-    Stopped,
-    /// The script has more bytes than a script may have.
-    #[error("the script is too long")]
-    TooLong,
-    /// The reader failed.
-    #[error("the script can't be read")]
-    ReadFailed,
-    /// The writer failed, or took nothing.
-    #[error("the trace can't be written")]
-    WriteFailed,
-}
-
-impl FileFault {
-    /// The number under which the engine lists the fault.
-    pub fn number(self) -> u32
-        ensures { result ≡ fault.file_number self }
-    {
-        match self {
-            FileFault::NotUtf8 => 1,
-            FileFault::OpenComment => 2,
-            FileFault::OpenString => 3,
-            FileFault::Syntax => 4,
-            FileFault::WrongShape => 41,
-        }
-    }
-
-    /// The name under which the engine lists the fault.
-    pub fn name(self) -> &'static str
-        ensures { result.now ≡ fault.file_name self }
-    {
-        match self {
-            FileFault::NotUtf8 => "NotUtf8",
-            FileFault::OpenComment => "OpenComment",
-            FileFault::OpenString => "OpenString",
-            FileFault::Syntax => "Syntax",
-            FileFault::WrongShape => "WrongShape",
-        }
-    }
-}
-
 /// Shows the word by which the line of a refused load names the file.
 impl fmt::Display for LoadFile {
     ghost use Rattle.std.specs.Prelude.{Some};
@@ -121,6 +47,7 @@ impl fmt::Display for LoadFile {
 
     fn fmt<W: fmt::Write>(&self, f: &mut fmt::Formatter<W>) -> fmt::Result {
         match self {
+            LoadFile::Layout => f.write_str("layout"),
             LoadFile::User => f.write_str("user"),
         }
     }
@@ -148,26 +75,6 @@ impl LoadFault {
     }
 }
 
-impl Refusal {
-    /// The number under which the engine lists the refusal.
-    pub fn number(self) -> u32
-        ensures { result ≡ fault.refusal_number self }
-    {
-        match self {
-            Refusal::File(file_fault) => file_fault.number(),
-        }
-    }
-
-    /// The name under which the engine lists the refusal.
-    pub fn name(self) -> &'static str
-        ensures { result.now ≡ fault.refusal_name self }
-    {
-        match self {
-            Refusal::File(file_fault) => file_fault.name(),
-        }
-    }
-}
-
 impl SessionFault {
     /// The number under which the engine lists the fault.
     pub fn number(self) -> u32
@@ -186,34 +93,6 @@ impl SessionFault {
         match self {
             SessionFault::NoMemory => "NoMemory",
             SessionFault::Stopped => "Stopped",
-        }
-    }
-}
-
-impl ScriptFault {
-    /// The number under which the engine lists the fault.
-    pub fn number(self) -> u32
-        ensures { result ≡ fault.script_number self }
-    {
-        match self {
-            ScriptFault::NoMemory => 5,
-            ScriptFault::Stopped => 97,
-            ScriptFault::TooLong => 100,
-            ScriptFault::ReadFailed => 101,
-            ScriptFault::WriteFailed => 102,
-        }
-    }
-
-    /// The name under which the engine lists the fault.
-    pub fn name(self) -> &'static str
-        ensures { result.now ≡ fault.script_name self }
-    {
-        match self {
-            ScriptFault::NoMemory => "NoMemory",
-            ScriptFault::Stopped => "Stopped",
-            ScriptFault::TooLong => "TooLong",
-            ScriptFault::ReadFailed => "ReadFailed",
-            ScriptFault::WriteFailed => "WriteFailed",
         }
     }
 }

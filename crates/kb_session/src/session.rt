@@ -1,32 +1,32 @@
 //! A session: its state, what it is told and does, and the trace of that.
-ghost use Rattle.std.specs.Prelude.{◌≡◌, false, [], ◌∷◌, ◌++◌, OnOk, OnErr, IfOk, IfErr, map, Ok, string_bytes};
-ghost use Rattle.kb_session.specs.Lines as line;
+ghost use Rattle.std.specs.Prelude.{◌≡◌, false, [], ◌∷◌, ◌++◌, OnOk, OnErr, IfOk, IfErr, map, option_map, Ok, string_bytes};
+ghost use Rattle.kb_trace.specs.Lines as line;
 ghost use Rattle.kb_session.specs.State as model;
 ghost use Rattle.kb_session.specs.State.{happens, reload};
+ghost use Rattle.kb_trace.specs.declared.event.Answer.TheVariants.{Refused};
 ghost use Rattle.kb_session.specs.Session.{loaded, FailsToLoad, after_told, after_all, Stops, FailsAt, FailsAmong};
 
-use crate::event::{Answer, Event};
-use crate::fault::{LoadFault, LoadFile, Refusal, SessionFault};
+use crate::fault::{LoadFault, LoadFile, SessionFault};
 use crate::inputs::Inputs;
-use crate::lines;
 use crate::start::start_command;
-use crate::user_file::read_user_rules;
-use kb_context::{NoMemory, ReadError, Seq, Text};
-use kb_core::Core;
+use kb_context::{ContextValue, NoMemory, ReadError, ScopeFault, Scopes, Seq, Text, UnknownScope};
+use kb_core::{Core, HeldCore};
+use kb_files::{read_scopes, read_user_rules};
 use kb_keys::Keystroke;
 use kb_resolve::{ChordState, Pressed, Resolver};
 use kb_rules::{Rule, RuleList, RuleSet, Warning};
+use kb_trace::{Answer, Event, Refusal, lines};
 use std::alloc::{AllocError, Global};
 use std::collections::VecDeque;
 use std::marker::Model;
 
-/// A session of the engine. Contracts see its state (the core, the user's rules and the keystrokes
+/// A session of the engine. Contracts see its state (the core with its text and scopes, the user's rules and the keystrokes
 /// of the chord that is open), its trace, and whether it is stopped. Once memory was refused it is
 /// stopped for good: each later call answers `Stopped`, and `trace` gives the lines up to the one
 /// call that was refused memory.
 #[derive(Drop)]
 pub struct Session {
-    core: Core,
+    core: HeldCore,
     user: RuleList,
     resolver: Resolver,
     chord: ChordState,
@@ -57,9 +57,16 @@ impl Session {
     ///
     /// Errors: `Refused` with the first file that has a fault, and its first fault; `NoMemory`.
     pub fn load(alloc: Global, inputs: Inputs<'_>) -> Result<Session, LoadFault>
-        ensures ok { IfOk result (λ session. loaded inputs.entry.user.now ≡ Ok session) }
-        ensures err { IfErr result (λ fault. FailsToLoad fault (loaded inputs.entry.user.now)) }
+        ensures ok { IfOk result (λ session. loaded (option_map (λ layout. layout.now) inputs.entry.layout) inputs.entry.user.now ≡ Ok session) }
+        ensures err { IfErr result (λ fault. FailsToLoad fault (loaded (option_map (λ layout. layout.now) inputs.entry.layout) inputs.entry.user.now)) }
     {
+        let scopes = match read_scopes(alloc, inputs.layout) {
+            Ok(scopes) => scopes,
+            Err(ReadError::NoMemory) => return Err(LoadFault::NoMemory),
+            Err(ReadError::Fault(fault)) => {
+                return Err(LoadFault::Refused(LoadFile::Layout, fault));
+            }
+        };
         let user = match read_user_rules(alloc, inputs.user) {
             Ok(user) => user,
             Err(ReadError::NoMemory) => return Err(LoadFault::NoMemory),
@@ -69,7 +76,7 @@ impl Session {
         };
         let resolver = resolver_of(alloc, &user)?;
         Ok(Session {
-            core: Core::new(alloc),
+            core: HeldCore::new(Core::new(alloc, scopes)),
             user,
             resolver,
             chord: ChordState::new(alloc),
@@ -99,7 +106,7 @@ impl Session {
     /// Errors: `Stopped` where the session was stopped before; `NoMemory` where memory was
     /// refused: the trace is as before the event, and the session is stopped.
     pub fn handle(&mut self, event: Event) -> Result<Answer, SessionFault>
-        ensures ok { IfOk result (λ answer. (self.old.stopped ≡ false) × (answer ≡ model.answer_to (happens event)) × (self.new ≡ after_told (happens event) self.old)) }
+        ensures ok { IfOk result (λ answer. (self.old.stopped ≡ false) × (answer ≡ model.answer_to (happens event) self.old.state) × (self.new ≡ after_told (happens event) self.old)) }
         ensures err { IfErr result (λ fault. FailsAt fault self.old self.new) }
     {
         if self.stopped {
@@ -107,10 +114,13 @@ impl Session {
         }
         let done = match event {
             Event::Key(key) => self.press(key),
+            Event::Focus(scope) => self.focus(scope.as_str()),
+            Event::SetKey(scope, key, value) => self.set_key(scope.as_str(), key.as_str(), value),
+            Event::UnsetKey(scope, key) => self.unset_key(scope.as_str(), key.as_str()),
             Event::Unread(number) => self.note_unread(number),
         };
         match done {
-            Ok(()) => Ok(Answer::Did),
+            Ok(answer) => Ok(answer),
             Err(_) => {
                 self.stop();
                 Err(SessionFault::NoMemory)
@@ -123,7 +133,7 @@ impl Session {
     ///
     /// Errors: as `handle`.
     pub fn reload_user(&mut self, bytes: &[u8]) -> Result<Answer, SessionFault>
-        ensures ok { IfOk result (λ answer. (self.old.stopped ≡ false) × (answer ≡ model.answer_to (reload bytes.now)) × (self.new ≡ after_told (reload bytes.now) self.old)) }
+        ensures ok { IfOk result (λ answer. (self.old.stopped ≡ false) × (answer ≡ model.answer_to (reload bytes.now) self.old.state) × (self.new ≡ after_told (reload bytes.now) self.old)) }
         ensures err { IfErr result (λ fault. FailsAt fault self.old self.new) }
     {
         if self.stopped {
@@ -157,27 +167,38 @@ impl Session {
         Ok(())
     }
 
-    /// Whether memory was refused, so that each call answers `Stopped`.
-    pub(crate) fn is_stopped(&self) -> bool
+    /// Whether memory was refused, so that each call answers `Stopped`. It takes no memory.
+    pub fn is_stopped(&self) -> bool
         ensures { result ≡ self.now.stopped }
     {
         self.stopped
     }
 
-    /// Stops the session.
-    pub(crate) fn stop(&mut self)
+    /// Stops the session, as refused memory does: a caller that was refused memory for what it was
+    /// to tell the session stops it, so that no later line follows one that is missing. It takes no
+    /// memory.
+    pub fn stop(&mut self)
         ensures { Stops self.old self.new }
     {
         self.stopped = true;
     }
 
-    fn press(&mut self, key: Keystroke) -> Result<(), NoMemory>
+    fn press(&mut self, key: Keystroke) -> Result<Answer, NoMemory>
+        ensures ok { IfOk result (λ answer. (answer ≡ model.answer_to (happens (Event.Key key)) self.old.state) × (self.new ≡ after_told (happens (Event.Key key)) self.old)) }
+        ensures err { OnErr result (self.new.trace ≡ self.old.trace) }
+    {
+        self.press_key(key)?;
+        Ok(Answer::Did)
+    }
+
+    fn press_key(&mut self, key: Keystroke) -> Result<(), NoMemory>
         ensures ok { OnOk result (self.new ≡ after_told (happens (Event.Key key)) self.old) }
         ensures err { OnErr result (self.new.trace ≡ self.old.trace) }
     {
         let key = &key;
         let text = lines::key_text(self.alloc, self.chord.pressed(), *key)?;
-        match self.chord.press(*key, &self.resolver)? {
+        let scopes = &self.core.core().scopes;
+        match self.chord.press(*key, &self.resolver, scopes)? {
             Pressed::Start(rule) => start_rule(
                 self.alloc,
                 text,
@@ -191,15 +212,71 @@ impl Session {
         }
     }
 
-    fn note_unread(&mut self, number: u64) -> Result<(), NoMemory>
-        ensures ok { OnOk result (self.new ≡ after_told (happens (Event.Unread number)) self.old) }
+    /// Gives the focus to a scope. A chord that is open is left (our decision).
+    fn focus(&mut self, scope: &str) -> Result<Answer, NoMemory>
+        ensures ok { IfOk result (λ answer. (answer ≡ model.answer_to (happens (Event.Focus scope.now)) self.old.state) × (self.new ≡ after_told (happens (Event.Focus scope.now)) self.old)) }
         ensures err { OnErr result (self.new.trace ≡ self.old.trace) }
     {
-        self.trace.push(lines::unread_line(self.alloc, number)?)
+        match self.core.focus(scope) {
+            Ok(()) => {
+                let line = lines::focus_line(self.alloc, scope)?;
+                note_leaving(self.alloc, self.chord.pressed(), line, &mut self.trace)?;
+                self.chord.leave();
+                Ok(Answer::Did)
+            }
+            Err(UnknownScope) => self.refuse(Refusal::UnknownScope),
+        }
+    }
+
+    /// Gives a key a value in a scope. A chord that is open stays (our decision).
+    fn set_key(&mut self, scope: &str, key: &str, value: ContextValue) -> Result<Answer, NoMemory>
+        ensures ok { IfOk result (λ answer. (answer ≡ model.answer_to (happens (Event.SetKey scope.now key.now value)) self.old.state) × (self.new ≡ after_told (happens (Event.SetKey scope.now key.now value)) self.old)) }
+        ensures err { OnErr result (self.new.trace ≡ self.old.trace) }
+    {
+        match self.core.set(scope, key, value) {
+            Ok(()) => {
+                self.trace.push(lines::set_line(self.alloc, scope, key)?)?;
+                Ok(Answer::Did)
+            }
+            Err(ScopeFault::UnknownScope) => self.refuse(Refusal::UnknownScope),
+            Err(ScopeFault::TooManyKeys) => self.refuse(Refusal::TooManyKeys),
+            Err(ScopeFault::BadLayout) | Err(ScopeFault::NoMemory) => Err(AllocError),
+        }
+    }
+
+    /// Takes a key out of a scope. A chord that is open stays (our decision).
+    fn unset_key(&mut self, scope: &str, key: &str) -> Result<Answer, NoMemory>
+        ensures ok { IfOk result (λ answer. (answer ≡ model.answer_to (happens (Event.UnsetKey scope.now key.now)) self.old.state) × (self.new ≡ after_told (happens (Event.UnsetKey scope.now key.now)) self.old)) }
+        ensures err { OnErr result (self.new.trace ≡ self.old.trace) }
+    {
+        match self.core.unset(scope, key) {
+            Ok(()) => {
+                self.trace.push(lines::unset_line(self.alloc, scope, key)?)?;
+                Ok(Answer::Did)
+            }
+            Err(UnknownScope) => self.refuse(Refusal::UnknownScope),
+        }
+    }
+
+    fn note_unread(&mut self, number: u64) -> Result<Answer, NoMemory>
+        ensures ok { IfOk result (λ answer. (answer ≡ model.answer_to (happens (Event.Unread number)) self.old.state) × (self.new ≡ after_told (happens (Event.Unread number)) self.old)) }
+        ensures err { OnErr result (self.new.trace ≡ self.old.trace) }
+    {
+        self.trace.push(lines::unread_line(self.alloc, number)?)?;
+        Ok(Answer::Did)
+    }
+
+    /// Notes the line of a refusal.
+    fn refuse(&mut self, refusal: Refusal) -> Result<Answer, NoMemory>
+        ensures ok { IfOk result (λ answer. (answer ≡ Refused refusal) × (self.new ≡ record self.old { trace = self.old.trace ++ line.refused_line refusal ∷ [] })) }
+        ensures err { OnErr result (self.new.trace ≡ self.old.trace) }
+    {
+        self.trace.push(lines::refused_line(self.alloc, refusal)?)?;
+        Ok(Answer::Refused(refusal))
     }
 
     fn reload(&mut self, bytes: &[u8]) -> Result<Answer, NoMemory>
-        ensures ok { IfOk result (λ answer. (answer ≡ model.answer_to (reload bytes.now)) × (self.new ≡ after_told (reload bytes.now) self.old)) }
+        ensures ok { IfOk result (λ answer. (answer ≡ model.answer_to (reload bytes.now) self.old.state) × (self.new ≡ after_told (reload bytes.now) self.old)) }
         ensures err { OnErr result (self.new.trace ≡ self.old.trace) }
     {
         match read_user_rules(self.alloc, bytes) {
@@ -207,11 +284,7 @@ impl Session {
                 self.take_rules(user)?;
                 Ok(Answer::Did)
             }
-            Err(ReadError::Fault(fault)) => {
-                let refusal = Refusal::File(fault);
-                self.trace.push(lines::refused_line(self.alloc, refusal)?)?;
-                Ok(Answer::Refused(refusal))
-            }
+            Err(ReadError::Fault(fault)) => self.refuse(Refusal::File(fault)),
             Err(ReadError::NoMemory) => Err(AllocError),
         }
     }
@@ -222,7 +295,8 @@ impl Session {
         ensures err { OnErr result (self.new.trace ≡ self.old.trace) }
     {
         let resolver = resolver_of(self.alloc, &user)?;
-        note_reload(self.alloc, self.chord.pressed(), &mut self.trace)?;
+        let line = lines::reloaded_line(self.alloc)?;
+        note_leaving(self.alloc, self.chord.pressed(), line, &mut self.trace)?;
         self.chord.leave();
         self.resolver = resolver;
         self.user = user;
@@ -238,16 +312,20 @@ fn resolver_of(alloc: Global, user: &RuleList) -> Result<Resolver, NoMemory>
     Resolver::build(alloc, &rules)
 }
 
-/// Notes a reload, and the chord that it leaves, if one is open.
-fn note_reload(alloc: Global, pressed: &[Keystroke], trace: &mut Seq<Text>) -> Result<(), NoMemory>
-    ensures ok { OnOk result (trace.new ≡ trace.old ++ (model.left_lines pressed.now ++ line.reloaded_line ∷ [])) }
+/// Notes the line of an event that leaves a chord, and before it the chord, if one is open.
+fn note_leaving(
+    alloc: Global,
+    pressed: &[Keystroke],
+    line: Text,
+    trace: &mut Seq<Text>,
+) -> Result<(), NoMemory>
+    ensures ok { OnOk result (trace.new ≡ trace.old ++ (model.left_lines pressed.now ++ line ∷ [])) }
     ensures err { OnErr result (trace.new ≡ trace.old) }
 {
-    let reloaded = lines::reloaded_line(alloc)?;
     if pressed.is_empty() {
-        return trace.push(reloaded);
+        return trace.push(line);
     }
-    trace.push_two(lines::left_line(alloc, pressed)?, reloaded)
+    trace.push_two(lines::left_line(alloc, pressed)?, line)
 }
 
 /// Starts the command of a rule, and notes its lines, the first of which begins with a text.
@@ -255,7 +333,7 @@ fn start_rule(
     alloc: Global,
     text: String,
     rule: &Rule,
-    core: &mut Core,
+    core: &mut HeldCore,
     trace: &mut Seq<Text>,
 ) -> Result<(), NoMemory>
     ensures core { OnOk result (core.new ≡ model.core_after_rule rule.now.command rule.now core.old) }

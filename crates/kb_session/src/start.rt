@@ -1,20 +1,18 @@
 //! The start of a command.
 ghost use Rattle.std.specs.Prelude.{◌≡◌, IsTrue, OnOk, IfOk, IfSome, option_map};
-ghost use Rattle.kb_core.specs.Core.{core_after};
 ghost use Rattle.kb_core.specs.Native.{parameters_of};
 ghost use Rattle.kb_core.specs.Reading.{arguments_for};
 ghost use Rattle.kb_core.specs.Signature.{fits};
 ghost use Rattle.kb_session.specs.State as model;
 
-use crate::lines;
 use kb_context::{NoMemory, Text};
-use kb_core::{Args, Core, Native, plain};
+use kb_core::{Args, HeldCore, Native};
 use kb_rules::{Json, Rule};
+use kb_trace::lines;
 use std::alloc::Global;
-use std::mem;
 
 /// Starts the command of a rule, and gives the line that ends the start.
-pub fn start_command(alloc: Global, rule: &Rule, core: &mut Core) -> Result<Text, NoMemory>
+pub fn start_command(alloc: Global, rule: &Rule, core: &mut HeldCore) -> Result<Text, NoMemory>
     ensures core { OnOk result (core.new ≡ model.core_started (model.start_of rule.now) core.old) }
     ensures line { IfOk result (λ line. line ≡ model.end_line rule.now.command (model.start_of rule.now) core.old) }
 {
@@ -24,8 +22,8 @@ pub fn start_command(alloc: Global, rule: &Rule, core: &mut Core) -> Result<Text
     };
     match arguments_of(alloc, native, rule.args.as_ref())? {
         Some(args) => {
-            run_native(alloc, native, args, core)?;
-            lines::done_line(alloc, &core.buffer)
+            core.run(native, args)?;
+            lines::done_line(alloc, &core.core().buffer)
         }
         None => lines::bad_arguments_line(alloc, command),
     }
@@ -45,16 +43,4 @@ fn arguments_of(
         Some(json) => signature.read_args(alloc, Some(json.as_value())),
         None => signature.read_args(alloc, None),
     }
-}
-
-/// Runs a native command on the core, in place, with arguments that fit it.
-fn run_native(alloc: Global, native: Native, args: Args, core: &mut Core) -> Result<(), NoMemory>
-    requires { IsTrue (fits (parameters_of native) args) }
-    ensures { OnOk result (core.new ≡ core_after native args core.old) }
-{
-    let taken = mem::replace(core, Core::new(alloc));
-    let ran = plain(native, taken, args);
-    *core = ran.core;
-    ran.cost?;
-    Ok(())
 }

@@ -1,0 +1,9 @@
+-- The elements of an array, seen as data.
+use Rattle.std.proofs.Common.{◌≡◌, List, [], ◌∷◌, refl, ap}
+use Rattle.serde_json.specs.Data.{Data}
+use Rattle.serde_json.specs.View.{items_of}
+use Rattle.kb_files.specs.UserFile.{elements}
+
+pub elements_view : (ds : List Data) → elements (items_of ds) ≡ ds
+elements_view [] = refl
+elements_view (d ∷ ds) = ap (λ (rest : List Data). d ∷ rest) (elements_view ds)

@@ -1,0 +1,4 @@
+pub mod Fault
+pub mod Script
+pub mod ScriptLine
+pub mod ScriptRun

@@ -1,0 +1,130 @@
+-- What the bytes of a script tell a session.
+use Rattle.std.specs.Prelude.{ℕ, ◌+◌, ◌-◌, Bool, false, not, ◌&&◌, ◌||◌, List, [], ◌∷◌, ◌++◌, Option, Some, None, option_map, Result, Ok, Err, codes, ◌==◌, nat_eq, nat_lt, length, take, slice_get, if◌then◌else◌, option_to_list}
+use Rattle.std.specs.List.{slice_split, before_first, after_first, position_or_len, list_any, list_all}
+use Rattle.std.specs.Str.{bytes_eq, is_utf8}
+use Rattle.kb_context.specs.declared.value.ContextValue.{ContextValue}
+use Rattle.kb_files.specs.declared.fault.FileFault.{FileFault}
+use Rattle.kb_files.specs.Context.{context_in}
+use Rattle.kb_keys.specs.declared.key_fault.KeyFault.{KeyFault}
+use Rattle.kb_keys.specs.declared.keystroke.Keystroke.{Keystroke}
+use Rattle.kb_keys.specs.Keystroke.{keystroke_of}
+use Rattle.kb_trace.specs.declared.event.Event.{Event}
+use Rattle.kb_trace.specs.declared.event.Event.TheVariants as event
+use Rattle.kb_session.specs.State.{Told, happens, reload}
+
+abbrev pub is_space : ℕ → Bool
+is_space b = b == 32
+
+abbrev pub is_line_feed : ℕ → Bool
+is_line_feed b = b == 10
+
+abbrev pub is_return : Option ℕ → Bool
+is_return None = false
+is_return (Some b) = b == 13
+
+-- a line without the carriage return at its end
+abbrev pub without_return : List ℕ → List ℕ
+without_return line = if is_return (slice_get line (length line - 1)) then take (length line - 1) line else line
+
+-- no line feed stands behind the last line
+abbrev pub without_returns : List (List ℕ) → List (List ℕ)
+without_returns [] = []
+without_returns (last ∷ []) = last ∷ []
+without_returns (line ∷ next ∷ lines) = without_return line ∷ without_returns (next ∷ lines)
+
+-- the lines of a script; what stands behind the last line feed is one
+abbrev pub lines_of : List ℕ → List (List ℕ)
+lines_of bytes = without_returns (slice_split is_line_feed bytes)
+
+-- the lines behind a line feed, where there is one
+abbrev pub lines_behind : Option (List ℕ) → List (List ℕ)
+lines_behind None = []
+lines_behind (Some rest) = lines_of rest
+
+-- the first word, and what follows the space behind it, where there is a space
+abbrev pub split_word : List ℕ → Option (List ℕ × List ℕ)
+split_word text =
+    if nat_lt (position_or_len is_space text) (length text) then Some (before_first is_space text, after_first is_space text) else None
+
+-- a word isn't empty, and no space is in it
+abbrev pub is_word : List ℕ → Bool
+is_word text = not (nat_eq (length text) 0) && not (list_any is_space text)
+
+-- space, tab, CR and LF alone
+abbrev pub is_blank : List ℕ → Bool
+is_blank text = list_all (λ b. b == 32 || b == 9 || b == 13 || b == 10) text
+
+-- key KEY
+abbrev pub pressed_event : Result Keystroke KeyFault → Option Event
+pressed_event (Err fault) = None
+pressed_event (Ok key) = Some (event.Key key)
+
+abbrev pub key_event : List ℕ → Option Event
+key_event key = pressed_event (keystroke_of key)
+
+-- focus SCOPE
+abbrev pub focus_event : List ℕ → Option Event
+focus_event name = if is_word name then Some (event.Focus name) else None
+
+-- unset SCOPE KEY
+abbrev pub unset_event : Option (List ℕ × List ℕ) → Option Event
+unset_event None = None
+unset_event (Some parts) =
+    if is_word parts.0 && is_word parts.1 then Some (event.UnsetKey parts.0 parts.1) else None
+
+-- set SCOPE KEY JSON, where the JSON text isn't blank and is a context value
+abbrev pub value_event : List ℕ → List ℕ → Result ContextValue FileFault → Option Event
+value_event name key (Ok value) = Some (event.SetKey name key value)
+value_event name key (Err fault) = None
+
+abbrev pub assignment : List ℕ → List ℕ → List ℕ → Option Event
+assignment name key json =
+    if is_word name && (is_word key && not (is_blank json)) then value_event name key (context_in json) else None
+
+abbrev pub keyed_event : List ℕ → Option (List ℕ × List ℕ) → Option Event
+keyed_event name None = None
+keyed_event name (Some parts) = assignment name parts.0 parts.1
+
+abbrev pub set_event : Option (List ℕ × List ℕ) → Option Event
+set_event None = None
+set_event (Some parts) = keyed_event parts.0 (split_word parts.1)
+
+-- an event by the first word of its line, and what follows the space behind it
+abbrev pub event_told : List ℕ → List ℕ → Option Event
+event_told word rest =
+    if bytes_eq word (codes "key") then key_event rest
+    else (if bytes_eq word (codes "focus") then focus_event rest
+    else (if bytes_eq word (codes "set") then set_event (split_word rest)
+    else (if bytes_eq word (codes "unset") then unset_event (split_word rest) else None)))
+
+-- a line of one word: reload alone is told the empty text
+abbrev pub lone_told : List ℕ → Option Told
+lone_told word = if bytes_eq word (codes "reload") then Some (reload []) else None
+
+-- a line by its first word and what follows the space behind it
+abbrev pub word_told : List ℕ → Option (List ℕ × List ℕ) → Option Told
+word_told text None = lone_told text
+word_told text (Some parts) =
+    if bytes_eq parts.0 (codes "reload") then Some (reload parts.1) else option_map happens (event_told parts.0 parts.1)
+
+-- what a line tells, where it can be read
+abbrev pub said_told : List ℕ → Option Told
+said_told line = if is_utf8 line then word_told line (split_word line) else None
+
+abbrev pub or_unread : ℕ → Option Told → Told
+or_unread number None = happens (event.Unread number)
+or_unread number (Some told) = told
+
+-- an empty line and one that begins with # tell nothing
+abbrev pub line_told : ℕ → List ℕ → Option Told
+line_told number [] = None
+line_told number (b ∷ bs) = if b == 35 then None else Some (or_unread number (said_told (b ∷ bs)))
+
+-- what lines tell, of which the first has this number
+abbrev pub told_from : ℕ → List (List ℕ) → List Told
+told_from number [] = []
+told_from number (line ∷ lines) = option_to_list (line_told number line) ++ told_from (number + 1) lines
+
+-- what a script tells
+abbrev pub told_of : List ℕ → List Told
+told_of bytes = told_from 1 (lines_of bytes)

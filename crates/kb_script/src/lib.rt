@@ -1,0 +1,10 @@
+//! Scripts: lines that tell a session what happens, read from a reader, and its trace, written to a
+//! writer.
+#![tactic(auto)]
+
+pub mod fault;
+pub mod script;
+pub mod script_run;
+
+pub use fault::ScriptFault;
+pub use script_run::{SCRIPT_LIMIT, run_script};

@@ -1,0 +1,212 @@
+//! The lines of a script, and what each one tells a session.
+ghost use Rattle.std.specs.Prelude.{◌≡◌, ◌<◌, ◌∷◌, false, true, IfOk, IfSome, MatchOption, option_map, position, length};
+ghost use Rattle.std.specs.Str.{is_utf8};
+ghost use Rattle.kb_script.specs.Script as script;
+ghost use Rattle.kb_script.specs.ScriptLine.{told_by};
+
+use kb_context::{NoMemory, ReadError, Text};
+use kb_files::read_context_text;
+use kb_keys::Keystroke;
+use kb_trace::Event;
+use std::alloc::{AllocError, Global};
+use std::str;
+
+/// What a line of a script tells a session.
+#[derive(Drop)]
+pub enum ScriptLine<'a> {
+    /// An event.
+    Event(Event),
+    /// The bytes of the user's rules, to be read anew.
+    Reload(&'a str),
+}
+
+/// What a line tells, if it tells something: an empty line and one that begins with `#` tell
+/// nothing, and one that can't be read is the event `Unread` with its number. `NoMemory` where
+/// memory for what an event names was refused.
+pub fn read_line<'a>(
+    alloc: Global,
+    number: u64,
+    line: &'a [u8],
+) -> Result<Option<ScriptLine<'a>>, NoMemory>
+    ensures { IfOk result (λ said. option_map told_by said ≡ script.line_told number line.now) }
+{
+    match line {
+        [] | [b'#', ..] => Ok(None),
+        _ => match read_said(alloc, line)? {
+            Some(said) => Ok(Some(said)),
+            None => Ok(Some(ScriptLine::Event(Event::Unread(number)))),
+        },
+    }
+}
+
+/// The first line of these bytes, and what stands behind its line feed, if it has one. A carriage
+/// return right before the line feed is no part of the line.
+#[tactic(auto, using(crate::proofs::LineLemmas::first_line, crate::proofs::LineLemmas::only_line))]
+pub fn split_line(bytes: &[u8]) -> (&[u8], Option<&[u8]>)
+    ensures lines { script.lines_of bytes.now ≡ result.0.now ∷ script.lines_behind (option_map (λ rest. rest.now) result.1) }
+    ensures shorter { IfSome result.1 (λ rest. length rest.now < length bytes.now) }
+{
+    match find_line_feed(bytes) {
+        Some(end) => (without_return(&bytes[..end]), Some(&bytes[end + 1..])),
+        None => (bytes, None),
+    }
+}
+
+fn find_line_feed(bytes: &[u8]) -> Option<usize>
+    ensures { result ≡ position script.is_line_feed bytes.now }
+{
+    bytes.iter().position(|b| *b == b'\n')
+}
+
+fn without_return(line: &[u8]) -> &[u8]
+    ensures { result.now ≡ script.without_return line.now }
+{
+    match line.last() {
+        Some(b'\r') => &line[..line.len() - 1],
+        _ => line,
+    }
+}
+
+fn read_said<'a>(alloc: Global, line: &'a [u8]) -> Result<Option<ScriptLine<'a>>, NoMemory>
+    ensures { IfOk result (λ said. option_map told_by said ≡ script.said_told line.now) }
+{
+    match text_of(line) {
+        Some(text) => read_words(alloc, text),
+        None => Ok(None),
+    }
+}
+
+/// The text of a line, if its bytes are UTF-8.
+#[tactic(auto, using(crate::proofs::LineLemmas::is_text, crate::proofs::LineLemmas::is_no_text))]
+fn text_of(line: &[u8]) -> Option<&str>
+    ensures { MatchOption result (is_utf8 line.now ≡ false) (λ text. (text.now ≡ line.now) × (is_utf8 line.now ≡ true)) }
+{
+    match str::from_utf8(line) {
+        Ok(text) => Some(text),
+        Err(_) => None,
+    }
+}
+
+/// What a line tells by its first word.
+fn read_words<'a>(alloc: Global, text: &'a str) -> Result<Option<ScriptLine<'a>>, NoMemory>
+    ensures { IfOk result (λ said. option_map told_by said ≡ script.word_told text.now (script.split_word text.now)) }
+{
+    let Some((word, rest)) = split_word(text) else {
+        return Ok(read_lone(text));
+    };
+    match word {
+        "reload" => Ok(Some(ScriptLine::Reload(rest))),
+        _ => match read_event(alloc, word, rest)? {
+            Some(event) => Ok(Some(ScriptLine::Event(event))),
+            None => Ok(None),
+        },
+    }
+}
+
+/// The event that a line of several words is, by its first word.
+fn read_event(alloc: Global, word: &str, rest: &str) -> Result<Option<Event>, NoMemory>
+    ensures { IfOk result (λ event. event ≡ script.event_told word.now rest.now) }
+{
+    match word {
+        "key" => Ok(read_key(rest)),
+        "focus" => read_focus(alloc, rest),
+        "set" => read_set(alloc, rest),
+        "unset" => read_unset(alloc, rest),
+        _ => Ok(None),
+    }
+}
+
+/// The first word, and what follows the space behind it, if there is a space.
+fn split_word(text: &str) -> Option<(&str, &str)>
+    ensures { option_map (λ parts. (parts.0.now, parts.1.now)) result ≡ script.split_word text.now }
+{
+    text.split_once(' ')
+}
+
+fn read_lone(word: &str) -> Option<ScriptLine<'_>>
+    ensures { option_map told_by result ≡ script.lone_told word.now }
+{
+    match word {
+        "reload" => Some(ScriptLine::Reload("")),
+        _ => None,
+    }
+}
+
+fn read_key(key: &str) -> Option<Event>
+    ensures { result ≡ script.key_event key.now }
+{
+    match Keystroke::parse(key) {
+        Ok(key) => Some(Event::Key(key)),
+        Err(_) => None,
+    }
+}
+
+/// Whether a text is a word: it isn't empty, and no space is in it.
+fn is_word(text: &str) -> bool
+    ensures { result ≡ script.is_word text.now }
+{
+    !text.is_empty() && !text.as_bytes().iter().any(|byte| *byte == b' ')
+}
+
+fn read_focus(alloc: Global, scope: &str) -> Result<Option<Event>, NoMemory>
+    ensures { IfOk result (λ event. event ≡ script.focus_event scope.now) }
+{
+    if !is_word(scope) {
+        return Ok(None);
+    }
+    Ok(Some(Event::Focus(Text::from_str(alloc, scope)?)))
+}
+
+fn read_unset(alloc: Global, rest: &str) -> Result<Option<Event>, NoMemory>
+    ensures { IfOk result (λ event. event ≡ script.unset_event (script.split_word rest.now)) }
+{
+    let Some((scope, key)) = split_word(rest) else {
+        return Ok(None);
+    };
+    if !is_word(scope) || !is_word(key) {
+        return Ok(None);
+    }
+    let scope = Text::from_str(alloc, scope)?;
+    let key = Text::from_str(alloc, key)?;
+    Ok(Some(Event::UnsetKey(scope, key)))
+}
+
+fn read_set(alloc: Global, rest: &str) -> Result<Option<Event>, NoMemory>
+    ensures { IfOk result (λ event. event ≡ script.set_event (script.split_word rest.now)) }
+{
+    let Some((scope, rest)) = split_word(rest) else {
+        return Ok(None);
+    };
+    let Some((key, json)) = split_word(rest) else {
+        return Ok(None);
+    };
+    read_assignment(alloc, scope, key, json)
+}
+
+fn read_assignment(
+    alloc: Global,
+    scope: &str,
+    key: &str,
+    json: &str,
+) -> Result<Option<Event>, NoMemory>
+    ensures { IfOk result (λ event. event ≡ script.assignment scope.now key.now json.now) }
+{
+    if !is_word(scope) || !is_word(key) || is_blank(json) {
+        return Ok(None);
+    }
+    let value = match read_context_text(alloc, json) {
+        Ok(value) => value,
+        Err(ReadError::Fault(_)) => return Ok(None),
+        Err(ReadError::NoMemory) => return Err(AllocError),
+    };
+    let scope = Text::from_str(alloc, scope)?;
+    let key = Text::from_str(alloc, key)?;
+    Ok(Some(Event::SetKey(scope, key, value)))
+}
+
+/// Whether a text has nothing but white space: space, tab, CR and LF.
+fn is_blank(text: &str) -> bool
+    ensures { result ≡ script.is_blank text.now }
+{
+    text.as_bytes().iter().all(|byte| matches!(*byte, b' ' | b'\t' | b'\r' | b'\n'))
+}

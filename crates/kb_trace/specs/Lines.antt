@@ -1,0 +1,60 @@
+-- The lines of a trace, as bytes.
+use Rattle.std.specs.Prelude.{ℕ, List, [], ◌∷◌, ◌++◌, codes, decimal}
+use Rattle.serde_json.specs.Data.{string}
+use Rattle.serde_json.specs.Written.{compact_text}
+use Rattle.kb_keys.specs.declared.keystroke.Keystroke.{Keystroke}
+use Rattle.kb_keys.specs.Chord.{chord_spelling}
+use Rattle.kb_core.specs.declared.buffer.Buffer.{Buffer}
+use Rattle.kb_trace.specs.declared.refusal.Refusal.{Refusal}
+use Rattle.kb_trace.specs.Refusal.{refusal_number, refusal_name}
+
+-- key ctrl+k ctrl+c
+abbrev pub key_text : List Keystroke → Keystroke → List ℕ
+key_text pressed key = codes "key " ++ chord_spelling (pressed ++ key ∷ [])
+
+-- key ctrl+k: start type, from its beginning
+abbrev pub start_line : List ℕ → List ℕ → List ℕ
+start_line text command = text ++ (codes ": start " ++ command)
+
+-- left ctrl+k
+abbrev pub left_line : List Keystroke → List ℕ
+left_line pressed = codes "left " ++ chord_spelling pressed
+
+-- focus editor
+abbrev pub focus_line : List ℕ → List ℕ
+focus_line scope = codes "focus " ++ scope
+
+-- set editor dirty
+abbrev pub set_line : List ℕ → List ℕ → List ℕ
+set_line scope key = codes "set " ++ (scope ++ (codes " " ++ key))
+
+-- unset editor dirty
+abbrev pub unset_line : List ℕ → List ℕ → List ℕ
+unset_line scope key = codes "unset " ++ (scope ++ (codes " " ++ key))
+
+abbrev pub reloaded_line : List ℕ
+reloaded_line = codes "reloaded"
+
+-- refused 4 Syntax
+abbrev pub refused_line : Refusal → List ℕ
+refused_line refusal = codes "refused " ++ (decimal (refusal_number refusal) ++ (codes " " ++ refusal_name refusal))
+
+-- not found type
+abbrev pub not_found_line : List ℕ → List ℕ
+not_found_line command = codes "not found " ++ command
+
+-- bad arguments type
+abbrev pub bad_arguments_line : List ℕ → List ℕ
+bad_arguments_line command = codes "bad arguments " ++ command
+
+-- unread line 7
+abbrev pub unread_line : ℕ → List ℕ
+unread_line number = codes "unread line " ++ decimal number
+
+-- a text as JSON writes it
+abbrev pub json_string : List ℕ → List ℕ
+json_string text = compact_text (string text)
+
+-- done "before" "after"
+abbrev pub done_line : Buffer → List ℕ
+done_line buffer = codes "done " ++ (json_string buffer.before ++ (codes " " ++ json_string buffer.after))

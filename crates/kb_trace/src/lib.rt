@@ -1,0 +1,9 @@
+//! What a session is told and answers, and the lines of its trace.
+#![tactic(auto)]
+
+pub mod event;
+pub mod lines;
+pub mod refusal;
+
+pub use event::{Answer, Event};
+pub use refusal::Refusal;
