@@ -1,5 +1,7 @@
--- Which arguments are of a kind, and the empty one of each kind.
+-- Which arguments are of a kind, the empty one of each kind, and arguments as values of context keys.
 use Rattle.std.specs.Prelude.{Bool, true, false, [], pos}
+use Rattle.kb_context.specs.declared.value.ContextValue.{ContextValue}
+use Rattle.kb_context.specs.declared.value.ContextValue.TheVariants as value
 use Rattle.kb_core.specs.declared.arg.Arg.{Arg}
 use Rattle.kb_core.specs.declared.arg.Arg.TheVariants.{Text, Number, Truth}
 use Rattle.kb_core.specs.declared.arg.Kind.{Kind}
@@ -24,3 +26,9 @@ empty_of kind.Text = Text []
 empty_of kind.Number = Number (pos 0)
 empty_of kind.Truth = Truth false
 empty_of kind.Any = Truth false
+
+-- the value of a context key that an argument is
+abbrev pub context_value : Arg → ContextValue
+context_value (Text text) = value.Text text
+context_value (Number number) = value.Number number
+context_value (Truth truth) = value.Truth truth

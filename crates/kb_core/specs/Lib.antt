@@ -5,3 +5,4 @@ pub mod Reading
 pub mod Buffer
 pub mod Native
 pub mod Core
+pub mod HeldCore

@@ -1,17 +1,22 @@
 -- The table of the native commands: identifier, parameters, budget and effect.
-use Rattle.std.specs.Prelude.{ℕ, List, [], ◌∷◌, Option, codes, find, bytes_eq}
+use Rattle.std.specs.Prelude.{ℕ, List, [], ◌∷◌, Option, is_some, false, if◌then◌else◌, codes, find, bytes_eq}
+use Rattle.kb_context.specs.declared.value.ContextValue.{ContextValue}
+use Rattle.kb_context.specs.declared.value.ContextValue.TheVariants as value
+use Rattle.kb_context.specs.Scopes.{ScopesData, set_fault_at, with_value_at}
 use Rattle.kb_core.specs.declared.arg.Arg.{Arg}
 use Rattle.kb_core.specs.declared.arg.Arg.TheVariants.{Text, Number, Truth}
 use Rattle.kb_core.specs.declared.arg.Kind.TheVariants as kind
 use Rattle.kb_core.specs.declared.buffer.Buffer.{Buffer}
 use Rattle.kb_core.specs.declared.native.Native.{Native}
-use Rattle.kb_core.specs.declared.native.Native.TheVariants.{TypeText, DeleteLeft, DeleteRight, CursorLeft, CursorRight, BufferClear, BufferTop, BufferBottom}
+use Rattle.kb_core.specs.declared.native.Native.TheVariants.{TypeText, DeleteLeft, DeleteRight, CursorLeft, CursorRight, BufferClear, BufferTop, BufferBottom, SetContext}
 use Rattle.kb_core.specs.declared.signature.Param.{Param}
+use Rattle.kb_core.specs.Arg.{context_value}
 use Rattle.kb_core.specs.Buffer.{empty, with_inserted, without_left, without_right, moved_left, moved_right, at_top, at_bottom}
 use Rattle.kb_core.specs.Declaration.{Declaration}
 
 abbrev pub natives : List Native
-natives = TypeText ∷ DeleteLeft ∷ DeleteRight ∷ CursorLeft ∷ CursorRight ∷ BufferClear ∷ BufferTop ∷ BufferBottom ∷ []
+natives =
+    TypeText ∷ DeleteLeft ∷ DeleteRight ∷ CursorLeft ∷ CursorRight ∷ BufferClear ∷ BufferTop ∷ BufferBottom ∷ SetContext ∷ []
 
 abbrev pub name_of : Native → List ℕ
 name_of TypeText = codes "type"
@@ -22,6 +27,7 @@ name_of CursorRight = codes "cursorRight"
 name_of BufferClear = codes "buffer.clear"
 name_of BufferTop = codes "buffer.top"
 name_of BufferBottom = codes "buffer.bottom"
+name_of SetContext = codes "setContext"
 
 -- the native that has this identifier
 abbrev pub named : List ℕ → Option Native
@@ -36,6 +42,7 @@ parameters_of CursorRight = []
 parameters_of BufferClear = []
 parameters_of BufferTop = []
 parameters_of BufferBottom = []
+parameters_of SetContext = record { name = codes "key"; kind = kind.Text } ∷ record { name = codes "value"; kind = kind.Any } ∷ []
 
 abbrev pub budget_of : Native → ℕ
 budget_of TypeText = 1001
@@ -46,6 +53,7 @@ budget_of CursorRight = 11
 budget_of BufferClear = 11
 budget_of BufferTop = 11
 budget_of BufferBottom = 11
+budget_of SetContext = 101
 
 -- a native calls nothing
 abbrev pub declaration_of : Native → Declaration
@@ -68,3 +76,26 @@ buffer_after CursorRight args b = moved_right b
 buffer_after BufferClear args b = empty
 buffer_after BufferTop args b = at_top b
 buffer_after BufferBottom args b = at_bottom b
+buffer_after SetContext args b = b
+
+-- the value that the second argument is
+abbrev pub value_of : List Arg → ContextValue
+value_of [] = value.Truth false
+value_of (key ∷ []) = value.Truth false
+value_of (key ∷ arg ∷ args) = context_value arg
+
+-- a key has a value in the outermost scope, which is the first, where nothing forbids it
+abbrev pub with_root_key : List ℕ → ContextValue → ScopesData → ScopesData
+with_root_key key value s = if is_some (set_fault_at s 0 key) then s else with_value_at s 0 key value
+
+-- the scopes after a native command
+abbrev pub scopes_after : Native → List Arg → ScopesData → ScopesData
+scopes_after TypeText args s = s
+scopes_after DeleteLeft args s = s
+scopes_after DeleteRight args s = s
+scopes_after CursorLeft args s = s
+scopes_after CursorRight args s = s
+scopes_after BufferClear args s = s
+scopes_after BufferTop args s = s
+scopes_after BufferBottom args s = s
+scopes_after SetContext args s = with_root_key (text_of args) (value_of args) s

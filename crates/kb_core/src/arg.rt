@@ -2,7 +2,7 @@
 ghost use Rattle.std.specs.Prelude.{◌≡◌};
 ghost use Rattle.kb_core.specs.Arg.{is_of, empty_of};
 
-use kb_context::Text;
+use kb_context::{ContextValue, Text};
 use std::alloc::Global;
 
 /// An argument of a command. Lists, objects and numbers that are not whole are none (our decision).
@@ -33,6 +33,22 @@ impl Default for Arg {
 
     fn default() -> Arg {
         Arg::Truth(false)
+    }
+}
+
+/// The value of a context key that an argument is. It takes no memory: a text is moved.
+impl From<Arg> for ContextValue {
+    ghost use Rattle.std.specs.Prelude.{◌≡◌};
+    ghost use Rattle.kb_core.specs.Arg.{context_value};
+
+    ghost from_gives = { λ arg value. value ≡ context_value arg };
+
+    fn from(arg: Arg) -> ContextValue {
+        match arg {
+            Arg::Text(text) => ContextValue::Text(text),
+            Arg::Number(number) => ContextValue::Number(number),
+            Arg::Truth(truth) => ContextValue::Truth(truth),
+        }
     }
 }
 

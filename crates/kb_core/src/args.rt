@@ -1,5 +1,5 @@
 //! The list of arguments that a command gets.
-ghost use Rattle.std.specs.Prelude.{◌≡◌, ◌<◌, ◌≤◌, [], ◌∷◌, ◌++◌, length};
+ghost use Rattle.std.specs.Prelude.{◌≡◌, ◌<◌, ◌≤◌, ◌-◌, [], ◌∷◌, ◌++◌, length, take, slice_get};
 
 use crate::arg::Arg;
 use smallvec::SmallVec;
@@ -42,6 +42,14 @@ impl Args {
         ensures { self.new ≡ self.old ++ arg ∷ [] }
     {
         self.items.push_reserved(arg);
+    }
+
+    /// Takes the last argument away and gives it, or gives `None` where there is none.
+    pub fn pop(&mut self) -> Option<Arg>
+        ensures last { result ≡ slice_get self.old (length self.old - 1) }
+        ensures rest { self.new ≡ take (length self.old - 1) self.old }
+    {
+        self.items.pop()
     }
 
     /// The arguments, in order.

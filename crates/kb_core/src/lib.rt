@@ -4,6 +4,7 @@
 pub mod arg;
 pub mod args;
 pub mod buffer;
+pub mod held_core;
 pub mod native;
 mod reading;
 pub mod run;
@@ -12,6 +13,7 @@ pub mod signature;
 pub use arg::{Arg, Kind};
 pub use args::Args;
 pub use buffer::Buffer;
+pub use held_core::HeldCore;
 pub use native::Native;
 pub use run::{Core, Ran, plain};
 pub use signature::{Param, Signature};

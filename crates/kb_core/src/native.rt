@@ -8,7 +8,8 @@ use crate::signature::{Param, Signature};
 use kb_context::{NoMemory, Seq, Text};
 use std::alloc::Global;
 
-/// A native command. The eight and their identifiers are our decision.
+/// A native command. The nine, their identifiers and what they take are our decision; a command
+/// `setContext` is documented by VS Code.
 #[derive(Clone, Copy, Debug, PartialEq, Eq)]
 pub enum Native {
     /// `type` puts its text before the caret.
@@ -27,6 +28,9 @@ pub enum Native {
     BufferTop,
     /// `buffer.bottom` moves the caret behind all text.
     BufferBottom,
+    /// `setContext` gives its key its value in the outermost scope (our decision), unless the key is
+    /// new there while as many keys stand as may. A value that isn't given is false.
+    SetContext,
 }
 
 impl Native {
@@ -43,6 +47,7 @@ impl Native {
             Native::BufferClear => "buffer.clear",
             Native::BufferTop => "buffer.top",
             Native::BufferBottom => "buffer.bottom",
+            Native::SetContext => "setContext",
         }
     }
 
@@ -59,6 +64,7 @@ impl Native {
             "buffer.clear" => Some(Native::BufferClear),
             "buffer.top" => Some(Native::BufferTop),
             "buffer.bottom" => Some(Native::BufferBottom),
+            "setContext" => Some(Native::SetContext),
             _ => None,
         }
     }
@@ -76,11 +82,13 @@ impl Native {
         ensures few { IfOk result (λ params. length params ≤ PARAMETER_LIMIT) }
     {
         let mut params = Seq::new(alloc);
-        if self == Native::TypeText {
-            params.push(Param {
-                name: Text::from_str(alloc, "text")?,
-                kind: Kind::Text,
-            })?;
+        match self {
+            Native::TypeText => params.push(param(alloc, "text", Kind::Text)?)?,
+            Native::SetContext => {
+                let key = param(alloc, "key", Kind::Text)?;
+                params.push_two(key, param(alloc, "value", Kind::Any)?)?;
+            }
+            _ => {}
         }
         Ok(params)
     }
@@ -95,6 +103,16 @@ impl Native {
             | Native::BufferClear
             | Native::BufferTop
             | Native::BufferBottom => 11,
+            Native::SetContext => 101,
         }
     }
+}
+
+fn param(alloc: Global, name: &str, kind: Kind) -> Result<Param, NoMemory>
+    ensures { IfOk result (λ param. param ≡ record { name = name.now; kind = kind }) }
+{
+    Ok(Param {
+        name: Text::from_str(alloc, name)?,
+        kind,
+    })
 }

@@ -1,20 +1,22 @@
 //! The plain implementation of the native commands.
 ghost use Rattle.std.specs.Prelude.{◌≡◌, IsTrue, OnOk, OnErr, IfOk};
-ghost use Rattle.kb_core.specs.Core.{empty_core, core_after};
-ghost use Rattle.kb_core.specs.Native.{buffer_after, text_of, parameters_of};
+ghost use Rattle.kb_core.specs.Core.{new_core, core_after};
+ghost use Rattle.kb_core.specs.Native.{text_of, value_of, with_root_key, parameters_of};
 ghost use Rattle.kb_core.specs.Signature.{fits};
+ghost use Rattle.kb_core.specs.declared.native.Native.TheVariants.{SetContext};
 
 use crate::arg::Arg;
 use crate::args::Args;
 use crate::buffer::Buffer;
 use crate::native::Native;
-use kb_context::NoMemory;
-use std::alloc::Global;
+use kb_context::{ContextValue, NoMemory, ScopeFault, Scopes};
+use std::alloc::{AllocError, Global};
 
-/// What commands change.
+/// What commands change: the text round the caret, and the scopes of context keys.
 #[derive(Debug, Drop)]
 pub struct Core {
     pub buffer: Buffer,
+    pub scopes: Scopes,
 }
 
 /// The core after a native command, and what the command cost, in instructions.
@@ -25,12 +27,13 @@ pub struct Ran {
 }
 
 impl Core {
-    /// The core at first: no text. It takes no memory.
-    pub fn new(alloc: Global) -> Core
-        ensures { result ≡ empty_core }
+    /// The core at first: no text, and these scopes. It takes no memory.
+    pub fn new(alloc: Global, scopes: Scopes) -> Core
+        ensures { result ≡ new_core scopes }
     {
         Core {
             buffer: Buffer::new(alloc),
+            scopes,
         }
     }
 }
@@ -44,19 +47,21 @@ pub fn plain(native: Native, core: Core, args: Args) -> Ran
     ensures cost { IfOk result.cost (λ cost. cost ≡ 1) }
 {
     let mut core = core;
-    let cost = match edit(native, &mut core.buffer, args.as_slice()) {
+    let cost = match edit(native, &mut core, args) {
         Ok(()) => Ok(1),
         Err(refused) => Err(refused),
     };
     Ran { core, cost }
 }
 
-fn edit(native: Native, buffer: &mut Buffer, args: &[Arg]) -> Result<(), NoMemory>
-    ensures ok { OnOk result (buffer.new ≡ buffer_after native args.now buffer.old) }
-    ensures err { OnErr result (buffer.new ≡ buffer.old) }
+fn edit(native: Native, core: &mut Core, args: Args) -> Result<(), NoMemory>
+    requires { IsTrue (fits (parameters_of native) args) }
+    ensures ok { OnOk result (core.new ≡ core_after native args core.old) }
+    ensures err { OnErr result (core.new ≡ core.old) }
 {
+    let Core { buffer, scopes } = core;
     match native {
-        Native::TypeText => buffer.insert(text_of(args))?,
+        Native::TypeText => buffer.insert(text_of(args.as_slice()))?,
         Native::DeleteLeft => buffer.delete_left(),
         Native::DeleteRight => buffer.delete_right(),
         Native::CursorLeft => buffer.move_left()?,
@@ -64,8 +69,24 @@ fn edit(native: Native, buffer: &mut Buffer, args: &[Arg]) -> Result<(), NoMemor
         Native::BufferClear => buffer.clear(),
         Native::BufferTop => buffer.move_to_top()?,
         Native::BufferBottom => buffer.move_to_bottom()?,
+        Native::SetContext => set_context(scopes, args)?,
     }
     Ok(())
+}
+
+/// Gives the first argument's key the second argument's value in the outermost scope. Where the key
+/// is new there while as many keys stand as may, the scopes stay, which is no fault of a command.
+fn set_context(scopes: &mut Scopes, args: Args) -> Result<(), NoMemory>
+    requires { IsTrue (fits (parameters_of SetContext) args) }
+    ensures ok { OnOk result (scopes.new ≡ with_root_key (text_of args) (value_of args) scopes.old) }
+    ensures err { OnErr result (scopes.new ≡ scopes.old) }
+{
+    let mut args = args;
+    let value = args.pop().unwrap();
+    match scopes.set_root(text_of(args.as_slice()), ContextValue::from(value)) {
+        Ok(()) | Err(ScopeFault::TooManyKeys) => Ok(()),
+        Err(_) => Err(AllocError),
+    }
 }
 
 /// The text that the first argument is.
