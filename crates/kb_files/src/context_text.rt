@@ -1,0 +1,23 @@
+//! The value of a context key, read from a text.
+ghost use Rattle.kb_context.specs.Reading.{Gives};
+ghost use Rattle.kb_files.specs.Context.{context_in};
+
+use crate::fault::FileError;
+use crate::value::{read_value, shape_error};
+use kb_context::ContextValue;
+use kb_manifest::read_context;
+use std::alloc::Global;
+
+/// The value of a context key that a text is: JSON with comments, as in a file (`read_context` says
+/// which values there are). A blank text reads as the empty list.
+///
+/// Errors: the text's fault (1 to 4), or another shape (41); or `NoMemory`.
+pub fn read_context_text(alloc: Global, text: &str) -> Result<ContextValue, FileError>
+    ensures { Gives (λ value. value) result (context_in text.now) }
+{
+    let value = read_value(alloc, text.as_bytes())?;
+    match read_context(alloc, value) {
+        Ok(value) => Ok(value),
+        Err(error) => Err(shape_error(error)),
+    }
+}
