@@ -1,0 +1,65 @@
+-- The layout that a JSON value is, or its first fault.
+use Rattle.std.specs.Prelude.{ℕ, ◌&&◌, ◌||◌, Bool, List, [], ◌∷◌, Option, Some, None, option_map, option_and_then, unwrap_or, is_some, is_none, Result, Err, codes, if◌then◌else◌}
+use Rattle.std.specs.List.{list_any}
+use Rattle.std.specs.FinMap.{empty, from_entries}
+use Rattle.serde_json.specs.Data.{Data, Members}
+use Rattle.serde_json.specs.Find.{get, as_str, as_object}
+use Rattle.kb_context.specs.declared.layout.Layout.{Layout}
+use Rattle.kb_context.specs.declared.layout.LayoutScope.{LayoutScope}
+use Rattle.kb_context.specs.declared.value.ContextValue.{ContextValue}
+use Rattle.kb_context.specs.Reading.{or_fault}
+use Rattle.kb_context.specs.Scopes.{Keys}
+use Rattle.kb_manifest.specs.declared.fault.ShapeFault.{ShapeFault}
+use Rattle.kb_manifest.specs.declared.fault.ShapeFault.TheVariants.{MissingMember, WrongShape}
+use Rattle.kb_manifest.specs.Context.{value_of}
+use Rattle.kb_manifest.specs.Parts.{◌>>=◌, each, optional, elements_of, pairs_of}
+
+-- the elements of the list that a member is
+abbrev pub list_at : List ℕ → Data → Option (List Data)
+list_at name d = get name d >>= elements_of
+
+-- an object without a member; what is no object lacks none
+abbrev pub lacks : List ℕ → Data → Bool
+lacks name d = is_some (as_object d) && is_none (get name d)
+
+-- the layout lacks its scopes, or one of the scopes its name
+unfoldable pub lacks_member : Data → Bool
+lacks_member d =
+    lacks (codes "scopes") d || list_any (lacks (codes "name")) (unwrap_or (list_at (codes "scopes") d) [])
+
+-- a key and its value
+abbrev pub key_of : List ℕ × Data → Option (List ℕ × ContextValue)
+key_of m = option_map (λ value. (m.0, value)) (value_of m.1)
+
+-- the keys that an object has, each with a context value
+abbrev pub keys_of : Data → Option Keys
+keys_of d = as_object d >>= λ ms. option_map from_entries (each key_of (pairs_of ms))
+
+-- the text that a value is, where a member may be absent
+abbrev pub some_text : Data → Option (Option (List ℕ))
+some_text d = option_map Some (as_str d)
+
+-- the scope that an element is
+unfoldable pub scope_of : Data → Option LayoutScope
+scope_of d = do
+  name ← get (codes "name") d >>= as_str
+  parent ← optional None some_text (get (codes "parent") d)
+  keys ← optional empty keys_of (get (codes "keys") d)
+  Some (record { name = name; parent = parent; keys = keys })
+
+-- the name of the first scope, or the empty text where there is none
+abbrev pub first_name : List LayoutScope → List ℕ
+first_name [] = []
+first_name (s ∷ scopes) = s.name
+
+-- the layout that a value is, where each part has its shape
+unfoldable pub record_of : Data → Option Layout
+record_of d = do
+  elements ← list_at (codes "scopes") d
+  scopes ← each scope_of elements
+  focus ← optional (first_name scopes) as_str (get (codes "focus") d)
+  Some (record { scopes = scopes; focus = focus })
+
+-- a member that is absent is the first fault, wherever it stands, and then any wrong shape
+abbrev pub layout_of : Data → Result Layout ShapeFault
+layout_of d = if lacks_member d then Err MissingMember else or_fault WrongShape (record_of d)

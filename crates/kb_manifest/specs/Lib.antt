@@ -1,0 +1,4 @@
+pub mod Context
+pub mod Layout
+pub mod Parts
+pub mod ShapeFault

@@ -1,0 +1,59 @@
+//! Context values, read from JSON.
+ghost use Rattle.std.specs.Prelude.{◌≡◌, IfOk};
+ghost use Rattle.serde_json.specs.Find.{as_str};
+ghost use Rattle.serde_json.specs.View.{view, items_view, members_view};
+ghost use Rattle.kb_context.specs.Reading.{Gives, or_fault};
+ghost use Rattle.kb_manifest.specs.declared.fault.ShapeFault.TheVariants.{WrongShape};
+ghost use Rattle.kb_manifest.specs.Parts.{each, listed, names_of};
+ghost use Rattle.kb_manifest.specs.Context.{context_of};
+
+use crate::fault::{ShapeError, ShapeFault};
+use crate::parts::text_in;
+use kb_context::{ContextValue, NoMemory, Seq, Text};
+use serde_json::{Map, Value};
+use std::alloc::Global;
+
+/// The context value that a JSON value is: a boolean, a whole number within i64, a text, a list of
+/// texts, or the names of an object's members, whatever their values. The kinds are those that the
+/// documentation of when clause contexts has; what a number and a list may hold is our decision.
+///
+/// `WrongShape` (41) for `null`, any other number, and a list with an element that is no text.
+/// `NoMemory` where memory was refused.
+pub fn read_context(alloc: Global, value: Value) -> Result<ContextValue, ShapeError>
+    ensures { Gives (λ value. value) result (context_of (view value)) }
+{
+    match value {
+        Value::Null => Err(ShapeError::Fault(ShapeFault::WrongShape)),
+        Value::Bool(truth) => Ok(ContextValue::Truth(truth)),
+        Value::Number(number) => {
+            let number = number.as_i64().ok_or(ShapeFault::WrongShape)?;
+            Ok(ContextValue::Number(number))
+        }
+        Value::String(text) => Ok(ContextValue::Text(Text::from_string(text))),
+        Value::Array(elements) => Ok(ContextValue::Texts(read_texts(alloc, elements)?)),
+        Value::Object(members) => Ok(ContextValue::Names(names_in(alloc, members)?)),
+    }
+}
+
+/// The texts that the elements of a list are.
+fn read_texts(alloc: Global, elements: Vec<Value>) -> Result<Seq<Text>, ShapeError>
+    ensures { Gives (λ texts. texts) result (or_fault WrongShape (each as_str (listed (items_view elements.items)))) }
+{
+    let mut texts = Seq::new(alloc);
+    for element in elements {
+        texts.push(text_in(element).ok_or(ShapeFault::WrongShape)?)?;
+    }
+    Ok(texts)
+}
+
+/// The names of an object's members, in order.
+#[tactic(auto, using(crate::proofs::PartsLemmas::names_seen))]
+fn names_in(alloc: Global, members: Map<String, Value>) -> Result<Seq<Text>, NoMemory>
+    ensures { IfOk result (λ names. names ≡ names_of (members_view members.entries)) }
+{
+    let mut names = Seq::new(alloc);
+    for name in members.into_keys() {
+        names.push(Text::from_string(name))?;
+    }
+    Ok(names)
+}

@@ -1,0 +1,167 @@
+//! Layouts, read from JSON.
+ghost use Rattle.std.specs.Prelude.{◌≡◌, IfOk, None, option_map, codes};
+ghost use Rattle.std.specs.List.{list_any};
+ghost use Rattle.std.specs.FinMap.{empty};
+ghost use Rattle.serde_json.specs.Data.{object};
+ghost use Rattle.serde_json.specs.View.{view, items_view, members_view};
+ghost use Rattle.kb_context.specs.Reading.{Gives, or_fault};
+ghost use Rattle.kb_manifest.specs.declared.fault.ShapeFault.TheVariants.{WrongShape};
+ghost use Rattle.kb_manifest.specs.Parts.{each, optional, listed};
+ghost use Rattle.kb_manifest.specs.Layout.{lacks, lacks_member, some_text, keys_of, scope_of, first_name, record_of, layout_of};
+
+use crate::context::read_context;
+use crate::fault::{ShapeError, ShapeFault};
+use crate::parts::{elements_in, members_in, take_member, text_in};
+use kb_context::{ContextValue, Layout, LayoutScope, NoMemory, Seq, Text, TextMap};
+use serde_json::{Map, Value};
+use std::alloc::Global;
+
+/// The layout that a JSON value is, as in
+/// `{"scopes":[{"name":"window","keys":{"k":1}},{"name":"editor","parent":"window"}],"focus":"editor"}`.
+/// The format is our decision. `scopes` and each scope's `name` have to be there. A scope without
+/// `parent` has none, one without `keys` has no key, and without `focus` the first scope has it, or
+/// the empty text where there is no scope. Other members are ignored. Whether the scopes are a tree
+/// is asked by `Scopes::new`.
+///
+/// `MissingMember` (40) where `scopes` or a `name` is absent, whatever else is wrong; what is no
+/// object or no list lacks nothing. Then `WrongShape` (41) where the layout, a scope or `keys` is no
+/// object, `scopes` no list, a `name`, a `parent` or the `focus` no text, or a key's value no context
+/// value: `null` is there, and is none of these. `NoMemory` where memory was refused.
+pub fn read_layout(alloc: Global, value: Value) -> Result<Layout, ShapeError>
+    ensures { Gives (λ layout. layout) result (layout_of (view value)) }
+{
+    if lacks_member(&value) {
+        return Err(ShapeError::Fault(ShapeFault::MissingMember));
+    }
+    read_record(alloc, value)
+}
+
+/// Whether a layout lacks its scopes, or one of its scopes a name.
+#[tactic(auto, unfolding(crate::specs::Layout::lacks_member))]
+fn lacks_member(value: &Value) -> bool
+    ensures { result ≡ lacks_member (view value.now) }
+{
+    if lacks(value, "scopes") {
+        return true;
+    }
+    match value.get("scopes").and_then(Value::as_array) {
+        Some(scopes) => lack_names(scopes),
+        None => false,
+    }
+}
+
+/// Whether one of the scopes lacks its name.
+fn lack_names(scopes: &[Value]) -> bool
+    ensures { result ≡ list_any (lacks (codes "name")) (listed (items_view scopes.now)) }
+{
+    for scope in scopes {
+        if lacks(scope, "name") {
+            return true;
+        }
+    }
+    false
+}
+
+/// Whether a value is an object without a member.
+fn lacks(value: &Value, name: &str) -> bool
+    ensures { result ≡ lacks name.now (view value.now) }
+{
+    value.is_object() && value.get(name).is_none()
+}
+
+/// The layout that a value is, if each part has its shape.
+#[tactic(auto, unfolding(crate::specs::Layout::record_of))]
+fn read_record(alloc: Global, value: Value) -> Result<Layout, ShapeError>
+    ensures { Gives (λ layout. layout) result (or_fault WrongShape (record_of (view value))) }
+{
+    let mut members = members_in(value).ok_or(ShapeFault::WrongShape)?;
+    let scopes = take_member(&mut members, "scopes").ok_or(ShapeFault::WrongShape)?;
+    let focus = take_member(&mut members, "focus");
+    let elements = elements_in(scopes).ok_or(ShapeFault::WrongShape)?;
+    let scopes = read_scopes(alloc, elements)?;
+    let focus = match focus {
+        Some(focus) => text_in(focus).ok_or(ShapeFault::WrongShape)?,
+        None => first_name(alloc, scopes.as_slice())?,
+    };
+    Ok(Layout { scopes, focus })
+}
+
+/// The name of the first scope, or the empty text where there is none.
+fn first_name(alloc: Global, scopes: &[LayoutScope]) -> Result<Text, NoMemory>
+    ensures { IfOk result (λ name. name ≡ first_name scopes.now) }
+{
+    match scopes {
+        [first, ..] => first.name.copied(),
+        [] => Ok(Text::new(alloc)),
+    }
+}
+
+/// The scopes that the elements of a list are.
+fn read_scopes(alloc: Global, elements: Vec<Value>) -> Result<Seq<LayoutScope>, ShapeError>
+    ensures { Gives (λ scopes. scopes) result (or_fault WrongShape (each scope_of (listed (items_view elements.items)))) }
+{
+    let mut scopes = Seq::new(alloc);
+    for element in elements {
+        scopes.push(read_scope(alloc, element)?)?;
+    }
+    Ok(scopes)
+}
+
+/// The scope that an element is.
+#[tactic(auto, unfolding(crate::specs::Layout::scope_of))]
+fn read_scope(alloc: Global, element: Value) -> Result<LayoutScope, ShapeError>
+    ensures { Gives (λ scope. scope) result (or_fault WrongShape (scope_of (view element))) }
+{
+    let mut members = members_in(element).ok_or(ShapeFault::WrongShape)?;
+    let name = take_member(&mut members, "name").ok_or(ShapeFault::WrongShape)?;
+    let parent = take_member(&mut members, "parent");
+    let keys = take_member(&mut members, "keys");
+    let name = text_in(name).ok_or(ShapeFault::WrongShape)?;
+    let parent = read_parent(parent)?;
+    let keys = read_keys(alloc, keys)?;
+    Ok(LayoutScope { name, parent, keys })
+}
+
+/// The name of the scope around a scope, if its member is there.
+fn read_parent(parent: Option<Value>) -> Result<Option<Text>, ShapeFault>
+    ensures { result ≡ or_fault WrongShape (optional None some_text (option_map view parent)) }
+{
+    match parent {
+        Some(parent) => Ok(Some(text_in(parent).ok_or(ShapeFault::WrongShape)?)),
+        None => Ok(None),
+    }
+}
+
+/// The keys of a scope, none where the member is absent.
+fn read_keys(alloc: Global, keys: Option<Value>) -> Result<TextMap<ContextValue>, ShapeError>
+    ensures { Gives (λ keys. keys) result (or_fault WrongShape (optional empty keys_of (option_map view keys))) }
+{
+    match keys {
+        Some(keys) => read_object(alloc, keys),
+        None => Ok(TextMap::new(alloc)),
+    }
+}
+
+/// The keys that an object has, each with its value.
+fn read_object(alloc: Global, object: Value) -> Result<TextMap<ContextValue>, ShapeError>
+    ensures { Gives (λ keys. keys) result (or_fault WrongShape (keys_of (view object))) }
+{
+    match object {
+        Value::Object(members) => read_members(alloc, members),
+        _ => Err(ShapeError::Fault(ShapeFault::WrongShape)),
+    }
+}
+
+/// The keys that members are, put in a map one by one.
+fn read_members(
+    alloc: Global,
+    members: Map<String, Value>,
+) -> Result<TextMap<ContextValue>, ShapeError>
+    ensures { Gives (λ keys. keys) result (or_fault WrongShape (keys_of (object (members_view members.entries)))) }
+{
+    let mut keys = TextMap::new(alloc);
+    for (name, member) in members {
+        keys.insert(Text::from_string(name), read_context(alloc, member)?)?;
+    }
+    Ok(keys)
+}

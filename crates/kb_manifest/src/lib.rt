@@ -1,0 +1,12 @@
+//! The reading of manifests: JSON values become layouts and context values. Texts are moved out of
+//! the values, which are taken.
+#![tactic(auto)]
+
+pub mod context;
+pub mod fault;
+pub mod layout;
+mod parts;
+
+pub use context::read_context;
+pub use fault::{ShapeError, ShapeFault};
+pub use layout::read_layout;
