@@ -1,14 +1,18 @@
 -- The rule that an element of a rule file is, or its first fault.
-use Rattle.std.specs.Prelude.{ℕ, ◌==◌, ◌||◌, not, Bool, List, [], Option, None, Some, Result, Ok, Err, is_some, codes, nat_eq}
+use Rattle.std.specs.Prelude.{ℕ, ◌==◌, ◌||◌, not, Bool, List, [], Option, None, Some, Result, Ok, Err, is_some, if◌then◌else◌, codes, nat_eq}
 use Rattle.std.specs.List.{list_all, starts_with}
 use Rattle.kb_context.specs.Reading.{◌>>=◌, ◌>>◌, or_fault, or_default, unless, guard}
 use Rattle.kb_keys.specs.declared.key_fault.KeyFault.{KeyFault}
 use Rattle.kb_keys.specs.declared.keystroke.Keystroke.{Keystroke}
 use Rattle.kb_keys.specs.Chord.{chord_of}
+use Rattle.kb_when.specs.declared.fault.WhenFault.{WhenFault}
+use Rattle.kb_when.specs.Clause.{Clause}
+use Rattle.kb_when.specs.ClauseText.{fault_of}
+use Rattle.kb_when.specs.Builder.{clause_in}
 use Rattle.serde_json.specs.Data.{Data}
 use Rattle.serde_json.specs.Find.{get, as_object, as_str}
 use Rattle.kb_rules.specs.declared.entry_fault.EntryFault.{EntryFault}
-use Rattle.kb_rules.specs.declared.entry_fault.EntryFault.TheVariants.{Key, UnreadWhen, MissingMember, WrongShape}
+use Rattle.kb_rules.specs.declared.entry_fault.EntryFault.TheVariants.{Key, When, MissingMember, WrongShape}
 use Rattle.kb_rules.specs.declared.rule.Rule.{Rule}
 use Rattle.kb_rules.specs.Whole.{is_whole}
 
@@ -41,6 +45,15 @@ abbrev pub of_key : Result (List Keystroke) KeyFault → Result (List Keystroke)
 of_key (Ok chord) = Ok chord
 of_key (Err fault) = Err (Key fault)
 
+-- a text with a fault isn't read, and one without has its clause
+abbrev pub clause_read : Option WhenFault → Option Clause → Result (Option Clause) EntryFault
+clause_read (Some fault) clause = Err (When fault)
+clause_read None clause = Ok clause
+
+-- a blank text is no clause
+abbrev pub when_of : List ℕ → Result (Option Clause) EntryFault
+when_of text = if is_blank text then Ok None else clause_read (fault_of text) (clause_in text)
+
 -- the arguments, if there are any: each number is whole within i64
 abbrev pub args_of : Data → Result (Option Data) EntryFault
 args_of d = or_default None (λ args. unless WrongShape (is_whole args) (Some args)) (get (codes "args") d)
@@ -53,7 +66,7 @@ entry_of place d = do
   guard WrongShape (not (is_removal command))
   key ← required_text (codes "key") d
   chord ← of_key (chord_of key)
-  when ← optional_text (codes "when") d
-  guard UnreadWhen (is_blank when)
+  text ← optional_text (codes "when") d
+  when ← when_of text
   args ← args_of d
-  Ok (record { chord = chord; command = command; args = args; place = place })
+  Ok (record { chord = chord; command = command; when = when; args = args; place = place })

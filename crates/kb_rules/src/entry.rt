@@ -1,11 +1,11 @@
 //! The reading of one element of a rule file.
-ghost use Rattle.std.specs.Prelude.{◌≡◌, option_map};
+ghost use Rattle.std.specs.Prelude.{◌≡◌, option_map, is_some, not, IfOk};
 ghost use Rattle.std.specs.List.{list_all};
 ghost use Rattle.kb_context.specs.Reading.{Gives, seen};
 ghost use Rattle.serde_json.specs.Data.{object};
 ghost use Rattle.serde_json.specs.Find.{get};
 ghost use Rattle.serde_json.specs.View.{view, members_view};
-ghost use Rattle.kb_rules.specs.Entry.{text_of, required_text, optional_text, is_blank, is_blank_byte, is_removal, args_of, entry_of};
+ghost use Rattle.kb_rules.specs.Entry.{text_of, required_text, optional_text, is_blank, is_blank_byte, is_removal, when_of, args_of, entry_of};
 
 use crate::entry_fault::{EntryError, EntryFault};
 use crate::json::Json;
@@ -13,6 +13,7 @@ use crate::rule::Rule;
 use crate::whole::has_whole_numbers;
 use kb_context::Text;
 use kb_keys::Chord;
+use kb_when::{Clause, WhenFault};
 use serde_json::{Map, Value};
 use std::alloc::Global;
 
@@ -31,15 +32,13 @@ pub(crate) fn read_entry(alloc: Global, entry: Value, place: usize) -> Result<Ru
     }
     let key = required_text(&entry, "key")?;
     let chord = Chord::parse(alloc, key).map_err(EntryFault::Key)?;
-    let when = optional_text(&entry, "when")?;
-    if !is_blank(when) {
-        return Err(EntryError::Fault(EntryFault::UnreadWhen));
-    }
+    let when = read_when(alloc, optional_text(&entry, "when")?)?;
     let command = Text::from_str(alloc, command)?;
     let args = take_args(entry)?;
     Ok(Rule {
         chord,
         command,
+        when,
         args,
         place,
     })
@@ -88,6 +87,23 @@ fn is_blank_byte(byte: u8) -> bool
     ensures { result ≡ is_blank_byte byte }
 {
     matches!(byte, b' ' | b'\t' | b'\r' | b'\n')
+}
+
+/// The clause of a `when` text, if it says something.
+fn read_when(alloc: Global, text: &str) -> Result<Option<Clause>, EntryError>
+    ensures read { Gives (λ when. when) result (when_of text.now) }
+
+    // What `read` cites: a text that says something is never a rule without a clause.
+    ensures kept { IfOk result (λ when. is_some when ≡ not (is_blank text.now)) }
+{
+    if is_blank(text) {
+        return Ok(None);
+    }
+    match Clause::parse(alloc, text) {
+        Ok(clause) => Ok(Some(clause)),
+        Err(WhenFault::NoMemory) => Err(EntryError::NoMemory),
+        Err(fault) => Err(EntryError::Fault(EntryFault::When(fault))),
+    }
 }
 
 /// The arguments of an element, moved out of it, if it has any: whole within i64 in each number.

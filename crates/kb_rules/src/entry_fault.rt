@@ -4,6 +4,7 @@ ghost use Rattle.kb_rules.specs.EntryFault.{number_of};
 
 use kb_context::ReadError;
 use kb_keys::KeyFault;
+use kb_when::WhenFault;
 use thiserror::Error;
 
 /// Why an element of a rule file is dropped. An element with several faults has the first, in the
@@ -13,9 +14,9 @@ pub enum EntryFault {
     /// The key text can't be read.
     #[error(transparent)]
     Key(KeyFault),
-    /// The clause can't be read. Clauses aren't read yet, so this is each that isn't blank.
-    #[error("the `when` clause can't be read")]
-    UnreadWhen,
+    /// The text of the `when` clause can't be read.
+    #[error(transparent)]
+    When(WhenFault),
     /// There is no `command` or no `key`.
     #[error("a member is missing")]
     MissingMember,
@@ -29,13 +30,13 @@ pub enum EntryFault {
 pub(crate) type EntryError = ReadError<EntryFault>;
 
 impl EntryFault {
-    /// The number that a warning prints: 10 to 12 for a key text, else 30, 40 or 41.
+    /// The number that a warning prints: 10 to 12 for a key text, 30 to 33 for a clause, else 40 or 41.
     pub fn number(self) -> u32
         ensures { result ≡ number_of self }
     {
         match self {
             EntryFault::Key(fault) => fault.number(),
-            EntryFault::UnreadWhen => 30,
+            EntryFault::When(fault) => fault.number(),
             EntryFault::MissingMember => 40,
             EntryFault::WrongShape => 41,
         }

@@ -2,8 +2,10 @@
 use crate::json::Json;
 use kb_context::Text;
 use kb_keys::Chord;
+use kb_when::Clause;
 
-/// Keystrokes, and the command that they start.
+/// Keystrokes, and the command that they start where the clause holds. The members are those of VS
+/// Code's documentation of keyboard shortcuts.
 #[derive(Debug, Drop)]
 pub struct Rule {
     /// The keystrokes, one after another.
@@ -11,6 +13,9 @@ pub struct Rule {
     /// The identifier of the command, which need not exist. The empty one starts nothing: such a
     /// rule takes its keystrokes from the rules above it (VS Code's documentation).
     pub command: Text,
+    /// The condition on the context. A rule without one counts whatever the context is (VS Code's
+    /// documentation).
+    pub when: Option<Clause>,
     /// The member `args`, if the rule has it: each number in it is whole within i64.
     pub args: Option<Json>,
     /// Where the rule stands in its file: the number of elements above it, dropped ones too.

@@ -80,12 +80,13 @@ impl RuleList {
 /// Reads the elements of a rule file. Each becomes a rule, or is dropped with a warning of its
 /// first fault. The faults are looked for in this order (our decision): it is no object (41);
 /// `command` is absent (40), is no text (41) or begins with `-` (41, until such elements are read);
-/// `key` is absent (40), is no text (41) or can't be read (10 to 12); `when` is no text (41) or isn't
-/// blank (30, until clauses are read); a number in `args`, at any depth, isn't whole within i64
-/// (41). Other members are ignored, and `command` may be empty.
+/// `key` is absent (40), is no text (41) or can't be read (10 to 12); `when` is no text (41), or is
+/// neither blank nor a clause (30 to 33, the first fault of the clause); a number in `args`, at any
+/// depth, isn't whole within i64 (41). Other members are ignored, and `command` may be empty.
 ///
-/// The values are taken, and each is dropped as soon as it is read: of a kept one the arguments are
-/// moved, and the command is copied. `NoMemory` where memory was refused.
+/// A rule whose `when` is absent or blank has no clause (our decision for a blank one). The values
+/// are taken, and each is dropped as soon as it is read: of a kept one the arguments are moved, and
+/// the command is copied. `NoMemory` where memory was refused; it is never a warning.
 pub fn read_list(alloc: Global, values: Vec<Value>) -> Result<RuleList, NoMemory>
     ensures rules { IfOk result (λ list. list.rules ≡ rules_of 0 (map view values.items)) }
     ensures warnings { IfOk result (λ list. list.warnings ≡ warnings_of 0 (map view values.items)) }
