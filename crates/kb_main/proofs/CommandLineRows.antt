@@ -6,24 +6,28 @@ use Rattle.clap.specs.declared.error.kind.ErrorKind.TheVariants.{ArgumentConflic
 use Rattle.clap.proofs.OnLiterals.{clap_on_literals}
 use Rattle.kb_main.specs.CommandLine.{keyrun_app}
 
-abbrev both : List Text
-both = codes "keyrun" ∷ codes "--script" ∷ codes "s" ∷ codes "--user=u" ∷ []
+abbrev all : List Text
+all = codes "keyrun" ∷ codes "--script" ∷ codes "s" ∷ codes "--user=u" ∷ codes "--layout" ∷ codes "l" ∷ []
 
-both_are_taken : takes keyrun_app both ≡ true
+all_are_taken : takes keyrun_app all ≡ true
 unfolding clap_on_literals
-both_are_taken = refl
+all_are_taken = refl
 
-both_have_no_fault : fault_of keyrun_app both ≡ []
+all_have_no_fault : fault_of keyrun_app all ≡ []
 unfolding clap_on_literals
-both_have_no_fault = refl
+all_have_no_fault = refl
 
-both_give_the_user : first_of (codes "user") (matches_of keyrun_app both) ≡ Some (codes "u")
+all_give_the_user : first_of (codes "user") (matches_of keyrun_app all) ≡ Some (codes "u")
 unfolding clap_on_literals
-both_give_the_user = refl
+all_give_the_user = refl
 
-both_give_the_script : first_of (codes "script") (matches_of keyrun_app both) ≡ Some (codes "s")
+all_give_the_script : first_of (codes "script") (matches_of keyrun_app all) ≡ Some (codes "s")
 unfolding clap_on_literals
-both_give_the_script = refl
+all_give_the_script = refl
+
+all_give_the_layout : first_of (codes "layout") (matches_of keyrun_app all) ≡ Some (codes "l")
+unfolding clap_on_literals
+all_give_the_layout = refl
 
 none_give_no_user : first_of (codes "user") (matches_of keyrun_app (codes "keyrun" ∷ [])) ≡ None
 unfolding clap_on_literals
@@ -53,10 +57,6 @@ no_positional = refl
 no_platform : fault_of keyrun_app (codes "keyrun" ∷ codes "--platform" ∷ codes "mac" ∷ []) ≡ UnknownArgument ∷ []
 unfolding clap_on_literals
 no_platform = refl
-
-no_layout : fault_of keyrun_app (codes "keyrun" ∷ codes "--layout" ∷ codes "l" ∷ []) ≡ UnknownArgument ∷ []
-unfolding clap_on_literals
-no_layout = refl
 
 no_defaults : fault_of keyrun_app (codes "keyrun" ∷ codes "--defaults" ∷ codes "d" ∷ []) ≡ UnknownArgument ∷ []
 unfolding clap_on_literals

@@ -15,15 +15,16 @@ use Rattle.kb_main.specs.declared.given.OptionsFault.TheVariants.{Line, NoMemory
 abbrev pub file_rule : Text → Rule
 file_rule name = record (new_rule name) { long = Some name; value_names = 1 }
 
--- `keyrun [--user F] [--script F]`
+-- `keyrun [--layout F] [--user F] [--script F]`
 abbrev pub keyrun_app : App
-keyrun_app = with_rule (with_rule (new_app (codes "keyrun"))
-    (file_rule (codes "user"))) (file_rule (codes "script"))
+keyrun_app = with_rule (with_rule (with_rule (new_app (codes "keyrun"))
+    (file_rule (codes "layout"))) (file_rule (codes "user"))) (file_rule (codes "script"))
 
 -- ---- what the words mean
 
 -- the options are what the matches of a command line say
 pub record Gives (rows : List Row) (given : Options) : Type 0 where
+  pub layout : given.layout ≡ first_of (codes "layout") rows
   pub user : given.user ≡ first_of (codes "user") rows
   pub script : given.script ≡ first_of (codes "script") rows
 

@@ -2,13 +2,14 @@
 use Rattle.std.specs.Prelude.{ℕ, Bool, true, false, List, [], ◌++◌, Result, Ok, Err, codes, decimal}
 use Rattle.clap.specs.declared.error.kind.ErrorKind.{ErrorKind}
 use Rattle.clap.specs.declared.error.kind.ErrorKind.TheVariants.{DisplayHelp, DisplayVersion}
-use Rattle.kb_session.specs.Fault.{file_name, file_number, load_file_word}
-use Rattle.kb_session.specs.declared.fault.FileFault.{FileFault}
+use Rattle.kb_files.specs.Fault.{file_name, file_number}
+use Rattle.kb_session.specs.Fault.{load_file_word}
+use Rattle.kb_files.specs.declared.fault.FileFault.{FileFault}
 use Rattle.kb_session.specs.declared.fault.LoadFile.{LoadFile}
 use Rattle.kb_session.specs.declared.fault.LoadFault.{LoadFault}
 use Rattle.kb_session.specs.declared.fault.LoadFault.TheVariants as load
-use Rattle.kb_session.specs.declared.fault.ScriptFault.{ScriptFault}
-use Rattle.kb_session.specs.declared.fault.ScriptFault.TheVariants as script
+use Rattle.kb_script.specs.declared.fault.ScriptFault.{ScriptFault}
+use Rattle.kb_script.specs.declared.fault.ScriptFault.TheVariants as script
 use Rattle.kb_main.specs.declared.files.ReadFault.{ReadFault}
 use Rattle.kb_main.specs.declared.files.ReadFault.TheVariants as read
 use Rattle.kb_main.specs.declared.outcome.Ending.{Ending}

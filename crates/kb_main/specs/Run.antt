@@ -2,7 +2,7 @@
 use Rattle.std.specs.Prelude.{◌≡◌, ◌⊎◌, ℕ, ⊤, Some}
 use Rattle.clap.specs.Words.{kind_of}
 use Rattle.clap.specs.declared.error.kind.ErrorKind.TheVariants.{InvalidValue}
-use Rattle.kb_session.specs.declared.fault.ScriptFault.TheVariants as script
+use Rattle.kb_script.specs.declared.fault.ScriptFault.TheVariants as script
 use Rattle.kb_main.specs.declared.given.Options.{Options}
 use Rattle.kb_main.specs.declared.given.OptionsFault.{OptionsFault}
 use Rattle.kb_main.specs.declared.given.OptionsFault.TheVariants.{Line, NoMemory}
@@ -18,7 +18,7 @@ HasNoWords NoMemory = ⊤
 -- memory was refused
 abbrev pub EndsBeforeScript : Options → Ending → Type 0
 EndsBeforeScript given Ran = ⊥
-EndsBeforeScript given (CannotRead path) = (given.user ≡ Some path) ⊎ (given.script ≡ Some path)
+EndsBeforeScript given (CannotRead path) = (given.layout ≡ Some path) ⊎ ((given.user ≡ Some path) ⊎ (given.script ≡ Some path))
 EndsBeforeScript given (Load fault) = ⊤
 EndsBeforeScript given (Script fault) = fault ≡ script.NoMemory
 

@@ -46,6 +46,10 @@ fn keyrun<'a>(alloc: Global) -> Result<Command<'a>, NoMemory>
     let command = bare(alloc)?;
     let command = with(
         command,
+        file_option(alloc, "layout", "The layout of the scopes, as JSON with comments"),
+    )?;
+    let command = with(
+        command,
         file_option(alloc, "user", "The user's rules, as JSON with comments"),
     )?;
     with(
@@ -82,6 +86,7 @@ fn chosen(alloc: Global, matches: &ArgMatches<'_>) -> Result<Options, NoMemory>
     ensures { IfOk result (Gives (rows_of (found_of matches.now))) }
 {
     Ok(Options {
+        layout: copied(alloc, text_given(matches, "layout"))?,
         user: copied(alloc, text_given(matches, "user"))?,
         script: copied(alloc, text_given(matches, "script"))?,
     })
@@ -89,7 +94,7 @@ fn chosen(alloc: Global, matches: &ArgMatches<'_>) -> Result<Options, NoMemory>
 
 /// The options that the words of a command line give, of which the first is the program's name.
 ///
-/// They are `--user F` and `--script F`, each at most once and in any order; `--` ends them. What
+/// They are `--layout F`, `--user F` and `--script F`, each at most once and in any order; `--` ends them. What
 /// the words mean is what `clap` has written down of its meaning, for this command.
 ///
 /// Errors: `Line` where that meaning refuses the words or they ask for help, with one of the kinds of

@@ -1,5 +1,5 @@
 //! The files that the command line names.
-ghost use Rattle.std.specs.Prelude.{◌≡◌, ◌≤◌, ◌↔◌, [], IfOk, IfErr, IsNone, IsSome, IsOkAnd, MatchResult, length};
+ghost use Rattle.std.specs.Prelude.{◌≡◌, ◌≤◌, ◌↔◌, IfOk, IfErr, IfSome, IsSome, MatchResult, length, option_map};
 ghost use Rattle.kb_main.specs.Files.{IsWhole, FailsToRead, EndsFor, file_limit};
 
 use crate::outcome::Ending;
@@ -59,20 +59,33 @@ fn read_file<R: Files>(rt: &R, alloc: Global, path: &str) -> Result<Vec<u8>, Rea
     read_whole(alloc, fs::open(rt, path)?)
 }
 
-/// The bytes of the file that an option names, none where it names no file.
+/// The bytes of the file that an option names, and none where it names no file.
 ///
 /// Errors: how the run ends, where the file is not read.
-pub fn bytes_named<R: Files>(rt: &R, alloc: Global, path: &Option<Text>) -> Result<Vec<u8>, Ending>
-    ensures none { IsNone path.now → IsOkAnd result (λ bytes. bytes.items ≡ []) }
-    ensures within { IfOk result (λ bytes. length bytes.items ≤ file_limit) }
-    ensures err { IfErr result (EndsFor path.now) }
+pub fn bytes_named<R: Files>(
+    rt: &R,
+    alloc: Global,
+    path: &Option<Text>,
+) -> Result<Option<Vec<u8>>, Ending>
+    ensures { MatchResult result (λ bytes. IsSome bytes ↔ IsSome path.now) (EndsFor path.now) }
+    ensures within { IfOk result (λ bytes. IfSome bytes (λ bytes. length bytes.items ≤ file_limit)) }
 {
     let Some(path) = path else {
-        return Ok(Vec::new(alloc));
+        return Ok(None);
     };
     match read_file(rt, alloc, path.as_str()) {
-        Ok(bytes) => Ok(bytes),
+        Ok(bytes) => Ok(Some(bytes)),
         Err(fault) => Err(file_ending(alloc, path.as_str(), fault)?),
+    }
+}
+
+/// The bytes of a file, lent, where there is one.
+pub fn lent(bytes: &Option<Vec<u8>>) -> Option<&[u8]>
+    ensures { option_map (λ lent. lent.now) result ≡ option_map (λ bytes. bytes.items) bytes.now }
+{
+    match bytes {
+        Some(bytes) => Some(bytes.as_slice()),
+        None => None,
     }
 }
 

@@ -8,6 +8,9 @@ use thiserror::Error;
 /// What the command line asks for. The options and their meaning are our decision.
 #[derive(Debug, Drop)]
 pub struct Options {
+    /// The file of the scopes' layout, as named by `--layout F`. Without it there is one scope,
+    /// `window`.
+    pub layout: Option<Text>,
     /// The file of the user's rules, as named by `--user F`. Without it there are no rules.
     pub user: Option<Text>,
     /// The file of the script, as named by `--script F`. Without it the script is standard input.

@@ -2,7 +2,8 @@
 ghost use Rattle.std.specs.Prelude.{◌≡◌};
 
 use kb_context::{NoMemory, Text};
-use kb_session::{LoadFault, ScriptFault};
+use kb_script::ScriptFault;
+use kb_session::LoadFault;
 
 /// How a run ended, once the command line was read.
 #[derive(Debug, Drop)]

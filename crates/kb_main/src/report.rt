@@ -10,7 +10,10 @@ use crate::files::ReadFault;
 use crate::outcome::Ending;
 use clap::error::ErrorKind;
 use kb_context::{NoMemory, Text};
-use kb_session::{FileFault, LoadFault, LoadFile, ScriptFault, Warning};
+use kb_files::FileFault;
+use kb_rules::Warning;
+use kb_script::ScriptFault;
+use kb_session::{LoadFault, LoadFile};
 use std::alloc::Global;
 
 /// The status of a run that stopped, as one that finds no memory does.

@@ -5,12 +5,14 @@ ghost use Rattle.kb_main.specs.Report.{status_of};
 ghost use Rattle.kb_main.specs.Run.{HasNoWords, EndsBeforeScript, EndsByScript, IsStatus};
 
 use crate::command_line::{not_text, options};
-use crate::files::{bytes_named, file_named};
+use crate::files::{bytes_named, file_named, lent};
 use crate::given::{Options, OptionsFault};
 use crate::outcome::Ending;
 use crate::report::{OUT_OF_MEMORY, STOPPED, ending, line_status, script_ending, warning_line};
 use kb_context::NoMemory;
-use kb_session::{Inputs, ScriptFault, Session, Warning, run_script};
+use kb_rules::Warning;
+use kb_script::{ScriptFault, run_script};
+use kb_session::{Inputs, Session};
 use std::alloc::Global;
 use std::io::{BufWriter, Read, Write};
 use std::process::ExitCode;
@@ -77,10 +79,12 @@ fn carry_out<R: Files + Print + Eprint + Input>(
 ) -> Result<Ending, Ending>
     ensures { MatchResult result EndsByScript (EndsBeforeScript given.now) }
 {
+    let layout = bytes_named(rt, alloc, &given.layout)?;
     let user = bytes_named(rt, alloc, &given.user)?;
     let script = file_named(rt, alloc, &given.script)?;
     let inputs = Inputs {
-        user: user.as_slice(),
+        layout: lent(&layout),
+        user: lent(&user).unwrap_or(&[]),
     };
     let mut session = Session::load(alloc, inputs)?;
     print_warnings(rt, alloc, session.warnings())?;
