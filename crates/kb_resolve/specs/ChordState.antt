@@ -1,5 +1,6 @@
 -- What a key press does to the chord that is open.
 use Rattle.std.specs.Prelude.{List, [], ◌∷◌, ◌++◌}
+use Rattle.kb_context.specs.Scopes.{Keys}
 use Rattle.kb_keys.specs.declared.keystroke.Keystroke.{Keystroke}
 use Rattle.kb_rules.specs.declared.rule.Rule.{Rule}
 use Rattle.kb_resolve.specs.Pressed as press
@@ -24,11 +25,11 @@ kept_by strokes (found rule) = []
 kept_by strokes more = strokes
 kept_by strokes nothing = []
 
--- what a press does
-abbrev pub step : List Keystroke → Keystroke → List Rule → Step
-step before stroke rules = step_by before (resolved (before ++ stroke ∷ []) rules)
+-- what a press does, where the focus sees these keys
+abbrev pub step : List Keystroke → Keystroke → Keys → List Rule → Step
+step before stroke keys rules = step_by before (resolved (before ++ stroke ∷ []) keys rules)
 
 -- the keystrokes that are pressed after it
-abbrev pub pressed_after : List Keystroke → Keystroke → List Rule → List Keystroke
-pressed_after before stroke rules =
-    kept_by (before ++ stroke ∷ []) (resolved (before ++ stroke ∷ []) rules)
+abbrev pub pressed_after : List Keystroke → Keystroke → Keys → List Rule → List Keystroke
+pressed_after before stroke keys rules =
+    kept_by (before ++ stroke ∷ []) (resolved (before ++ stroke ∷ []) keys rules)

@@ -1,22 +1,30 @@
 -- The rule that pressed keystrokes choose.
-use Rattle.std.specs.Prelude.{◌≡◌, ◌<◌, List, [], ◌∷◌, ◌++◌, length, Bool, nat_lt, if◌then◌else◌, Option, None, Some, All}
+use Rattle.std.specs.Prelude.{◌≡◌, ◌<◌, List, [], ◌∷◌, ◌++◌, length, Bool, true, ◌&&◌, nat_lt, if◌then◌else◌, Option, None, Some, All}
 use Rattle.std.specs.Option.{option_or}
+use Rattle.kb_context.specs.Scopes.{Keys}
+use Rattle.kb_when.specs.Clause.{Clause}
+use Rattle.kb_when.specs.Value.{value}
 use Rattle.kb_keys.specs.declared.keystroke.Keystroke.{Keystroke}
 use Rattle.kb_keys.specs.Chord.{begins_with}
 use Rattle.kb_rules.specs.declared.rule.Rule.{Rule}
 use Rattle.kb_resolve.specs.Resolved.{Resolution, found, more, nothing}
 
--- the rule's keystrokes begin with the pressed ones
-abbrev pub matches : List Keystroke → Rule → Bool
-matches pressed rule = begins_with rule.chord pressed
+-- a clause, if there is one, holds over these keys
+abbrev pub when_holds : Keys → Option Clause → Bool
+when_holds keys None = true
+when_holds keys (Some clause) = value keys clause
+
+-- the rule's keystrokes begin with the pressed ones, and its clause holds
+abbrev pub matches : Keys → List Keystroke → Rule → Bool
+matches keys pressed rule = begins_with rule.chord pressed && when_holds keys rule.when
 
 -- of the rules that pass a test the one of greatest position, or none
 abbrev pub last_where : (Rule → Bool) → List Rule → Option Rule
 last_where p [] = None
 last_where p (rule ∷ below) = option_or (last_where p below) (if p rule then Some rule else None)
 
-abbrev pub chosen : List Keystroke → List Rule → Option Rule
-chosen pressed rules = last_where (matches pressed) rules
+abbrev pub chosen : List Keystroke → Keys → List Rule → Option Rule
+chosen pressed keys rules = last_where (matches keys pressed) rules
 
 -- a rule with more keystrokes waits for them
 abbrev pub resolution_by : List Keystroke → Option Rule → Resolution
@@ -24,26 +32,27 @@ resolution_by pressed None = nothing
 resolution_by pressed (Some rule) =
     if nat_lt (length pressed) (length rule.chord) then more else found rule
 
--- what a search for the pressed keystrokes finds
-abbrev pub resolved : List Keystroke → List Rule → Resolution
-resolved pressed rules = resolution_by pressed (chosen pressed rules)
+-- what a search for the pressed keystrokes finds, where the focus sees these keys
+abbrev pub resolved : List Keystroke → Keys → List Rule → Resolution
+resolved pressed keys rules = resolution_by pressed (chosen pressed keys rules)
 
--- some keystrokes after the pressed ones are the rule's
-abbrev pub Matches : List Keystroke → Rule → Type 0
-Matches pressed rule = (rest : List Keystroke) × (rule.chord ≡ pressed ++ rest)
+-- some keystrokes after the pressed ones are the rule's, and its clause holds
+abbrev pub Matches : List Keystroke → Keys → Rule → Type 0
+Matches pressed keys rule =
+    (rest : List Keystroke) × (rule.chord ≡ pressed ++ rest) × (when_holds keys rule.when ≡ true)
 
 -- the rule stands at a position and matches, and none below it does
-pub record IsLastMatch (pressed : List Keystroke) (rules : List Rule) (rule : Rule) : Type 0 where
+pub record IsLastMatch (pressed : List Keystroke) (keys : Keys) (rules : List Rule) (rule : Rule) : Type 0 where
   pub above : List Rule
   pub below : List Rule
   pub whole : rules ≡ above ++ rule ∷ below
-  pub matching : Matches pressed rule
-  pub rest_fails : All (λ other. ¬ Matches pressed other) below
+  pub matching : Matches pressed keys rule
+  pub rest_fails : All (λ other. ¬ Matches pressed keys other) below
 
 -- what is found is the last rule that matches, and has the pressed keystrokes alone or more of
 -- them; nothing is found where no rule matches
-abbrev pub IsGreatest : List Keystroke → List Rule → Resolution → Type 0
-IsGreatest pressed rules (found rule) = IsLastMatch pressed rules rule × (rule.chord ≡ pressed)
-IsGreatest pressed rules more =
-    (rule : Rule) × IsLastMatch pressed rules rule × (length pressed < length rule.chord)
-IsGreatest pressed rules nothing = All (λ rule. ¬ Matches pressed rule) rules
+abbrev pub IsGreatest : List Keystroke → Keys → List Rule → Resolution → Type 0
+IsGreatest pressed keys rules (found rule) = IsLastMatch pressed keys rules rule × (rule.chord ≡ pressed)
+IsGreatest pressed keys rules more =
+    (rule : Rule) × IsLastMatch pressed keys rules rule × (length pressed < length rule.chord)
+IsGreatest pressed keys rules nothing = All (λ rule. ¬ Matches pressed keys rule) rules

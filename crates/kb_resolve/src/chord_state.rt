@@ -1,12 +1,13 @@
 //! The chord that is open.
 ghost use Rattle.std.specs.Prelude.{◌≡◌, ◌≢◌, ◌<◌, ◌↔◌, [], length, IfOk, OnOk, OnErr, IsTrue};
+ghost use Rattle.kb_context.specs.Scopes.{context};
 ghost use Rattle.kb_resolve.specs.ChordState.{step, pressed_after};
 ghost use Rattle.kb_resolve.specs.Pressed.{step_of};
 
 use crate::pressed::Pressed;
 use crate::resolved::Resolved;
 use crate::resolver::Resolver;
-use kb_context::NoMemory;
+use kb_context::{NoMemory, Scopes};
 use kb_keys::{Chord, Keystroke, LIMIT};
 use std::alloc::Global;
 use std::marker::Model;
@@ -60,20 +61,28 @@ impl ChordState {
     }
 
     /// Presses a key: what it does is what a search for the keystrokes pressed so far with this one
-    /// finds. A longer rule keeps them pressed (VS Code's documentation of chords); after the other
-    /// answers no chord is open, and a key that ends a chord without a rule does nothing else (our
-    /// decision).
+    /// finds, over what the focus sees now. A longer rule keeps them pressed (VS Code's documentation
+    /// of chords); after the other answers no chord is open, and a key that ends a chord without a
+    /// rule does nothing else (our decision). So is that each press asks the clauses anew: what the
+    /// focus saw at the presses before doesn't count.
     ///
-    /// `NoMemory` where the rule could not be shared; the chord then stays as it was. Nothing else
-    /// takes memory.
-    pub fn press(&mut self, stroke: Keystroke, resolver: &Resolver) -> Result<Pressed, NoMemory>
-        ensures step { IfOk result (λ pressed. step_of pressed ≡ step self.old stroke resolver.now) }
-        ensures pressed { OnOk result (self.new ≡ pressed_after self.old stroke resolver.now) }
+    /// `NoMemory` as for `Resolver::resolve`; the chord then stays as it was. Nothing else takes
+    /// memory.
+    pub fn press(
+        &mut self,
+        stroke: Keystroke,
+        resolver: &Resolver,
+        scopes: &Scopes,
+    ) -> Result<Pressed, NoMemory>
+        ensures step { IfOk result (λ pressed.
+            step_of pressed ≡ step self.old stroke (context scopes.now) resolver.now) }
+        ensures pressed { OnOk result (
+            self.new ≡ pressed_after self.old stroke (context scopes.now) resolver.now) }
         ensures err { OnErr result (self.new ≡ self.old) }
     {
         let was_open = !self.pressed.is_empty();
         self.pressed.push(stroke);
-        match resolver.resolve(self.pressed.as_slice()) {
+        match resolver.resolve(self.pressed.as_slice(), scopes) {
             Ok(Resolved::Found(rule)) => {
                 self.pressed.clear();
                 Ok(Pressed::Start(rule))

@@ -1,5 +1,5 @@
-//! What a key press means: the search for the rule that the pressed keystrokes choose, and the
-//! chord that is open.
+//! What a key press means: the search for the rule that the pressed keystrokes choose where the
+//! focus is, and the chord that is open.
 //!
 //! Both are those of VS Code's documentation of keyboard shortcuts. What it leaves open is our
 //! decision, and is said so where it is made.

@@ -3,8 +3,8 @@ use kb_rules::Rule;
 use std::rc::Rc;
 
 /// What a search for pressed keystrokes finds: of the rules whose keystrokes begin with all of them
-/// the lowest, if there is one. Contracts see it as the `Resolution` of `specs/`, which has the rule
-/// in place of the share of it.
+/// and whose clause holds the lowest, if there is one. Contracts see it as the `Resolution` of
+/// `specs/`, which has the rule in place of the share of it.
 #[derive(Debug, Drop)]
 pub enum Resolved {
     /// The rule, which has no more keystrokes than the pressed ones.

@@ -1,10 +1,11 @@
 //! The search for the rule that pressed keystrokes choose.
-ghost use Rattle.std.specs.Prelude.{◌≡◌, ◌<◌, ◌≤◌, length, map, reverse, find, option_map, IfOk, IfSome};
+ghost use Rattle.std.specs.Prelude.{◌≡◌, ◌<◌, length, map, option_map, IfOk};
+ghost use Rattle.kb_context.specs.Scopes.{context};
 ghost use Rattle.kb_resolve.specs.Resolved.{more, resolution_of};
 ghost use Rattle.kb_resolve.specs.Resolver.{chosen, matches, resolved, IsGreatest};
 
 use crate::resolved::Resolved;
-use kb_context::{NoMemory, Seq};
+use kb_context::{NoMemory, Scopes, Seq};
 use kb_keys::{Keystroke, LIMIT};
 use kb_rules::{Rule, RuleSet};
 use std::alloc::Global;
@@ -43,20 +44,24 @@ impl Resolver {
     }
 
     /// Searches the rules from the bottom to the top for the first whose keystrokes begin with the
-    /// pressed ones (VS Code's documentation: the rules are evaluated from the bottom to the top, and
-    /// the first that matches counts). A rule with the empty command is found as any other.
-    /// `NoMemory` where the rule could not be shared.
+    /// pressed ones and whose clause, if it has one, holds over what the focus of the scopes sees (VS
+    /// Code's documentation: the rules are evaluated from the bottom to the top, and the first that
+    /// matches in key and clause counts). A rule with the empty command is found as any other.
+    /// `NoMemory` where the rule could not be shared, or a clause's value could not be found for lack
+    /// of memory.
     #[tactic(auto, using(crate::proofs::ResolverLemmas::resolved_is_greatest))]
-    pub fn resolve(&self, pressed: &[Keystroke]) -> Result<Resolved, NoMemory>
-        ensures value { IfOk result (λ found. resolution_of found ≡ resolved pressed.now self.now) }
+    pub fn resolve(&self, pressed: &[Keystroke], scopes: &Scopes) -> Result<Resolved, NoMemory>
+        ensures value { IfOk result (λ found.
+            resolution_of found ≡ resolved pressed.now (context scopes.now) self.now) }
 
         // What `value` cites, in terms of positions.
-        ensures greatest { IsGreatest pressed.now self.now (resolved pressed.now self.now) }
+        ensures greatest { IsGreatest pressed.now (context scopes.now) self.now
+            (resolved pressed.now (context scopes.now) self.now) }
 
         // A longer rule has at most `LIMIT` keystrokes, so there is room for one more.
         ensures fits { IfOk result (λ found. resolution_of found ≡ more → length pressed.now < LIMIT) }
     {
-        let Some(rule) = lowest(self.rules.as_slice(), pressed) else {
+        let Some(rule) = lowest(self.rules.as_slice(), pressed, scopes)? else {
             return Ok(Resolved::Nothing);
         };
         if rule.chord.len() > pressed.len() {
@@ -66,12 +71,33 @@ impl Resolver {
     }
 }
 
-/// The lowest rule whose keystrokes begin with the pressed ones.
-fn lowest<'r>(rules: &'r [Rc<Rule>], pressed: &[Keystroke]) -> Option<&'r Rc<Rule>>
-    ensures { option_map (λ r. r.now.value) result ≡ chosen pressed.now (map (λ r. r.value) rules.now) }
+/// The lowest rule that matches.
+fn lowest<'r>(
+    rules: &'r [Rc<Rule>],
+    pressed: &[Keystroke],
+    scopes: &Scopes,
+) -> Result<Option<&'r Rc<Rule>>, NoMemory>
+    ensures { IfOk result (λ found. option_map (λ r. r.now.value) found
+        ≡ chosen pressed.now (context scopes.now) (map (λ r. r.value) rules.now)) }
 {
-    rules
-        .iter()
-        .rev()
-        .find(|rule| rule.chord.begins_with(pressed))
+    for rule in rules.iter().rev() {
+        if matches(rule, pressed, scopes)? {
+            return Ok(Some(rule));
+        }
+    }
+    Ok(None)
+}
+
+/// Whether the rule's keystrokes begin with the pressed ones, and its clause holds. The keystrokes
+/// are looked at first, since a clause may ask many keys.
+fn matches(rule: &Rule, pressed: &[Keystroke], scopes: &Scopes) -> Result<bool, NoMemory>
+    ensures { IfOk result (λ answer. answer ≡ matches (context scopes.now) pressed.now rule.now) }
+{
+    if !rule.chord.begins_with(pressed) {
+        return Ok(false);
+    }
+    match &rule.when {
+        Some(clause) => clause.holds(scopes),
+        None => Ok(true),
+    }
 }

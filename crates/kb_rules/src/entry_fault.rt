@@ -14,7 +14,8 @@ pub enum EntryFault {
     /// The key text can't be read.
     #[error(transparent)]
     Key(KeyFault),
-    /// The text of the `when` clause can't be read.
+    /// The text of the `when` clause can't be read. Its `NoMemory` is never a fault of an element: it
+    /// ends the reading of the list.
     #[error(transparent)]
     When(WhenFault),
     /// There is no `command` or no `key`.
@@ -30,7 +31,8 @@ pub enum EntryFault {
 pub(crate) type EntryError = ReadError<EntryFault>;
 
 impl EntryFault {
-    /// The number that a warning prints: 10 to 12 for a key text, 30 to 33 for a clause, else 40 or 41.
+    /// The number that a warning prints: 10 to 12 for a key text, 30 to 33 for a clause, else 40 or
+    /// 41.
     pub fn number(self) -> u32
         ensures { result ≡ number_of self }
     {
