@@ -13,11 +13,12 @@ use Rattle.kb_keys.specs.KeyName.{names, key_named}
 use Rattle.kb_keys.specs.Keystroke.{keystroke_of, split_of, spelling}
 use Rattle.kb_rules.specs.Entry.{entry_of}
 use Rattle.kb_rules.specs.RuleList.{Listed}
-use Rattle.kb_session.specs.declared.fault.FileFault.{FileFault}
-use Rattle.kb_session.specs.Script.{told_of}
-use Rattle.kb_session.specs.ScriptRun.{text_of}
+use Rattle.kb_files.specs.declared.fault.FileFault.{FileFault}
+use Rattle.kb_script.specs.Script.{told_of}
+use Rattle.kb_script.specs.ScriptRun.{text_of}
 use Rattle.kb_session.specs.Session.{loaded_session}
-use Rattle.kb_session.specs.UserFile.{user_rules}
+use Rattle.kb_files.specs.Layout.{window_scopes}
+use Rattle.kb_files.specs.UserFile.{user_rules}
 
 -- lines, each with its line feed
 abbrev lines : List (List ℕ) → List ℕ
@@ -25,7 +26,7 @@ lines [] = []
 lines (line ∷ more) = line ++ (10 ∷ lines more)
 
 abbrev written_by : Result Listed FileFault → List ℕ → List ℕ
-written_by (Ok listed) script = text_of (told_of script) (loaded_session listed)
+written_by (Ok listed) script = text_of (told_of script) (loaded_session window_scopes listed)
 written_by (Err fault) script = []
 
 -- what a script writes, in a session that is loaded with the user's rules

@@ -1,14 +1,15 @@
 //! Each public call once, with memory at hand.
-use kb_context::{Seq, Text};
+use kb_context::{ContextValue, Scopes, Seq, Text};
 use kb_core::{Arg, Args, Buffer, Core, Kind, Native, plain};
+use kb_files::{FileFault, read_scopes};
 use kb_keys::{Chord, Keystroke};
 use kb_resolve::{ChordState, Pressed, Resolved, Resolver};
 use kb_rules::{RuleSet, read_list};
-use kb_session::{
-    Answer, Event, FileFault, Inputs, LoadFault, LoadFile, Refusal, ScriptFault, Session,
-    SessionFault,
-};
+use kb_script::ScriptFault;
+use kb_session::{Inputs, LoadFault, LoadFile, Session, SessionFault};
+use kb_trace::{Answer, Event, Refusal};
 use serde_json::Value;
+use std::alloc::Global;
 use std::test::Fail;
 
 #[test]
@@ -19,8 +20,13 @@ fn faults_have_numbers_and_names(rt: HostRuntime) -> Result<(), Fail> {
         (LoadFault::NoMemory.number(), LoadFault::NoMemory.name()),
         (5, "NoMemory")
     );
-    let refusal = Refusal::File(FileFault::NotUtf8);
-    assert_eq!(rt; (refusal.number(), refusal.name()), (1, "NotUtf8"));
+    for (refusal, number, name) in [
+        (Refusal::File(FileFault::NotUtf8), 1, "NotUtf8"),
+        (Refusal::UnknownScope, 20, "UnknownScope"),
+        (Refusal::TooManyKeys, 22, "TooManyKeys"),
+    ] {
+        assert_eq!(rt; (refusal.number(), refusal.name()), (number, name));
+    }
     assert_eq!(rt;
         (
             SessionFault::NoMemory.number(),
@@ -55,6 +61,7 @@ fn natives_are_named_and_declare(rt: HostRuntime) -> Result<(), Fail> {
         ("buffer.clear", 0, 11),
         ("buffer.top", 0, 11),
         ("buffer.bottom", 0, 11),
+        ("setContext", 2, 101),
     ] {
         let native = Native::named(name).ok_or("no native")?;
         assert_eq!(rt; native.name(), name);
@@ -72,11 +79,17 @@ fn natives_are_named_and_declare(rt: HostRuntime) -> Result<(), Fail> {
     Ok(())
 }
 
+/// The one scope of an engine without a layout.
+fn window(alloc: Global) -> Option<Scopes> {
+    read_scopes(alloc, None).ok()
+}
+
 #[test]
 fn a_native_costs_one(rt: HostRuntime) -> Result<(), Fail> {
     let mut args = Args::new(rt.alloc());
     args.push(Arg::Text(Text::from_str(rt.alloc(), "hi")?));
-    let typed = plain(Native::TypeText, Core::new(rt.alloc()), args);
+    let scopes = window(rt.alloc()).ok_or("no scopes")?;
+    let typed = plain(Native::TypeText, Core::new(rt.alloc(), scopes), args);
     assert_eq!(rt; typed.cost, Ok(1));
     assert_eq!(rt; typed.core.buffer.before.as_str(), "hi");
     let moved = plain(Native::CursorLeft, typed.core, Args::new(rt.alloc()));
@@ -171,9 +184,10 @@ fn rules_are_shared_and_resolved(rt: HostRuntime) -> Result<(), Fail> {
     let set = RuleSet::assemble(rt.alloc(), &list)?;
     assert_eq!(rt; set.rules().len(), 2);
     let resolver = Resolver::build(rt.alloc(), &set)?;
+    let scopes = window(rt.alloc()).ok_or("no scopes")?;
     let chord = Chord::parse(rt.alloc(), "a b").ok().expect(&rt, "a b");
     for (count, found) in [(1usize, "more"), (2, "x")] {
-        match resolver.resolve(&chord.as_slice()[..count.min(chord.len())])? {
+        match resolver.resolve(&chord.as_slice()[..count.min(chord.len())], &scopes)? {
             Resolved::Found(rule) => assert_eq!(rt; rule.command.as_str(), found),
             Resolved::More => assert_eq!(rt; "more", found),
             Resolved::Nothing => assert!(rt; false, "nothing is found"),
@@ -181,7 +195,7 @@ fn rules_are_shared_and_resolved(rt: HostRuntime) -> Result<(), Fail> {
     }
     let mut state = ChordState::new(rt.alloc());
     for stroke in chord.as_slice() {
-        match state.press(*stroke, &resolver)? {
+        match state.press(*stroke, &resolver, &scopes)? {
             Pressed::Start(rule) => assert_eq!(rt; rule.command.as_str(), "x"),
             Pressed::More => assert_eq!(rt; state.pressed().len(), 1),
             Pressed::Left | Pressed::Unbound => assert!(rt; false, "it fits no rule"),
@@ -207,11 +221,47 @@ fn arguments_are_read_and_fit(rt: HostRuntime) -> Result<(), Fail> {
     Ok(())
 }
 
+/// The lines of a trace, one by one.
+fn has_lines(session: &Session, wanted: &[&str]) -> bool {
+    session.trace().len() == wanted.len()
+        && session.trace().iter().zip(wanted).all(|(line, text)| line.as_str() == *text)
+}
+
+#[test]
+fn a_session_knows_scopes(rt: HostRuntime) -> Result<(), Fail> {
+    let inputs = Inputs {
+        layout: None,
+        user: b"",
+    };
+    let mut session = Session::load(rt.alloc(), inputs)
+        .ok()
+        .expect(&rt, "no session");
+    let scope = Text::from_str(rt.alloc(), "window")?;
+    let key = Text::from_str(rt.alloc(), "ok")?;
+    let set = Event::SetKey(scope, key, ContextValue::Truth(true));
+    assert_eq!(rt; session.handle(set), Ok(Answer::Did));
+    let scope = Text::from_str(rt.alloc(), "window")?;
+    assert_eq!(rt; session.handle(Event::Focus(scope)), Ok(Answer::Did));
+    let scope = Text::from_str(rt.alloc(), "nowhere")?;
+    let key = Text::from_str(rt.alloc(), "ok")?;
+    let refused = Ok(Answer::Refused(Refusal::UnknownScope));
+    assert_eq!(rt; session.handle(Event::UnsetKey(scope, key)), refused);
+    let wanted = ["set window ok", "focus window", "refused 20 UnknownScope"];
+    assert!(rt; has_lines(&session, &wanted));
+    assert!(rt; !session.is_stopped());
+    session.stop();
+    assert_eq!(rt; session.handle(Event::Unread(1)), Err(SessionFault::Stopped));
+    Ok(())
+}
+
 #[test]
 fn a_session_handles_and_runs(rt: HostRuntime) -> Result<(), Fail> {
     let key = Keystroke::parse("ctrl+a").ok().expect(&rt, "ctrl+a");
     let user = b"[{\"key\":\"ctrl+a\",\"command\":\"nope\"}]";
-    let inputs = Inputs { user: b"" };
+    let inputs = Inputs {
+        layout: None,
+        user: b"",
+    };
     let mut session = Session::load(rt.alloc(), inputs)
         .ok()
         .expect(&rt, "no session");
@@ -233,9 +283,6 @@ fn a_session_handles_and_runs(rt: HostRuntime) -> Result<(), Fail> {
         "key ctrl+a: start nope",
         "not found nope",
     ];
-    assert_eq!(rt; session.trace().len(), lines.len());
-    for (line, wanted) in session.trace().iter().zip(&lines) {
-        assert_eq!(rt; line.as_str(), *wanted);
-    }
+    assert!(rt; has_lines(&session, &lines));
     Ok(())
 }

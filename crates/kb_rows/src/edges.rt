@@ -1,6 +1,6 @@
 //! Scripts that are no text, and scripts at the limit of their length.
 use crate::{Failure, transcript};
-use kb_session::{SCRIPT_LIMIT, ScriptFault};
+use kb_script::{SCRIPT_LIMIT, ScriptFault};
 use std::test::Fail;
 
 static NO_TEXT: [(&[u8], &[u8]); 4] = [
@@ -13,7 +13,7 @@ static NO_TEXT: [(&[u8], &[u8]); 4] = [
 #[test]
 fn bytes_that_are_no_text(rt: HostRuntime) -> Result<(), Fail> {
     for (script, trace) in &NO_TEXT {
-        match transcript(rt.alloc(), b"", script) {
+        match transcript(rt.alloc(), None, b"", script) {
             Ok(out) => assert_eq!(rt; out.as_slice(), *trace),
             Err(failure) => assert!(rt; false, "{failure:?}"),
         }
@@ -24,7 +24,7 @@ fn bytes_that_are_no_text(rt: HostRuntime) -> Result<(), Fail> {
 #[test]
 fn the_longest_script_is_run(rt: HostRuntime) -> Result<(), Fail> {
     let script = vec![in rt.alloc(); b'\n'; SCRIPT_LIMIT]?;
-    match transcript(rt.alloc(), b"", script.as_slice()) {
+    match transcript(rt.alloc(), None, b"", script.as_slice()) {
         Ok(out) => assert_eq!(rt; out.len(), 0),
         Err(failure) => assert!(rt; false, "{failure:?}"),
     }
@@ -34,7 +34,7 @@ fn the_longest_script_is_run(rt: HostRuntime) -> Result<(), Fail> {
 #[test]
 fn one_byte_more_is_too_long(rt: HostRuntime) -> Result<(), Fail> {
     let script = vec![in rt.alloc(); b'\n'; SCRIPT_LIMIT + 1]?;
-    match transcript(rt.alloc(), b"", script.as_slice()) {
+    match transcript(rt.alloc(), None, b"", script.as_slice()) {
         Ok(_) => assert!(rt; false, "the script ran"),
         Err(failure) => assert_eq!(rt; failure, Failure::Script(ScriptFault::TooLong)),
     }

@@ -1,10 +1,11 @@
 //! Files of rules: what is dropped with a warning, and what is refused.
-use kb_session::{Inputs, LoadFault, Session, Warning};
+use kb_rules::Warning;
+use kb_session::{Inputs, LoadFault, Session};
 use std::alloc::Global;
 use std::test::Fail;
 
 /// A file, and the warnings of it: numbers and places.
-static WARNED: [(&str, &[(u32, usize)]); 16] = [
+static WARNED: [(&str, &[(u32, usize)]); 17] = [
     ("[]", &[]),
     ("[{\"key\":\"a\",\"command\":\"x\"}]", &[]),
     ("[\"//\", /* c */ ]", &[(41, 0)]),
@@ -15,7 +16,7 @@ static WARNED: [(&str, &[(u32, usize)]); 16] = [
     ("[{\"key\":\"a b c\",\"command\":\"x\"}]", &[(11, 0)]),
     (
         "[{\"key\":\"a\",\"command\":\"type\",\"when\":\"ok\"},{\"key\":\"b\",\"command\":\"-x\"}]",
-        &[(30, 0), (41, 1)],
+        &[(41, 1)],
     ),
     (
         "[{\"key\":\"a\"},{\"key\":\"a\",\"command\":null},{\"command\":\"x\"},{\"key\":1,\"command\":\"x\"}]",
@@ -23,8 +24,13 @@ static WARNED: [(&str, &[(u32, usize)]); 16] = [
     ),
     // The command comes before the key, the key before the clause, and that before the arguments.
     (
-        "[{\"command\":1,\"key\":1},{\"command\":\"x\",\"key\":\"\",\"when\":1},{\"command\":\"x\",\"key\":\"a\",\"when\":1,\"args\":0.5},{\"command\":\"x\",\"key\":\"a\",\"when\":\"b\",\"args\":0.5}]",
-        &[(41, 0), (12, 1), (41, 2), (30, 3)],
+        "[{\"command\":1,\"key\":1},{\"command\":\"x\",\"key\":\"\",\"when\":1},{\"command\":\"x\",\"key\":\"a\",\"when\":1,\"args\":0.5},{\"command\":\"x\",\"key\":\"a\",\"when\":\"b &\",\"args\":0.5},{\"command\":\"x\",\"key\":\"a\",\"when\":\"b\",\"args\":0.5}]",
+        &[(41, 0), (12, 1), (41, 2), (30, 3), (41, 4)],
+    ),
+    // A clause that can't be read has the number of its fault.
+    (
+        "[{\"command\":\"x\",\"key\":\"a\",\"when\":\"a & b\"},{\"command\":\"x\",\"key\":\"a\",\"when\":\"(a\"},{\"command\":\"x\",\"key\":\"a\",\"when\":\"a =~ /x/\"},{\"command\":\"x\",\"key\":\"a\",\"when\":\"a < x\"},{\"command\":\"x\",\"key\":\"a\",\"when\":\"!!!!!!!!!!!!!!!!!!!!!!!!!!!!!!!!!!!!!!!!!!!!!!!!!!!!!!!!!!!!!!!!!a\"}]",
+        &[(30, 0), (31, 1), (31, 2), (33, 3), (32, 4)],
     ),
     // A blank clause is none.
     (
@@ -72,7 +78,8 @@ static REFUSED: [(&[u8], u32, &str); 9] = [
 ];
 
 fn loaded(alloc: Global, user: &[u8]) -> Result<Session, LoadFault> {
-    Session::load(alloc, Inputs { user })
+    let layout = None;
+    Session::load(alloc, Inputs { layout, user })
 }
 
 fn same_warnings(warnings: &[Warning], wanted: &[(u32, usize)]) -> bool {

@@ -2,15 +2,18 @@
 //! memory.
 #![tactic(auto)]
 
-ghost use Rattle.std.specs.Prelude.{◌≡◌, Ok, IfOk, IfErr};
+ghost use Rattle.std.specs.Prelude.{◌≡◌, Ok, IfOk, IfErr, option_map};
 ghost use Rattle.kb_rows.specs.Failure.{FailsToGive};
 ghost use Rattle.kb_rules.specs.RuleList.{Listed};
-ghost use Rattle.kb_session.specs.Script.{told_of};
-ghost use Rattle.kb_session.specs.ScriptRun.{text_of};
+ghost use Rattle.kb_context.specs.Scopes.{ScopesData};
+ghost use Rattle.kb_files.specs.Layout.{layout_scopes};
+ghost use Rattle.kb_files.specs.UserFile.{user_rules};
+ghost use Rattle.kb_script.specs.Script.{told_of};
+ghost use Rattle.kb_script.specs.ScriptRun.{text_of};
 ghost use Rattle.kb_session.specs.Session.{loaded_session};
-ghost use Rattle.kb_session.specs.UserFile.{user_rules};
 
-use kb_session::{Inputs, LoadFault, ScriptFault, Session, run_script};
+use kb_script::{ScriptFault, run_script};
+use kb_session::{Inputs, LoadFault, Session};
 use std::alloc::Global;
 
 #[cfg(test)]
@@ -26,6 +29,8 @@ mod key_texts;
 #[cfg(test)]
 mod rows;
 #[cfg(test)]
+mod scopes;
+#[cfg(test)]
 mod streams;
 
 /// Why there is no transcript.
@@ -35,17 +40,24 @@ pub enum Failure {
     Script(ScriptFault),
 }
 
-/// What a script writes in a session of its own, which is loaded with the user's rules: the plain
-/// model's text, as the contracts of `load` and `run_script` give it over memory.
+/// What a script writes in a session of its own, which is loaded with a layout, where there is one,
+/// and the user's rules: the plain model's text, as the contracts of `load` and `run_script` give it
+/// over memory.
 ///
 /// Errors: those of `load` and `run_script`, but for `ReadFailed` and `WriteFailed`, which memory
 /// never gives.
-pub fn transcript(alloc: Global, user: &[u8], script: &[u8]) -> Result<Vec<u8>, Failure>
-    ensures ok { IfOk result (λ out. (listed : Listed) × (user_rules user.now ≡ Ok listed)
-        × (out.items ≡ text_of (told_of script.now) (loaded_session listed))) }
-    ensures err { IfErr result (λ failure. FailsToGive failure user.now script.now) }
+pub fn transcript(
+    alloc: Global,
+    layout: Option<&[u8]>,
+    user: &[u8],
+    script: &[u8],
+) -> Result<Vec<u8>, Failure>
+    ensures ok { IfOk result (λ out. (scopes : ScopesData) × (listed : Listed)
+        × (layout_scopes (option_map (λ bytes. bytes.now) layout.entry) ≡ Ok scopes) × (user_rules user.now ≡ Ok listed)
+        × (out.items ≡ text_of (told_of script.now) (loaded_session scopes listed))) }
+    ensures err { IfErr result (λ failure. FailsToGive failure (option_map (λ bytes. bytes.now) layout.entry) user.now script.now) }
 {
-    let mut session = match Session::load(alloc, Inputs { user }) {
+    let mut session = match Session::load(alloc, Inputs { layout, user }) {
         Ok(session) => session,
         Err(fault) => return Err(Failure::Load(fault)),
     };

@@ -234,9 +234,9 @@ static ROWS: [Row; 38] = [
         trace: "key z: unbound\nkey 9: unbound\nkey f19: unbound\nunread line 4\nunread line 5\nunread line 6\nunread line 7\nunread line 8\nunread line 9\n",
     },
     Row {
-        name: "lines that other engines know are unread",
+        name: "lines of no known word are unread",
         user: "",
-        script: "rule a type hi\nfocus window\n",
+        script: "rule a type hi\nfocused window\n",
         trace: "unread line 1\nunread line 2\n",
     },
 ];
@@ -245,7 +245,7 @@ static ROWS: [Row; 38] = [
 fn rows_are_written(rt: HostRuntime) -> Result<(), Fail> {
     for row in &ROWS {
         let name = row.name;
-        match transcript(rt.alloc(), row.user.as_bytes(), row.script.as_bytes()) {
+        match transcript(rt.alloc(), None, row.user.as_bytes(), row.script.as_bytes()) {
             Ok(out) => {
                 let text = str::from_utf8(out.as_slice())?;
                 assert_eq!(rt; text, row.trace, "in {name}");

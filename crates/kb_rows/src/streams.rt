@@ -1,5 +1,6 @@
 //! Readers and writers that fail.
-use kb_session::{Inputs, LoadFault, ScriptFault, Session, run_script};
+use kb_script::{ScriptFault, run_script};
+use kb_session::{Inputs, LoadFault, Session};
 use std::alloc::Global;
 use std::io;
 use std::io::{ErrorKind, Read, Write};
@@ -51,7 +52,11 @@ impl Write for Narrow {
 }
 
 fn opened(alloc: Global) -> Result<Session, LoadFault> {
-    Session::load(alloc, Inputs { user: b"" })
+    let inputs = Inputs {
+        layout: None,
+        user: b"",
+    };
+    Session::load(alloc, inputs)
 }
 
 #[test]

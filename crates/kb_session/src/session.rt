@@ -38,13 +38,14 @@ pub struct Session {
 impl Model for Session {
     ghost use Rattle.std.specs.Prelude.{◌≡◌};
     ghost use Rattle.std.specs.Coded.{codes};
+    ghost use Rattle.kb_core.specs.contracts.run.Core as whole;
     ghost use Rattle.kb_rules.specs.contracts.rule.Rule as rule;
     ghost use Rattle.kb_rules.specs.contracts.warning.Warning as warning;
     ghost use Rattle.kb_session.specs.Session.{Seen};
 
     ghost Value = { Seen };
 
-    ghost coded = { Prim.hlevel (codes, rule.the_row.coded, warning.the_row.coded) };
+    ghost coded = { Prim.hlevel (codes, whole.the_row.coded, rule.the_row.coded, warning.the_row.coded) };
 
     ghost view = { λ s. record { state = record { core = s.core; user = s.user; pressed = s.chord }; trace = s.trace; stopped = s.stopped } };
 
@@ -219,9 +220,7 @@ impl Session {
     {
         match self.core.focus(scope) {
             Ok(()) => {
-                let line = lines::focus_line(self.alloc, scope)?;
-                note_leaving(self.alloc, self.chord.pressed(), line, &mut self.trace)?;
-                self.chord.leave();
+                self.leave_chord(lines::focus_line(self.alloc, scope)?)?;
                 Ok(Answer::Did)
             }
             Err(UnknownScope) => self.refuse(Refusal::UnknownScope),
@@ -266,6 +265,16 @@ impl Session {
         Ok(Answer::Did)
     }
 
+    /// Leaves the chord, and notes the line of the event that leaves it, behind that of the chord.
+    fn leave_chord(&mut self, line: Text) -> Result<(), NoMemory>
+        ensures ok { OnOk result (self.new ≡ record self.old { state = record self.old.state { pressed = [] }; trace = self.old.trace ++ (model.left_lines self.old.state.pressed ++ line ∷ []) }) }
+        ensures err { OnErr result (self.new.trace ≡ self.old.trace) }
+    {
+        note_leaving(self.alloc, self.chord.pressed(), line, &mut self.trace)?;
+        self.chord.leave();
+        Ok(())
+    }
+
     /// Notes the line of a refusal.
     fn refuse(&mut self, refusal: Refusal) -> Result<Answer, NoMemory>
         ensures ok { IfOk result (λ answer. (answer ≡ Refused refusal) × (self.new ≡ record self.old { trace = self.old.trace ++ line.refused_line refusal ∷ [] })) }
@@ -295,9 +304,7 @@ impl Session {
         ensures err { OnErr result (self.new.trace ≡ self.old.trace) }
     {
         let resolver = resolver_of(self.alloc, &user)?;
-        let line = lines::reloaded_line(self.alloc)?;
-        note_leaving(self.alloc, self.chord.pressed(), line, &mut self.trace)?;
-        self.chord.leave();
+        self.leave_chord(lines::reloaded_line(self.alloc)?)?;
         self.resolver = resolver;
         self.user = user;
         Ok(())
