@@ -1,8 +1,8 @@
 -- The layout that a JSON value is, or its first fault.
-use Rattle.std.specs.Prelude.{ℕ, ◌&&◌, ◌||◌, Bool, List, [], ◌∷◌, Option, Some, None, option_map, option_and_then, unwrap_or, is_some, is_none, Result, Err, codes, if◌then◌else◌}
+use Rattle.std.specs.Prelude.{ℕ, ◌&&◌, ◌||◌, Bool, List, [], ◌∷◌, Option, Some, None, option_map, unwrap_or, is_some, is_none, Result, Err, codes, if◌then◌else◌}
 use Rattle.std.specs.List.{list_any}
 use Rattle.std.specs.FinMap.{empty, from_entries}
-use Rattle.serde_json.specs.Data.{Data, Members}
+use Rattle.serde_json.specs.Data.{Data}
 use Rattle.serde_json.specs.Find.{get, as_str, as_object}
 use Rattle.kb_context.specs.declared.layout.Layout.{Layout}
 use Rattle.kb_context.specs.declared.layout.LayoutScope.{LayoutScope}
@@ -31,7 +31,7 @@ lacks_member d =
 abbrev pub key_of : List ℕ × Data → Option (List ℕ × ContextValue)
 key_of m = option_map (λ value. (m.0, value)) (value_of m.1)
 
--- the keys that an object has, each with a context value
+-- the keys that an object has, each with a context value; an object has each name once
 abbrev pub keys_of : Data → Option Keys
 keys_of d = as_object d >>= λ ms. option_map from_entries (each key_of (pairs_of ms))
 
