@@ -1,5 +1,6 @@
 //! The lines of a script, and what each one tells a session.
 ghost use Rattle.std.specs.Prelude.{◌≡◌, ◌<◌, ◌∷◌, false, true, IfOk, IfSome, MatchOption, option_map, position, length};
+ghost use Rattle.std.specs.List.{list_any};
 ghost use Rattle.std.specs.Str.{is_utf8};
 ghost use Rattle.kb_script.specs.Script as script;
 ghost use Rattle.kb_script.specs.ScriptLine.{told_by};
@@ -145,7 +146,19 @@ fn read_key(key: &str) -> Option<Event>
 fn is_word(text: &str) -> bool
     ensures { result ≡ script.is_word text.now }
 {
-    !text.is_empty() && !text.as_bytes().iter().any(|byte| *byte == b' ')
+    !text.is_empty() && !has_space(text)
+}
+
+fn has_space(text: &str) -> bool
+    ensures { result ≡ list_any script.is_space text.now }
+{
+    text.as_bytes().iter().any(|byte| is_space(*byte))
+}
+
+fn is_space(byte: u8) -> bool
+    ensures { result ≡ script.is_space byte }
+{
+    byte == b' '
 }
 
 fn read_focus(alloc: Global, scope: &str) -> Result<Option<Event>, NoMemory>
