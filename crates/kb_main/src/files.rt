@@ -67,7 +67,7 @@ pub fn bytes_named<R: Files>(
     alloc: Global,
     path: &Option<Text>,
 ) -> Result<Option<Vec<u8>>, Ending>
-    ensures { MatchResult result (λ bytes. IsSome bytes ↔ IsSome path.now) (EndsFor path.now) }
+    ensures named { MatchResult result (λ bytes. IsSome bytes ↔ IsSome path.now) (EndsFor path.now) }
     ensures within { IfOk result (λ bytes. IfSome bytes (λ bytes. length bytes.items ≤ file_limit)) }
 {
     let Some(path) = path else {

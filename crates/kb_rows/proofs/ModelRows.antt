@@ -11,12 +11,15 @@ use Rattle.kb_jsonc.specs.Text.{plain_text}
 use Rattle.kb_jsonc.specs.Reader.{plain_value, value_of}
 use Rattle.kb_keys.specs.KeyName.{names, key_named}
 use Rattle.kb_keys.specs.Keystroke.{keystroke_of, split_of, spelling}
+use Rattle.kb_context.specs.Scopes.{over}
 use Rattle.kb_rules.specs.Entry.{entry_of}
 use Rattle.kb_rules.specs.RuleList.{Listed}
 use Rattle.kb_files.specs.declared.fault.FileFault.{FileFault}
 use Rattle.kb_script.specs.Script.{told_of}
 use Rattle.kb_script.specs.ScriptRun.{text_of}
 use Rattle.kb_session.specs.Session.{loaded_session}
+use Rattle.kb_when.specs.Builder.{clause_in}
+use Rattle.kb_when.specs.Tokenizer.{tokens_of, tokens_within}
 use Rattle.kb_files.specs.Layout.{window_scopes}
 use Rattle.kb_files.specs.UserFile.{user_rules}
 
@@ -77,3 +80,18 @@ characters_are_scalar_values : written (codes "[{\"key\":\"a\",\"command\":\"typ
     ≡ lines (codes "key a: start type" ∷ (codes "done \"a" ++ (195 ∷ 169 ∷ codes "\" \"\"")) ∷ codes "key b: start cursorLeft" ∷ (codes "done \"a\" \"" ++ (195 ∷ 169 ∷ codes "\"")) ∷ codes "key c: start deleteRight" ∷ codes "done \"a\" \"\"" ∷ [])
 unfolding user_rules value_of plain_text plain_value first_piece is_utf8 chars encode names key_named keystroke_of split_of spelling entry_of serde_json_on_literals digits without_last only_last without_first only_first
 characters_are_scalar_values = refl
+
+a_clause_decides : written (codes "[{\"key\":\"s\",\"command\":\"x\"},{\"key\":\"s\",\"command\":\"y\",\"when\":\"ok\"}]") (codes "key s" ∷ codes "set window ok true" ∷ codes "key s" ∷ [])
+    ≡ lines (codes "key s: start x" ∷ codes "not found x" ∷ codes "set window ok" ∷ codes "key s: start y" ∷ codes "not found y" ∷ [])
+unfolding user_rules value_of plain_text plain_value first_piece is_utf8 chars encode names key_named keystroke_of split_of spelling entry_of serde_json_on_literals digits clause_in tokens_of tokens_within over
+a_clause_decides = refl
+
+the_focus_leaves_a_chord : written (codes "[{\"key\":\"a b\",\"command\":\"x\"}]") (codes "key a" ∷ codes "focus nowhere" ∷ codes "focus window" ∷ codes "key b" ∷ [])
+    ≡ lines (codes "key a: chord" ∷ codes "refused 20 UnknownScope" ∷ codes "left a" ∷ codes "focus window" ∷ codes "key b: unbound" ∷ [])
+unfolding user_rules value_of plain_text plain_value first_piece is_utf8 chars encode names key_named keystroke_of split_of spelling entry_of serde_json_on_literals digits clause_in tokens_of tokens_within over
+the_focus_leaves_a_chord = refl
+
+setContext_sets_a_key : written (codes "[{\"key\":\"p\",\"command\":\"setContext\",\"args\":{\"key\":\"k\",\"value\":true}},{\"key\":\"q\",\"command\":\"x\",\"when\":\"k\"}]") (codes "key q" ∷ codes "key p" ∷ codes "key q" ∷ [])
+    ≡ lines (codes "key q: unbound" ∷ codes "key p: start setContext" ∷ codes "done \"\" \"\"" ∷ codes "key q: start x" ∷ codes "not found x" ∷ [])
+unfolding user_rules value_of plain_text plain_value first_piece is_utf8 chars encode names key_named keystroke_of split_of spelling entry_of serde_json_on_literals digits clause_in tokens_of tokens_within over
+setContext_sets_a_key = refl
