@@ -44,7 +44,7 @@ impl Args {
         self.items.push_reserved(arg);
     }
 
-    /// Takes the last argument away and gives it, or gives `None` where there is none.
+    /// Takes the last argument away and gives it, or `None` without one. It takes no memory.
     pub fn pop(&mut self) -> Option<Arg>
         ensures last { result ≡ slice_get self.old (length self.old - 1) }
         ensures rest { self.new ≡ take (length self.old - 1) self.old }

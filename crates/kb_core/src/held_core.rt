@@ -12,9 +12,9 @@ use crate::run::{Core, Ran, plain};
 use kb_context::{ContextValue, NoMemory, ScopeFault, UnknownScope};
 use std::marker::Model;
 
-/// A core that native commands run on where it is held: a command takes the core and gives it back,
-/// and there is no other core that could stand in its place meanwhile. Contracts see the core, which
-/// is there between all calls.
+/// A core that native commands run on where it is held. A command takes the core and gives it back,
+/// and no other core could stand in its place meanwhile. Contracts see the core, which is there
+/// between all calls.
 #[derive(Debug, Drop)]
 pub struct HeldCore {
     core: Option<Core>,

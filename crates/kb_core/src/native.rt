@@ -8,8 +8,8 @@ use crate::signature::{Param, Signature};
 use kb_context::{NoMemory, Seq, Text};
 use std::alloc::Global;
 
-/// A native command. The nine, their identifiers and what they take are our decision; a command
-/// `setContext` is documented by VS Code.
+/// A native command. The nine, their identifiers and what they take are our decision. VS Code
+/// documents a command `setContext`, which sets a context key.
 #[derive(Clone, Copy, Debug, PartialEq, Eq)]
 pub enum Native {
     /// `type` puts its text before the caret.
@@ -28,8 +28,9 @@ pub enum Native {
     BufferTop,
     /// `buffer.bottom` moves the caret behind all text.
     BufferBottom,
-    /// `setContext` gives its key its value in the outermost scope (our decision), unless the key is
-    /// new there while as many keys stand as may. A value that isn't given is false.
+    /// `setContext` gives its key its value in the outermost scope, unless the key is new there
+    /// while as many keys stand as may: then it does nothing. A value that isn't given is false
+    /// (our decisions).
     SetContext,
 }
 

@@ -74,8 +74,9 @@ fn edit(native: Native, core: &mut Core, args: Args) -> Result<(), NoMemory>
     Ok(())
 }
 
-/// Gives the first argument's key the second argument's value in the outermost scope. Where the key
-/// is new there while as many keys stand as may, the scopes stay, which is no fault of a command.
+/// Gives the key that the first argument is the value that the second one is, in the outermost
+/// scope. Where the key is new there while as many keys stand as may, the scopes stay, and that is
+/// no refusal (our decision). Without memory the scopes stay too.
 fn set_context(scopes: &mut Scopes, args: Args) -> Result<(), NoMemory>
     requires { IsTrue (fits (parameters_of SetContext) args) }
     ensures ok { OnOk result (scopes.new ≡ with_root_key (text_of args) (value_of args) scopes.old) }
