@@ -51,7 +51,7 @@ clause_read (Some fault) clause = Err (When fault)
 clause_read None clause = Ok clause
 
 -- a blank text is no clause
-abbrev pub when_of : List ℕ → Result (Option Clause) EntryFault
+unfoldable pub when_of : List ℕ → Result (Option Clause) EntryFault
 when_of text = if is_blank text then Ok None else clause_read (fault_of text) (clause_in text)
 
 -- the arguments, if there are any: each number is whole within i64

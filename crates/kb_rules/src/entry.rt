@@ -1,11 +1,13 @@
 //! The reading of one element of a rule file.
-ghost use Rattle.std.specs.Prelude.{◌≡◌, option_map, is_some, not, IfOk};
+ghost use Rattle.std.specs.Prelude.{◌≡◌, Some, option_map, is_some, not, IfOk};
 ghost use Rattle.std.specs.List.{list_all};
 ghost use Rattle.kb_context.specs.Reading.{Gives, seen};
+ghost use Rattle.kb_when.specs.ClauseText.{fault_of};
+ghost use Rattle.kb_when.specs.Builder.{clause_in};
 ghost use Rattle.serde_json.specs.Data.{object};
 ghost use Rattle.serde_json.specs.Find.{get};
 ghost use Rattle.serde_json.specs.View.{view, members_view};
-ghost use Rattle.kb_rules.specs.Entry.{text_of, required_text, optional_text, is_blank, is_blank_byte, is_removal, when_of, args_of, entry_of};
+ghost use Rattle.kb_rules.specs.Entry.{text_of, required_text, optional_text, is_blank, is_blank_byte, is_removal, clause_read, when_of, args_of, entry_of};
 
 use crate::entry_fault::{EntryError, EntryFault};
 use crate::json::Json;
@@ -90,6 +92,7 @@ fn is_blank_byte(byte: u8) -> bool
 }
 
 /// The clause of a `when` text, if it says something.
+#[tactic(auto, unfolding(crate::specs::Entry::when_of))]
 fn read_when(alloc: Global, text: &str) -> Result<Option<Clause>, EntryError>
     ensures read { Gives (λ when. when) result (when_of text.now) }
 
@@ -99,8 +102,15 @@ fn read_when(alloc: Global, text: &str) -> Result<Option<Clause>, EntryError>
     if is_blank(text) {
         return Ok(None);
     }
+    Ok(Some(read_clause(alloc, text)?))
+}
+
+/// The clause of a text.
+fn read_clause(alloc: Global, text: &str) -> Result<Clause, EntryError>
+    ensures { Gives Some result (clause_read (fault_of text.now) (clause_in text.now)) }
+{
     match Clause::parse(alloc, text) {
-        Ok(clause) => Ok(Some(clause)),
+        Ok(clause) => Ok(clause),
         Err(WhenFault::NoMemory) => Err(EntryError::NoMemory),
         Err(fault) => Err(EntryError::Fault(EntryFault::When(fault))),
     }
