@@ -227,29 +227,40 @@ fn has_lines(session: &Session, wanted: &[&str]) -> bool {
         && session.trace().iter().zip(wanted).all(|(line, text)| line.as_str() == *text)
 }
 
-#[test]
-fn a_session_knows_scopes(rt: HostRuntime) -> Result<(), Fail> {
+fn opened(alloc: Global) -> Option<Session> {
     let inputs = Inputs {
         layout: None,
         user: b"",
     };
-    let mut session = Session::load(rt.alloc(), inputs)
-        .ok()
-        .expect(&rt, "no session");
-    let scope = Text::from_str(rt.alloc(), "window")?;
-    let key = Text::from_str(rt.alloc(), "ok")?;
-    let set = Event::SetKey(scope, key, ContextValue::Truth(true));
+    Session::load(alloc, inputs).ok()
+}
+
+/// A key of a scope that is set, or `None` without memory.
+fn set_event(alloc: Global, scope: &str, key: &str) -> Option<Event> {
+    let scope = Text::from_str(alloc, scope).ok()?;
+    let key = Text::from_str(alloc, key).ok()?;
+    Some(Event::SetKey(scope, key, ContextValue::Truth(true)))
+}
+
+#[test]
+fn a_session_sets_keys(rt: HostRuntime) -> Result<(), Fail> {
+    let mut session = opened(rt.alloc()).ok_or("no session")?;
+    let set = set_event(rt.alloc(), "window", "ok").ok_or("no event")?;
     assert_eq!(rt; session.handle(set), Ok(Answer::Did));
-    let scope = Text::from_str(rt.alloc(), "window")?;
-    assert_eq!(rt; session.handle(Event::Focus(scope)), Ok(Answer::Did));
-    let scope = Text::from_str(rt.alloc(), "nowhere")?;
-    let key = Text::from_str(rt.alloc(), "ok")?;
+    let set = set_event(rt.alloc(), "nowhere", "ok").ok_or("no event")?;
     let refused = Ok(Answer::Refused(Refusal::UnknownScope));
-    assert_eq!(rt; session.handle(Event::UnsetKey(scope, key)), refused);
-    let wanted = ["set window ok", "focus window", "refused 20 UnknownScope"];
+    assert_eq!(rt; session.handle(set), refused);
+    let wanted = ["set window ok", "refused 20 UnknownScope"];
     assert!(rt; has_lines(&session, &wanted));
+    Ok(())
+}
+
+#[test]
+fn a_session_that_is_stopped_answers_so(rt: HostRuntime) -> Result<(), Fail> {
+    let mut session = opened(rt.alloc()).ok_or("no session")?;
     assert!(rt; !session.is_stopped());
     session.stop();
+    assert!(rt; session.is_stopped());
     assert_eq!(rt; session.handle(Event::Unread(1)), Err(SessionFault::Stopped));
     Ok(())
 }

@@ -32,6 +32,8 @@ mod rows;
 mod scopes;
 #[cfg(test)]
 mod streams;
+#[cfg(test)]
+mod table;
 
 /// Why there is no transcript.
 #[derive(Clone, Copy, Debug, PartialEq, Eq)]

@@ -1,4 +1,5 @@
 //! Layouts, clauses and context keys: rows of files, scripts, and the traces that they must write.
+use crate::table::first_wrong;
 use crate::{Failure, transcript};
 use kb_session::{LoadFault, LoadFile};
 use std::alloc::Global;
@@ -6,201 +7,412 @@ use std::fmt::Write;
 use std::str;
 use std::test::Fail;
 
-struct Row {
-    name: &'static str,
-    layout: Option<&'static str>,
-    user: &'static str,
-    script: &'static str,
-    trace: &'static str,
-}
+/// Rows, as `table` reads them.
+static ROWS: &str = r#"§ the lowest rule whose clause holds starts
+¶
+¶ [{"key":"ctrl+s","command":"cursorLeft"},{"key":"ctrl+s","command":"cursorRight","when":"dirty"}]
+¶ key ctrl+s
+set window dirty true
+key ctrl+s
+¶ key ctrl+s: start cursorLeft
+done "" ""
+set window dirty
+key ctrl+s: start cursorRight
+done "" ""
+§ a clause that stops holding inside a chord leaves it
+¶
+¶ [{"key":"ctrl+k ctrl+c","command":"cursorRight","when":"ok"}]
+¶ set window ok true
+key ctrl+k
+set window ok false
+key ctrl+c
+¶ set window ok
+key ctrl+k: chord
+set window ok
+key ctrl+k ctrl+c: left
+§ unset inside a chord keeps the chord, and its clause is asked again
+¶
+¶ [{"key":"ctrl+k ctrl+c","command":"cursorRight","when":"ok"}]
+¶ set window ok true
+key ctrl+k
+unset window ok
+key ctrl+c
+unset window ok
+¶ set window ok
+key ctrl+k: chord
+unset window ok
+key ctrl+k ctrl+c: left
+unset window ok
+§ the focus leaves a chord
+¶
+¶ [{"key":"ctrl+k ctrl+c","command":"cursorRight","when":"ok"}]
+¶ set window ok true
+key ctrl+k
+focus window
+key ctrl+c
+focus window
+¶ set window ok
+key ctrl+k: chord
+left ctrl+k
+focus window
+key ctrl+c: unbound
+focus window
+§ a refused focus, set or unset keeps a chord
+¶
+¶ [{"key":"ctrl+k ctrl+c","command":"cursorRight","when":"ok"}]
+¶ set window ok true
+key ctrl+k
+focus nowhere
+set nowhere ok false
+unset nowhere ok
+key ctrl+c
+¶ set window ok
+key ctrl+k: chord
+refused 20 UnknownScope
+refused 20 UnknownScope
+refused 20 UnknownScope
+key ctrl+k ctrl+c: start cursorRight
+done "" ""
+§ and binds closer than or, and not closest
+¶
+¶ [{"key":"x","command":"one","when":"!a && b || c"},{"key":"y","command":"two","when":"a || b && c"}]
+¶ set window b true
+key x
+key y
+unset window b
+set window a true
+key x
+key y
+¶ set window b
+key x: start one
+not found one
+key y: unbound
+unset window b
+set window a
+key x: unbound
+key y: start two
+not found two
+§ a comparison wants white space on both sides
+¶
+¶ [{"key":"x","command":"one","when":"foo<1"},{"key":"y","command":"two","when":"foo < 1"}]
+¶ set window foo 0
+key x
+key y
+set window foo<1 1
+key x
+¶ set window foo
+key x: unbound
+key y: start two
+not found two
+set window foo<1
+key x: start one
+not found one
+§ in and not in a list, an object and what is absent
+¶
+¶ [{"key":"a","command":"i","when":"x in list"},{"key":"b","command":"n","when":"x not in list"},{"key":"c","command":"i","when":"x in obj"},{"key":"d","command":"n","when":"x not in obj"},{"key":"e","command":"i","when":"x in gone"},{"key":"f","command":"n","when":"x not in gone"}]
+¶ set window x "k"
+set window list []
+set window obj {"k":false}
+key a
+key b
+key c
+key d
+key e
+key f
+set window list ["j","k"]
+key a
+key b
+¶ set window x
+set window list
+set window obj
+key a: unbound
+key b: start n
+not found n
+key c: start i
+not found i
+key d: unbound
+key e: unbound
+key f: start n
+not found n
+set window list
+key a: start i
+not found i
+key b: unbound
+§ comparisons of numbers and truths with texts
+¶
+¶ [{"key":"a","command":"yes","when":"n == 10 && n == '10' && t == true && t != 'true'"},{"key":"b","command":"no","when":"t == 'true'"}]
+¶ set window n 10
+set window t true
+key a
+key b
+¶ set window n
+set window t
+key a: start yes
+not found yes
+key b: unbound
+§ the innermost value from the focus outward counts
+¶ {"scopes":[{"name":"window","keys":{"k":1}},{"name":"editor","parent":"window"},{"name":"panel","parent":"window"}],"focus":"editor"}
+¶ [{"key":"a","command":"one","when":"k == 1"},{"key":"a","command":"two","when":"k == 2"}]
+¶ key a
+set editor k 2
+key a
+focus window
+key a
+focus editor
+key a
+unset editor k
+key a
+focus panel
+key a
+unset window k
+key a
+¶ key a: start one
+not found one
+set editor k
+key a: start two
+not found two
+focus window
+key a: start one
+not found one
+focus editor
+key a: start two
+not found two
+unset editor k
+key a: start one
+not found one
+focus panel
+key a: start one
+not found one
+unset window k
+key a: unbound
+§ a layout without a focus has it in the first scope
+¶ // one
+{"scopes":[{"name":"w"},{"name":"e","parent":"w","keys":{"k":true},},]}
+¶ [{"key":"a","command":"one","when":"k"}]
+¶ key a
+focus e
+key a
+focus window
+¶ key a: unbound
+focus e
+key a: start one
+not found one
+refused 20 UnknownScope
+§ a command sets a key of the outermost scope
+¶
+¶ [{"key":"p","command":"setContext","args":{"key":"ok","value":true}},{"key":"q","command":"type","args":"y","when":"ok"}]
+¶ key q
+key p
+key q
+¶ key q: unbound
+key p: start setContext
+done "" ""
+key q: start type
+done "y" ""
+§ a key that is set by a command is hidden by an inner one
+¶ {"scopes":[{"name":"window","keys":{"k":1}},{"name":"editor","parent":"window"},{"name":"panel","parent":"window"}],"focus":"editor"}
+¶ [{"key":"p","command":"setContext","args":{"key":"k","value":"t"}},{"key":"q","command":"one","when":"k == t"},{"key":"r","command":"setContext","args":{"key":"k","value":7}}]
+¶ set editor k 0
+key p
+key q
+unset editor k
+key q
+key r
+key q
+¶ set editor k
+key p: start setContext
+done "" ""
+key q: unbound
+unset editor k
+key q: start one
+not found one
+key r: start setContext
+done "" ""
+key q: unbound
+§ arguments of setContext: absent ones are empty, and lists are bad
+¶
+¶ [{"key":"a","command":"setContext"},{"key":"b","command":"setContext","args":{"key":1,"value":1}},{"key":"c","command":"setContext","args":{"key":"k","value":[]}},{"key":"d","command":"setContext","args":"k"}]
+¶ key a
+key b
+key c
+key d
+¶ key a: start setContext
+done "" ""
+key b: start setContext
+bad arguments setContext
+key c: start setContext
+bad arguments setContext
+key d: start setContext
+bad arguments setContext
+§ a reload brings clauses, and keys stay
+¶
+¶ [{"key":"a","command":"one","when":"ok"}]
+¶ set window ok 1
+reload [{"key":"a","command":"two","when":"!ok"},{"key":"b","command":"three","when":"ok"}]
+key a
+key b
+¶ set window ok
+reloaded
+key a: unbound
+key b: start three
+not found three
+§ a rule whose clause can't be read is dropped, and a blank clause is none
+¶
+¶ [{"key":"a","command":"one","when":"\t "},{"key":"a","command":"two","when":"ok &"}]
+¶ key a
+¶ key a: start one
+not found one
+§ a rule with the empty command and a clause takes the key only where the clause holds
+¶
+¶ [{"key":"tab","command":"one"},{"key":"tab","command":"","when":"ok"}]
+¶ key tab
+set window ok true
+key tab
+¶ key tab: start one
+not found one
+set window ok
+key tab: no action
+§ a chord's first key opens it only where a clause holds
+¶
+¶ [{"key":"a","command":"one"},{"key":"a b","command":"two","when":"ok"}]
+¶ key a
+set window ok true
+key a
+key b
+¶ key a: start one
+not found one
+set window ok
+key a: chord
+key a b: start two
+not found two
+§ words of focus, set and unset
+¶
+¶
+¶ focus
+focus 
+focus window 
+focus  window
+set window
+set window k
+set window k 
+set  window k 1
+set window  k 1
+unset window
+unset window 
+unset window k 
+unset  k
+set
+unset
+¶ unread line 1
+unread line 2
+unread line 3
+unread line 4
+unread line 5
+unread line 6
+unread line 7
+unread line 8
+unread line 9
+unread line 10
+unread line 11
+unread line 12
+unread line 13
+unread line 14
+unread line 15
+§ values of set: JSON with comments, and a comment alone is the empty list
+¶
+¶ [{"key":"a","command":"one","when":"k"}]
+¶ set window k /* n */ 1 // one
+key a
+set window k 0
+key a
+set window k // x
+key a
+set window k  -9223372036854775808 
+key a
+set window k ["a",]
+key a
+set window k ""
+key a
+set window k {}
+key a
+¶ set window k
+key a: start one
+not found one
+set window k
+key a: unbound
+set window k
+key a: start one
+not found one
+set window k
+key a: start one
+not found one
+set window k
+key a: start one
+not found one
+set window k
+key a: unbound
+set window k
+key a: start one
+not found one
+§ names of scopes and keys are told apart by each byte
+¶ {"scopes":[{"name":"größe"},{"name":"Größe","parent":"größe"}]}
+¶ [{"key":"a","command":"one","when":"schlüssel"}]
+¶ set Größe schlüssel 1
+key a
+set größe Schlüssel 1
+key a
+set größe schlüssel 1
+key a
+focus groesse
+¶ set Größe schlüssel
+key a: unbound
+set größe Schlüssel
+key a: unbound
+set größe schlüssel
+key a: start one
+not found one
+refused 20 UnknownScope
+§ a name of a scope with a space can't be told in a script
+¶ {"scopes":[{"name":"a b"}]}
+¶
+¶ focus a b
+focus a
+¶ unread line 1
+refused 20 UnknownScope
+§ values of set that can't be read: a blank text, and what is no value
+¶
+¶
+¶ set window k  
+set window k null
+set window k 1.5
+set window k [1]
+set window k {
+set nowhere k [1]
+set window k 9223372036854775808
+set window k "
+set window k 1 2
+¶ unread line 1
+unread line 2
+unread line 3
+unread line 4
+unread line 5
+unread line 6
+unread line 7
+unread line 8
+unread line 9
+§ a scope may have the empty name, which no line can tell
+¶ {"scopes":[{"name":"","keys":{"k":1}}]}
+¶ [{"key":"a","command":"one","when":"k"}]
+¶ focus 
+key a
+¶ unread line 1
+key a: start one
+not found one"#;
 
-const NESTED: &str = "{\"scopes\":[{\"name\":\"window\",\"keys\":{\"k\":1}},{\"name\":\"editor\",\"parent\":\"window\"},{\"name\":\"panel\",\"parent\":\"window\"}],\"focus\":\"editor\"}";
-
-static ROWS: [Row; 24] = [
-    Row {
-        name: "the lowest rule whose clause holds starts",
-        layout: None,
-        user: "[{\"key\":\"ctrl+s\",\"command\":\"cursorLeft\"},{\"key\":\"ctrl+s\",\"command\":\"cursorRight\",\"when\":\"dirty\"}]",
-        script: "key ctrl+s\nset window dirty true\nkey ctrl+s\n",
-        trace: "key ctrl+s: start cursorLeft\ndone \"\" \"\"\nset window dirty\nkey ctrl+s: start cursorRight\ndone \"\" \"\"\n",
-    },
-    Row {
-        name: "a clause that stops holding inside a chord leaves it",
-        layout: None,
-        user: "[{\"key\":\"ctrl+k ctrl+c\",\"command\":\"cursorRight\",\"when\":\"ok\"}]",
-        script: "set window ok true\nkey ctrl+k\nset window ok false\nkey ctrl+c\n",
-        trace: "set window ok\nkey ctrl+k: chord\nset window ok\nkey ctrl+k ctrl+c: left\n",
-    },
-    Row {
-        name: "unset inside a chord keeps the chord, and its clause is asked again",
-        layout: None,
-        user: "[{\"key\":\"ctrl+k ctrl+c\",\"command\":\"cursorRight\",\"when\":\"ok\"}]",
-        script: "set window ok true\nkey ctrl+k\nunset window ok\nkey ctrl+c\nunset window ok\n",
-        trace: "set window ok\nkey ctrl+k: chord\nunset window ok\nkey ctrl+k ctrl+c: left\nunset window ok\n",
-    },
-    Row {
-        name: "the focus leaves a chord",
-        layout: None,
-        user: "[{\"key\":\"ctrl+k ctrl+c\",\"command\":\"cursorRight\",\"when\":\"ok\"}]",
-        script: "set window ok true\nkey ctrl+k\nfocus window\nkey ctrl+c\nfocus window\n",
-        trace: "set window ok\nkey ctrl+k: chord\nleft ctrl+k\nfocus window\nkey ctrl+c: unbound\nfocus window\n",
-    },
-    Row {
-        name: "a refused focus, set or unset keeps a chord",
-        layout: None,
-        user: "[{\"key\":\"ctrl+k ctrl+c\",\"command\":\"cursorRight\",\"when\":\"ok\"}]",
-        script: "set window ok true\nkey ctrl+k\nfocus nowhere\nset nowhere ok false\nunset nowhere ok\nkey ctrl+c\n",
-        trace: "set window ok\nkey ctrl+k: chord\nrefused 20 UnknownScope\nrefused 20 UnknownScope\nrefused 20 UnknownScope\nkey ctrl+k ctrl+c: start cursorRight\ndone \"\" \"\"\n",
-    },
-    Row {
-        name: "and binds closer than or, and not closest",
-        layout: None,
-        user: "[{\"key\":\"x\",\"command\":\"one\",\"when\":\"!a && b || c\"},{\"key\":\"y\",\"command\":\"two\",\"when\":\"a || b && c\"}]",
-        script: "set window b true\nkey x\nkey y\nunset window b\nset window a true\nkey x\nkey y\n",
-        trace: "set window b\nkey x: start one\nnot found one\nkey y: unbound\nunset window b\nset window a\nkey x: unbound\nkey y: start two\nnot found two\n",
-    },
-    Row {
-        name: "a comparison wants white space on both sides",
-        layout: None,
-        user: "[{\"key\":\"x\",\"command\":\"one\",\"when\":\"foo<1\"},{\"key\":\"y\",\"command\":\"two\",\"when\":\"foo < 1\"}]",
-        script: "set window foo 0\nkey x\nkey y\nset window foo<1 1\nkey x\n",
-        trace: "set window foo\nkey x: unbound\nkey y: start two\nnot found two\nset window foo<1\nkey x: start one\nnot found one\n",
-    },
-    Row {
-        name: "in and not in a list, an object and what is absent",
-        layout: None,
-        user: "[{\"key\":\"a\",\"command\":\"i\",\"when\":\"x in list\"},{\"key\":\"b\",\"command\":\"n\",\"when\":\"x not in list\"},{\"key\":\"c\",\"command\":\"i\",\"when\":\"x in obj\"},{\"key\":\"d\",\"command\":\"n\",\"when\":\"x not in obj\"},{\"key\":\"e\",\"command\":\"i\",\"when\":\"x in gone\"},{\"key\":\"f\",\"command\":\"n\",\"when\":\"x not in gone\"}]",
-        script: "set window x \"k\"\nset window list []\nset window obj {\"k\":false}\nkey a\nkey b\nkey c\nkey d\nkey e\nkey f\nset window list [\"j\",\"k\"]\nkey a\nkey b\n",
-        trace: "set window x\nset window list\nset window obj\nkey a: unbound\nkey b: start n\nnot found n\nkey c: start i\nnot found i\nkey d: unbound\nkey e: unbound\nkey f: start n\nnot found n\nset window list\nkey a: start i\nnot found i\nkey b: unbound\n",
-    },
-    Row {
-        name: "comparisons of numbers and truths with texts",
-        layout: None,
-        user: "[{\"key\":\"a\",\"command\":\"yes\",\"when\":\"n == 10 && n == '10' && t == true && t != 'true'\"},{\"key\":\"b\",\"command\":\"no\",\"when\":\"t == 'true'\"}]",
-        script: "set window n 10\nset window t true\nkey a\nkey b\n",
-        trace: "set window n\nset window t\nkey a: start yes\nnot found yes\nkey b: unbound\n",
-    },
-    Row {
-        name: "the innermost value from the focus outward counts",
-        layout: Some(NESTED),
-        user: "[{\"key\":\"a\",\"command\":\"one\",\"when\":\"k == 1\"},{\"key\":\"a\",\"command\":\"two\",\"when\":\"k == 2\"}]",
-        script: "key a\nset editor k 2\nkey a\nfocus window\nkey a\nfocus editor\nkey a\nunset editor k\nkey a\nfocus panel\nkey a\nunset window k\nkey a\n",
-        trace: "key a: start one\nnot found one\nset editor k\nkey a: start two\nnot found two\nfocus window\nkey a: start one\nnot found one\nfocus editor\nkey a: start two\nnot found two\nunset editor k\nkey a: start one\nnot found one\nfocus panel\nkey a: start one\nnot found one\nunset window k\nkey a: unbound\n",
-    },
-    Row {
-        name: "a layout without a focus has it in the first scope",
-        layout: Some("// one\n{\"scopes\":[{\"name\":\"w\"},{\"name\":\"e\",\"parent\":\"w\",\"keys\":{\"k\":true},},]}"),
-        user: "[{\"key\":\"a\",\"command\":\"one\",\"when\":\"k\"}]",
-        script: "key a\nfocus e\nkey a\nfocus window\n",
-        trace: "key a: unbound\nfocus e\nkey a: start one\nnot found one\nrefused 20 UnknownScope\n",
-    },
-    Row {
-        name: "a command sets a key of the outermost scope",
-        layout: None,
-        user: "[{\"key\":\"p\",\"command\":\"setContext\",\"args\":{\"key\":\"ok\",\"value\":true}},{\"key\":\"q\",\"command\":\"type\",\"args\":\"y\",\"when\":\"ok\"}]",
-        script: "key q\nkey p\nkey q\n",
-        trace: "key q: unbound\nkey p: start setContext\ndone \"\" \"\"\nkey q: start type\ndone \"y\" \"\"\n",
-    },
-    Row {
-        name: "a key that is set by a command is hidden by an inner one",
-        layout: Some(NESTED),
-        user: "[{\"key\":\"p\",\"command\":\"setContext\",\"args\":{\"key\":\"k\",\"value\":\"t\"}},{\"key\":\"q\",\"command\":\"one\",\"when\":\"k == t\"},{\"key\":\"r\",\"command\":\"setContext\",\"args\":{\"key\":\"k\",\"value\":7}}]",
-        script: "set editor k 0\nkey p\nkey q\nunset editor k\nkey q\nkey r\nkey q\n",
-        trace: "set editor k\nkey p: start setContext\ndone \"\" \"\"\nkey q: unbound\nunset editor k\nkey q: start one\nnot found one\nkey r: start setContext\ndone \"\" \"\"\nkey q: unbound\n",
-    },
-    Row {
-        name: "arguments of setContext: absent ones are empty, and lists are bad",
-        layout: None,
-        user: "[{\"key\":\"a\",\"command\":\"setContext\"},{\"key\":\"b\",\"command\":\"setContext\",\"args\":{\"key\":1,\"value\":1}},{\"key\":\"c\",\"command\":\"setContext\",\"args\":{\"key\":\"k\",\"value\":[]}},{\"key\":\"d\",\"command\":\"setContext\",\"args\":\"k\"}]",
-        script: "key a\nkey b\nkey c\nkey d\n",
-        trace: "key a: start setContext\ndone \"\" \"\"\nkey b: start setContext\nbad arguments setContext\nkey c: start setContext\nbad arguments setContext\nkey d: start setContext\nbad arguments setContext\n",
-    },
-    Row {
-        name: "a reload brings clauses, and keys stay",
-        layout: None,
-        user: "[{\"key\":\"a\",\"command\":\"one\",\"when\":\"ok\"}]",
-        script: "set window ok 1\nreload [{\"key\":\"a\",\"command\":\"two\",\"when\":\"!ok\"},{\"key\":\"b\",\"command\":\"three\",\"when\":\"ok\"}]\nkey a\nkey b\n",
-        trace: "set window ok\nreloaded\nkey a: unbound\nkey b: start three\nnot found three\n",
-    },
-    Row {
-        name: "a rule whose clause can't be read is dropped, and a blank clause is none",
-        layout: None,
-        user: "[{\"key\":\"a\",\"command\":\"one\",\"when\":\"\\t \"},{\"key\":\"a\",\"command\":\"two\",\"when\":\"ok &\"}]",
-        script: "key a\n",
-        trace: "key a: start one\nnot found one\n",
-    },
-    Row {
-        name: "a rule with the empty command and a clause takes the key only where the clause holds",
-        layout: None,
-        user: "[{\"key\":\"tab\",\"command\":\"one\"},{\"key\":\"tab\",\"command\":\"\",\"when\":\"ok\"}]",
-        script: "key tab\nset window ok true\nkey tab\n",
-        trace: "key tab: start one\nnot found one\nset window ok\nkey tab: no action\n",
-    },
-    Row {
-        name: "a chord's first key opens it only where a clause holds",
-        layout: None,
-        user: "[{\"key\":\"a\",\"command\":\"one\"},{\"key\":\"a b\",\"command\":\"two\",\"when\":\"ok\"}]",
-        script: "key a\nset window ok true\nkey a\nkey b\n",
-        trace: "key a: start one\nnot found one\nset window ok\nkey a: chord\nkey a b: start two\nnot found two\n",
-    },
-    Row {
-        name: "words of focus, set and unset",
-        layout: None,
-        user: "",
-        script: "focus\nfocus \nfocus window \nfocus  window\nset window\nset window k\nset window k \nset  window k 1\nset window  k 1\nunset window\nunset window \nunset window k \nunset  k\nset\nunset\n",
-        trace: "unread line 1\nunread line 2\nunread line 3\nunread line 4\nunread line 5\nunread line 6\nunread line 7\nunread line 8\nunread line 9\nunread line 10\nunread line 11\nunread line 12\nunread line 13\nunread line 14\nunread line 15\n",
-    },
-    Row {
-        name: "values of set: a blank text and what is no value are unread",
-        layout: None,
-        user: "",
-        script: "set window k \t\nset window k null\nset window k 1.5\nset window k [1]\nset window k {\nset nowhere k [1]\nset window k 9223372036854775808\nset window k \"\nset window k 1 2\n",
-        trace: "unread line 1\nunread line 2\nunread line 3\nunread line 4\nunread line 5\nunread line 6\nunread line 7\nunread line 8\nunread line 9\n",
-    },
-    Row {
-        name: "values of set: JSON with comments, and a comment alone is the empty list",
-        layout: None,
-        user: "[{\"key\":\"a\",\"command\":\"one\",\"when\":\"k\"}]",
-        script: "set window k /* n */ 1 // one\nkey a\nset window k 0\nkey a\nset window k // x\nkey a\nset window k  -9223372036854775808 \nkey a\nset window k [\"a\",]\nkey a\nset window k \"\"\nkey a\nset window k {}\nkey a\n",
-        trace: "set window k\nkey a: start one\nnot found one\nset window k\nkey a: unbound\nset window k\nkey a: start one\nnot found one\nset window k\nkey a: start one\nnot found one\nset window k\nkey a: start one\nnot found one\nset window k\nkey a: unbound\nset window k\nkey a: start one\nnot found one\n",
-    },
-    Row {
-        name: "names of scopes and keys are told apart by each byte",
-        layout: Some("{\"scopes\":[{\"name\":\"größe\"},{\"name\":\"Größe\",\"parent\":\"größe\"}]}"),
-        user: "[{\"key\":\"a\",\"command\":\"one\",\"when\":\"schlüssel\"}]",
-        script: "set Größe schlüssel 1\nkey a\nset größe Schlüssel 1\nkey a\nset größe schlüssel 1\nkey a\nfocus groesse\n",
-        trace: "set Größe schlüssel\nkey a: unbound\nset größe Schlüssel\nkey a: unbound\nset größe schlüssel\nkey a: start one\nnot found one\nrefused 20 UnknownScope\n",
-    },
-    Row {
-        name: "a scope may have the empty name, which no line can tell",
-        layout: Some("{\"scopes\":[{\"name\":\"\",\"keys\":{\"k\":1}}]}"),
-        user: "[{\"key\":\"a\",\"command\":\"one\",\"when\":\"k\"}]",
-        script: "key a\nfocus \n",
-        trace: "key a: start one\nnot found one\nunread line 2\n",
-    },
-    Row {
-        name: "a name of a scope with a space can't be told in a script",
-        layout: Some("{\"scopes\":[{\"name\":\"a b\"}]}"),
-        user: "",
-        script: "focus a b\nfocus a\n",
-        trace: "unread line 1\nrefused 20 UnknownScope\n",
-    },
-];
 
 #[test]
-fn rows_of_scopes_are_written(rt: HostRuntime) -> Result<(), Fail> {
-    for row in &ROWS {
-        let name = row.name;
-        let layout = row.layout.map(|text| text.as_bytes());
-        match transcript(rt.alloc(), layout, row.user.as_bytes(), row.script.as_bytes()) {
-            Ok(out) => {
-                let text = str::from_utf8(out.as_slice())?;
-                assert_eq!(rt; text, row.trace, "in {name}");
-            }
-            Err(failure) => assert!(rt; false, "{failure:?} in {name}"),
-        }
-    }
-    Ok(())
+fn rows_of_scopes_are_written(rt: HostRuntime) {
+    assert_eq!(rt; first_wrong(rt.alloc(), ROWS), None);
 }
 
 /// A layout that is refused, and the number and the name of its fault.
