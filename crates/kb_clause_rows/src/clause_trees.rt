@@ -1,9 +1,9 @@
 //! Pairs of clause texts, and whether they are one tree.
 use kb_when::Clause;
 use std::alloc::Global;
-use std::test::Fail;
 
-static PAIRS: [(&str, &str, bool); 76] = [
+/// Two texts, and whether they are one tree.
+static PAIRS: [(&str, &str, bool); 95] = [
     ("!a == b", "!(a == b)", true),
     ("!a == b", "a != b", true),
     ("!a === b", "a !== 'b'", true),
@@ -80,53 +80,52 @@ static PAIRS: [(&str, &str, bool); 76] = [
     ("a < 7", "b < 7", false),
     ("a in b", "b in a", false),
     ("a in b", "a == b", false),
+    ("a < 7", "a <= 7", false),
+    ("a < 7", "a > 7", false),
+    ("a < 7", "a >= 7", false),
+    ("a <= 7", "a > 7", false),
+    ("a <= 7", "a >= 7", false),
+    ("a > 7", "a >= 7", false),
+    ("a > 7", "a > 7", true),
+    ("a >= 7", "a\t>=\n07", true),
+    ("a < 7", "a == 7", false),
+    ("a < 7", "a", false),
+    ("a < 7", "!a", false),
+    ("a in b", "a in b", true),
+    ("a in b", "a in c", false),
+    ("a in b", "a", false),
+    ("a && b", "a", false),
+    ("a && b", "!a", false),
+    ("a || b", "a == b", false),
+    ("a || b", "false", false),
+    ("a == b", "true", false),
 ];
 
-/// Comparisons and other clauses of which no two are one tree.
-static DIFFERENT: [&str; 14] = [
-    "a < 7",
-    "a <= 7",
-    "a > 7",
-    "a >= 7",
-    "a == 7",
-    "a != 7",
-    "a in b",
-    "a not in b",
-    "a",
-    "!a",
-    "true",
-    "false",
-    "a && b",
-    "a || b",
-];
-
-/// Whether two texts are clauses of one tree, seen from either side.
-fn are_same(alloc: Global, text: &str, other: &str) -> Result<bool, Fail> {
-    let clause = Clause::parse(alloc, text)?;
-    let other = Clause::parse(alloc, other)?;
+/// Whether a clause and a text are of one tree, or `None` where the text is no clause or the answer
+/// is another one the other way round.
+fn is_same(alloc: Global, clause: &Clause, text: &str) -> Option<bool> {
+    let other = Clause::parse(alloc, text).ok()?;
     let same = clause.same_tree(&other);
-    if same != other.same_tree(&clause) {
-        return Err(Fail::from("the other way round it differs"));
-    }
-    Ok(same)
+    (other.same_tree(clause) == same).then_some(same)
 }
 
-#[test]
-fn trees_are_compared(rt: HostRuntime) -> Result<(), Fail> {
+/// The same of two texts.
+fn are_same(alloc: Global, text: &str, other: &str) -> Option<bool> {
+    let clause = Clause::parse(alloc, text).ok()?;
+    is_same(alloc, &clause, other)
+}
+
+/// The first text of a pair with another answer.
+fn first_wrong(alloc: Global) -> Option<&'static str> {
     for (text, other, same) in &PAIRS {
-        let found = are_same(rt.alloc(), text, other)?;
-        assert_eq!(rt; found, *same, "at {text} and {other}");
-    }
-    Ok(())
-}
-
-#[test]
-fn different_trees_differ(rt: HostRuntime) -> Result<(), Fail> {
-    for (place, text) in DIFFERENT.iter().enumerate() {
-        for (beside, other) in DIFFERENT.iter().enumerate() {
-            let found = are_same(rt.alloc(), text, other)?;
-            assert_eq!(rt; found, place == beside, "at {text} and {other}");
+        if are_same(alloc, text, other) != Some(*same) {
+            return Some(*text);
         }
     }
-    Ok(())
+    None
+}
+
+#[test]
+fn trees_are_compared(rt: HostRuntime) {
+    assert_eq!(rt; first_wrong(rt.alloc()), None);
 }
