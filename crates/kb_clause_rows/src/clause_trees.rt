@@ -3,7 +3,7 @@ use kb_when::Clause;
 use std::alloc::Global;
 
 /// Two texts, and whether they are one tree.
-static PAIRS: [(&str, &str, bool); 95] = [
+static PAIRS: [(&str, &str, bool); 102] = [
     ("!a == b", "!(a == b)", true),
     ("!a == b", "a != b", true),
     ("!a === b", "a !== 'b'", true),
@@ -57,6 +57,13 @@ static PAIRS: [(&str, &str, bool); 95] = [
     ("a == b", "a == c", false),
     ("a == b", "b == a", false),
     ("a == b", "a", false),
+    ("a == b\u{a0}c", "a == 'b\u{a0}c'", true),
+    ("a == b\u{3000}c", "a == 'b\u{3000}c'", true),
+    ("a\t!=\r\n'b'", "a != b", true),
+    ("a\t<\r\n11", "a < 11", true),
+    (" a\n>=\t10 ", "a >= 10", true),
+    ("a\rnot\nin\tb", "a not in b", true),
+    ("a\t&&\r\n!b||\nc", "a && !b || c", true),
     ("a == 10", "a == '10'", true),
     ("a == 10", "a == 010", false),
     ("a == in", "a == 'in'", true),

@@ -19,49 +19,47 @@ static LAYOUT: &str = r#"{"scopes":[
 /// The choices, in the order of the table's digits.
 static CHOICES: [&str; 8] = ["none", "a", "b", "ab", "c", "ac", "bc", "abc"];
 
-/// Clause texts, and for each choice 1 where they hold and 0 where they don't.
-static TRUTHS: [(&str, &[u8; 8]); 40] = [
-    ("true", b"11111111"),
-    ("false", b"00000000"),
-    ("!true", b"00000000"),
-    ("!false", b"11111111"),
-    ("a", b"01010101"),
-    ("!a", b"10101010"),
-    ("!!a", b"01010101"),
-    ("!!!a", b"10101010"),
-    ("(a)", b"01010101"),
-    ("(((a)))", b"01010101"),
-    ("a && b", b"00010001"),
-    ("a || b", b"01110111"),
-    ("a && b && c", b"00000001"),
-    ("a || b || c", b"01111111"),
-    ("!a && b || c", b"00101111"),
-    ("a || b && c", b"01010111"),
-    ("a && b || c", b"00011111"),
-    ("a || !b && c", b"01011101"),
-    ("(a || b) && c", b"00000111"),
-    ("a && (b || c)", b"00010101"),
-    ("a && !b && c", b"00000100"),
-    ("!a || b", b"10111011"),
-    ("!(a || b)", b"10001000"),
-    ("!(a && b)", b"11101110"),
-    ("!a && !b || !c", b"11111000"),
-    ("!(a && (b || !c))", b"10101110"),
-    ("a && b || !a && !b", b"10011001"),
-    ("a || b || a && c || !c", b"11110111"),
-    ("a || false", b"01010101"),
-    ("a && true", b"01010101"),
-    ("a || true && b", b"01110111"),
-    ("false && a || c", b"00001111"),
-    ("a == true && b != true", b"01000100"),
-    ("a != false || c == false", b"11110101"),
-    ("!a == true", b"10101010"),
-    ("!a != true", b"01010101"),
-    ("!a === false", b"01010101"),
-    ("!a !== false", b"10101010"),
-    ("a == true || b && c === false", b"01110101"),
-    ("a\t&&\r\n!b||\nc", b"01001111"),
-];
+/// Rows of eight digits and a text: for each choice 1 where the text holds and 0 where it doesn't.
+static TRUTHS: &str = r#"11111111 true
+00000000 false
+00000000 !true
+11111111 !false
+01010101 a
+10101010 !a
+01010101 !!a
+10101010 !!!a
+01010101 (a)
+01010101 (((a)))
+00010001 a && b
+01110111 a || b
+00000001 a && b && c
+01111111 a || b || c
+00101111 !a && b || c
+01010111 a || b && c
+00011111 a && b || c
+01011101 a || !b && c
+00000111 (a || b) && c
+00010101 a && (b || c)
+00000100 a && !b && c
+10111011 !a || b
+10001000 !(a || b)
+11101110 !(a && b)
+11111000 !a && !b || !c
+10101110 !(a && (b || !c))
+10011001 a && b || !a && !b
+11110111 a || b || a && c || !c
+01010101 a || false
+01010101 a && true
+01110111 a || true && b
+00001111 false && a || c
+01000100 a == true && b != true
+11110101 a != false || c == false
+10101010 !a == true
+01010101 !a != true
+01010101 !a === false
+10101010 !a !== false
+01110101 a == true || b && c === false
+01001111 a&&!b||c"#;
 
 /// Whether a clause holds where a choice has the focus.
 fn holds_at(clause: &Clause, scopes: &mut Scopes, choice: &str) -> Option<bool> {
@@ -70,8 +68,8 @@ fn holds_at(clause: &Clause, scopes: &mut Scopes, choice: &str) -> Option<bool> 
 }
 
 /// Whether a clause holds for each choice as the digits say.
-fn holds_as(clause: &Clause, scopes: &mut Scopes, digits: &[u8; 8]) -> bool {
-    let mut digits = digits.iter();
+fn holds_as(clause: &Clause, scopes: &mut Scopes, digits: &str) -> bool {
+    let mut digits = digits.as_bytes().iter();
     for choice in &CHOICES {
         match digits.next() {
             Some(digit) if holds_at(clause, scopes, choice) == Some(*digit == b'1') => {}
@@ -81,22 +79,25 @@ fn holds_as(clause: &Clause, scopes: &mut Scopes, digits: &[u8; 8]) -> bool {
     true
 }
 
-/// The same of a clause's text.
-fn is_right(alloc: Global, scopes: &mut Scopes, text: &str, digits: &[u8; 8]) -> bool {
+/// Whether a row's text holds for each choice as its digits say.
+fn is_right(alloc: Global, scopes: &mut Scopes, row: &str) -> bool {
+    let Some((digits, text)) = row.split_once(' ') else {
+        return false;
+    };
     match Clause::parse(alloc, text) {
         Ok(clause) => holds_as(&clause, scopes, digits),
         Err(_) => false,
     }
 }
 
-/// The first text that holds for other choices.
+/// The first row whose text holds for other choices.
 fn first_wrong(alloc: Global) -> Option<&'static str> {
     let Ok(mut scopes) = scopes_of(alloc, LAYOUT) else {
         return Some(LAYOUT);
     };
-    for (text, digits) in &TRUTHS {
-        if !is_right(alloc, &mut scopes, text, digits) {
-            return Some(*text);
+    for row in TRUTHS.split('\n') {
+        if !is_right(alloc, &mut scopes, row) {
+            return Some(row);
         }
     }
     None

@@ -14,7 +14,7 @@ static LAYOUT: &str = r#"{"scopes":[{"name":"window","keys":{
     "yes":"true","no":"false","kin":"in","knot":"not","less":"<","path":"/x/y.ts",
     "list":[],"some":["a","k"],"blank":[""],"ten":["10"],
     "nothing":{},"obj":{"k":false},"members":{"":1,"a":null,"abc":[]},
-    "bar<1":true,"größe":"日本","日本":3,"a\u00a0b":true,"a\u3000b":true,"a/b.c-d":true,"5":true
+    "bar<1":true,"größe":"日本","日本":3,"a/b.c-d":true,"5":true
 }}]}"#;
 
 /// Rows of a truth and a text: whether the text holds over those keys. Behind `#` stands what the
@@ -269,15 +269,6 @@ true names
 true x == b
 false x in names"#;
 
-/// The same of texts with signs that don't show, over the keys of the first layout.
-static BLANKS: [(&str, bool); 5] = [
-    ("a\u{a0}b", true),
-    ("a\u{3000}b", true),
-    ("word\t!=\r\n'ab'", true),
-    ("n\t<\r\n11", true),
-    (" n\n>=\t10 ", true),
-];
-
 /// Whether a text holds over scopes, if it is a clause.
 fn truth_of(alloc: Global, scopes: &Scopes, text: &str) -> Option<bool> {
     let clause = Clause::parse(alloc, text).ok()?;
@@ -307,22 +298,8 @@ fn first_wrong(alloc: Global, layout: &'static str, rows: &'static str) -> Optio
     None
 }
 
-/// The first text with another truth.
-fn first_wrong_blank(alloc: Global) -> Option<&'static str> {
-    let Ok(scopes) = scopes_of(alloc, LAYOUT) else {
-        return Some(LAYOUT);
-    };
-    for (text, truth) in &BLANKS {
-        if truth_of(alloc, &scopes, text) != Some(*truth) {
-            return Some(*text);
-        }
-    }
-    None
-}
-
 #[test]
 fn texts_hold_over_values(rt: HostRuntime) {
     assert_eq!(rt; first_wrong(rt.alloc(), LAYOUT, TRUTHS), None);
     assert_eq!(rt; first_wrong(rt.alloc(), NESTED, NEAREST), None);
-    assert_eq!(rt; first_wrong_blank(rt.alloc()), None);
 }
