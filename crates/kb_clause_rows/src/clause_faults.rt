@@ -1,6 +1,9 @@
 //! Clause texts, and the numbers of their faults.
-use crate::reading::fault_of;
+use crate::reading::{fault_of, first_wrong};
 use std::alloc::Global;
+
+/// No text of these rows is valued.
+static LAYOUT: &str = r#"{"scopes":[{"name":"window"}]}"#;
 
 /// Rows of a number and a text: the text's fault, or 0 where it is read. Behind `#` stands what the
 /// rows are about.
@@ -265,26 +268,6 @@ static BLANKS: [(&str, u32); 26] = [
     (" \t\r\n", 31),
 ];
 
-/// Whether a row has its text's fault.
-fn is_right(alloc: Global, row: &str) -> bool {
-    match row.split_once(' ') {
-        Some((number, text)) => {
-            number == "#" || number.parse::<u32>().ok() == Some(fault_of(alloc, text))
-        }
-        None => false,
-    }
-}
-
-/// The first row with another fault.
-fn first_wrong(alloc: Global) -> Option<&'static str> {
-    for row in FAULTS.split('\n') {
-        if !is_right(alloc, row) {
-            return Some(row);
-        }
-    }
-    None
-}
-
 /// The first text with another fault.
 fn first_wrong_blank(alloc: Global) -> Option<&'static str> {
     for (text, number) in &BLANKS {
@@ -297,6 +280,6 @@ fn first_wrong_blank(alloc: Global) -> Option<&'static str> {
 
 #[test]
 fn texts_have_their_faults(rt: HostRuntime) {
-    assert_eq!(rt; first_wrong(rt.alloc()), None);
+    assert_eq!(rt; first_wrong(rt.alloc(), LAYOUT, FAULTS), None);
     assert_eq!(rt; first_wrong_blank(rt.alloc()), None);
 }

@@ -1,5 +1,5 @@
 //! The scan for faults, step by step: what each token does in each of the scan's states.
-use crate::reading::fault_of_pieces;
+use crate::reading::fault_of;
 use std::alloc::Global;
 
 /// The tokens, each with the white space behind it. The last is the end of the text.
@@ -69,14 +69,22 @@ static STATES: [(&[&str], &str); 9] = [
     ),
 ];
 
+/// The fault of a text of three pieces.
+fn fault_behind(alloc: Global, state: &str, token: &str, more: &str) -> u32 {
+    match [state, token, more].concat(alloc) {
+        Ok(text) => fault_of(alloc, text.as_str()),
+        Err(_) => 5,
+    }
+}
+
 /// Whether a token does in a state what a word of the table says.
 fn does(alloc: Global, state: &str, token: &str, word: &str) -> bool {
-    let fault = fault_of_pieces(alloc, &[(state, 1), (token, 1)]);
+    let fault = fault_behind(alloc, state, token, "");
     match word {
         "31" => fault == 31,
         "33" => fault == 33,
         "." => fault == 0,
-        more => { fault == 31 && fault_of_pieces(alloc, &[(state, 1), (token, 1), (more, 1)]) == 0 }
+        more => fault == 31 && fault_behind(alloc, state, token, more) == 0,
     }
 }
 

@@ -1,8 +1,5 @@
 //! Clause texts over keys of each kind, and whether they hold.
-use crate::reading::scopes_of;
-use kb_context::Scopes;
-use kb_when::Clause;
-use std::alloc::Global;
+use crate::reading::first_wrong;
 
 /// The keys that the tables speak of. `gone` is none of them.
 static LAYOUT: &str = r#"{"scopes":[{"name":"window","keys":{
@@ -268,35 +265,6 @@ true !s && k < 3
 true names
 true x == b
 false x in names"#;
-
-/// Whether a text holds over scopes, if it is a clause.
-fn truth_of(alloc: Global, scopes: &Scopes, text: &str) -> Option<bool> {
-    let clause = Clause::parse(alloc, text).ok()?;
-    clause.holds(scopes).ok()
-}
-
-/// Whether a row has its text's truth.
-fn is_right(alloc: Global, scopes: &Scopes, row: &str) -> bool {
-    match row.split_once(' ') {
-        Some((truth, text)) => {
-            truth == "#" || truth_of(alloc, scopes, text) == Some(truth == "true")
-        }
-        None => false,
-    }
-}
-
-/// The first row with another truth over the scopes of a layout.
-fn first_wrong(alloc: Global, layout: &'static str, rows: &'static str) -> Option<&'static str> {
-    let Ok(scopes) = scopes_of(alloc, layout) else {
-        return Some(layout);
-    };
-    for row in rows.split('\n') {
-        if !is_right(alloc, &scopes, row) {
-            return Some(row);
-        }
-    }
-    None
-}
 
 #[test]
 fn texts_hold_over_values(rt: HostRuntime) {

@@ -1,5 +1,5 @@
-//! What the tables share: scopes from the text of a layout, and the faults of clause texts.
-use kb_context::{NoMemory, ReadError, Scopes};
+//! What the tables share: scopes from the text of a layout, and rows of clause texts.
+use kb_context::{ReadError, Scopes};
 use kb_manifest::{ShapeError, read_layout};
 use kb_when::Clause;
 use serde_json::Value;
@@ -36,27 +36,37 @@ pub(crate) fn fault_of(alloc: Global, text: &str) -> u32 {
     }
 }
 
-/// So many times a piece, behind a text.
-fn add(text: &mut String, piece: &str, count: usize) -> Result<(), NoMemory> {
-    for _ in 0..count {
-        text.push_str(piece)?;
-    }
-    Ok(())
+/// Whether a text holds over scopes, if it is a clause.
+fn truth_of(alloc: Global, scopes: &Scopes, text: &str) -> Option<bool> {
+    let clause = Clause::parse(alloc, text).ok()?;
+    clause.holds(scopes).ok()
 }
 
-/// The text of pieces, each so many times.
-fn text_of(alloc: Global, pieces: &[(&str, usize)]) -> Result<String, NoMemory> {
-    let mut text = String::new(alloc);
-    for (piece, count) in pieces {
-        add(&mut text, piece, *count)?;
+/// Whether a word says of a text what is so: that it holds or doesn't, or the number of its fault.
+/// Behind `#` stands what the rows are about.
+fn is_right(alloc: Global, scopes: &Scopes, word: &str, text: &str) -> bool {
+    match word {
+        "#" => true,
+        "true" => truth_of(alloc, scopes, text) == Some(true),
+        "false" => truth_of(alloc, scopes, text) == Some(false),
+        number => number.parse::<u32>().ok() == Some(fault_of(alloc, text)),
     }
-    Ok(text)
 }
 
-/// The number of the fault of a text of pieces.
-pub(crate) fn fault_of_pieces(alloc: Global, pieces: &[(&str, usize)]) -> u32 {
-    match text_of(alloc, pieces) {
-        Ok(text) => fault_of(alloc, text.as_str()),
-        Err(_) => 5,
+/// The first row, of a word and a text, that is wrong over the scopes of a layout.
+pub(crate) fn first_wrong(
+    alloc: Global,
+    layout: &'static str,
+    rows: &'static str,
+) -> Option<&'static str> {
+    let Ok(scopes) = scopes_of(alloc, layout) else {
+        return Some(layout);
+    };
+    for row in rows.split('\n') {
+        match row.split_once(' ') {
+            Some((word, text)) if is_right(alloc, &scopes, word, text) => {}
+            _ => return Some(row),
+        }
     }
+    None
 }
