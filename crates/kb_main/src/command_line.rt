@@ -46,7 +46,11 @@ fn keyrun<'a>(alloc: Global) -> Result<Command<'a>, NoMemory>
     let command = bare(alloc)?;
     let command = with(
         command,
-        file_option(alloc, "layout", "The layout of the scopes, as JSON with comments"),
+        file_option(
+            alloc,
+            "layout",
+            "The layout of the scopes, as JSON with comments",
+        ),
     )?;
     let command = with(
         command,

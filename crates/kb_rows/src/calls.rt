@@ -224,7 +224,11 @@ fn arguments_are_read_and_fit(rt: HostRuntime) -> Result<(), Fail> {
 /// The lines of a trace, one by one.
 fn has_lines(session: &Session, wanted: &[&str]) -> bool {
     session.trace().len() == wanted.len()
-        && session.trace().iter().zip(wanted).all(|(line, text)| line.as_str() == *text)
+        && session
+            .trace()
+            .iter()
+            .zip(wanted)
+            .all(|(line, text)| line.as_str() == *text)
 }
 
 fn opened(alloc: Global) -> Option<Session> {
@@ -261,7 +265,10 @@ fn a_session_that_is_stopped_answers_so(rt: HostRuntime) -> Result<(), Fail> {
     assert!(rt; !session.is_stopped());
     session.stop();
     assert!(rt; session.is_stopped());
-    assert_eq!(rt; session.handle(Event::Unread(1)), Err(SessionFault::Stopped));
+    assert_eq!(rt;
+        session.handle(Event::Unread(1)),
+        Err(SessionFault::Stopped)
+    );
     Ok(())
 }
 

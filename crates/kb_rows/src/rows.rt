@@ -350,7 +350,11 @@ fn rows_are_written(rt: HostRuntime) {
 /// Rows in which blanks or a byte order mark count: the user's rules, a script, and its trace.
 static EXACT: [(&str, &str, &str); 9] = [
     // A blank value of a key is none.
-    ("", "set window k \t\nset window k \n", "unread line 1\nunread line 2\n"),
+    (
+        "",
+        "set window k \t\nset window k \n",
+        "unread line 1\nunread line 2\n",
+    ),
     // A byte order mark of the file is dropped.
     (
         "\u{feff}[{\"key\":\"a\",\"command\":\"type\"}]",
@@ -358,17 +362,9 @@ static EXACT: [(&str, &str, &str); 9] = [
         "key a: start type\ndone \"\" \"\"\n",
     ),
     // An empty script.
-    (
-        "",
-        "",
-        "",
-    ),
+    ("", "", ""),
     // The last line may lack its line feed.
-    (
-        "",
-        "key a\nkey b",
-        "key a: unbound\nkey b: unbound\n",
-    ),
+    ("", "key a\nkey b", "key a: unbound\nkey b: unbound\n"),
     // A carriage return right before a line feed is dropped.
     (
         "",
@@ -376,11 +372,7 @@ static EXACT: [(&str, &str, &str); 9] = [
         "key a: unbound\nkey b: unbound\n",
     ),
     // One carriage return is dropped and no more, and none at the end of the script.
-    (
-        "",
-        "key a\r\r\nkey a\r",
-        "unread line 1\nunread line 2\n",
-    ),
+    ("", "key a\r\r\nkey a\r", "unread line 1\nunread line 2\n"),
     // Empty lines and lines that begin with # count, and say nothing.
     (
         "",
@@ -388,11 +380,7 @@ static EXACT: [(&str, &str, &str); 9] = [
         "key a: unbound\nunread line 6\n",
     ),
     // A # behind the first character is none.
-    (
-        "",
-        " # a\n",
-        "unread line 1\n",
-    ),
+    ("", " # a\n", "unread line 1\n"),
     // Words are separated by one space.
     (
         "",

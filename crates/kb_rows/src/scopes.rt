@@ -409,7 +409,6 @@ key a
 key a: start one
 not found one"#;
 
-
 #[test]
 fn rows_of_scopes_are_written(rt: HostRuntime) {
     assert_eq!(rt; first_wrong(rt.alloc(), ROWS), None);
@@ -425,14 +424,38 @@ static REFUSED: [(&str, u32, &str); 16] = [
     ("{}", 40, "MissingMember"),
     ("{\"scopes\":[{\"name\":1},{}]}", 40, "MissingMember"),
     ("{\"scopes\":[{\"name\":null}]}", 41, "WrongShape"),
-    ("{\"scopes\":[{\"name\":\"w\",\"keys\":{\"k\":null}}]}", 41, "WrongShape"),
+    (
+        "{\"scopes\":[{\"name\":\"w\",\"keys\":{\"k\":null}}]}",
+        41,
+        "WrongShape",
+    ),
     ("{\"scopes\":[],\"focus\":1}", 41, "WrongShape"),
     ("{\"scopes\":[]}", 21, "BadLayout"),
-    ("{\"scopes\":[{\"name\":\"w\",\"parent\":\"w\"}]}", 21, "BadLayout"),
-    ("{\"scopes\":[{\"name\":\"w\"},{\"name\":\"e\"}]}", 21, "BadLayout"),
-    ("{\"scopes\":[{\"name\":\"w\"},{\"name\":\"e\",\"parent\":\"f\"},{\"name\":\"f\",\"parent\":\"w\"}]}", 21, "BadLayout"),
-    ("{\"scopes\":[{\"name\":\"w\"},{\"name\":\"w\",\"parent\":\"w\"}]}", 21, "BadLayout"),
-    ("{\"scopes\":[{\"name\":\"w\"}],\"focus\":\"e\"}", 21, "BadLayout"),
+    (
+        "{\"scopes\":[{\"name\":\"w\",\"parent\":\"w\"}]}",
+        21,
+        "BadLayout",
+    ),
+    (
+        "{\"scopes\":[{\"name\":\"w\"},{\"name\":\"e\"}]}",
+        21,
+        "BadLayout",
+    ),
+    (
+        "{\"scopes\":[{\"name\":\"w\"},{\"name\":\"e\",\"parent\":\"f\"},{\"name\":\"f\",\"parent\":\"w\"}]}",
+        21,
+        "BadLayout",
+    ),
+    (
+        "{\"scopes\":[{\"name\":\"w\"},{\"name\":\"w\",\"parent\":\"w\"}]}",
+        21,
+        "BadLayout",
+    ),
+    (
+        "{\"scopes\":[{\"name\":\"w\"}],\"focus\":\"e\"}",
+        21,
+        "BadLayout",
+    ),
 ];
 
 /// The fault with which a layout is refused, before the user's rules are looked at.
@@ -478,13 +501,16 @@ fn long_chain(alloc: Global, count: usize) -> Result<String, Fail> {
     Ok(text)
 }
 
-const FULL_RULES: &[u8] = b"[{\"key\":\"p\",\"command\":\"setContext\",\"args\":{\"key\":\"ok\",\"value\":true}},{\"key\":\"q\",\"command\":\"type\",\"when\":\"ok\"}]";
+const FULL_RULES: &[u8] =
+    b"[{\"key\":\"p\",\"command\":\"setContext\",\"args\":{\"key\":\"ok\",\"value\":true}},{\"key\":\"q\",\"command\":\"type\",\"when\":\"ok\"}]";
 
 #[test]
 fn ten_thousand_keys_are_the_most(rt: HostRuntime) -> Result<(), Fail> {
     let layout = many_keys(rt.alloc(), 10_000)?;
-    let script = b"set window ok true\nkey p\nkey q\nset window k1 2\nunset window k0\nkey p\nkey q\nset window k0 1\n";
-    let trace = "refused 22 TooManyKeys\nkey p: start setContext\ndone \"\" \"\"\nkey q: unbound\nset window k1\nunset window k0\nkey p: start setContext\ndone \"\" \"\"\nkey q: start type\ndone \"\" \"\"\nrefused 22 TooManyKeys\n";
+    let script =
+        b"set window ok true\nkey p\nkey q\nset window k1 2\nunset window k0\nkey p\nkey q\nset window k0 1\n";
+    let trace =
+        "refused 22 TooManyKeys\nkey p: start setContext\ndone \"\" \"\"\nkey q: unbound\nset window k1\nunset window k0\nkey p: start setContext\ndone \"\" \"\"\nkey q: start type\ndone \"\" \"\"\nrefused 22 TooManyKeys\n";
     match transcript(rt.alloc(), Some(layout.as_bytes()), FULL_RULES, script) {
         Ok(out) => assert_eq!(rt; str::from_utf8(out.as_slice())?, trace),
         Err(failure) => assert!(rt; false, "{failure:?}"),
@@ -504,7 +530,8 @@ fn one_key_more_is_refused(rt: HostRuntime) -> Result<(), Fail> {
 fn a_thousand_scopes_nest(rt: HostRuntime) -> Result<(), Fail> {
     let layout = long_chain(rt.alloc(), 1_000)?;
     let script = b"key q\nset s0 ok 1\nkey q\nset s999 ok 0\nkey q\nfocus s998\nkey q\n";
-    let trace = "key q: unbound\nset s0 ok\nkey q: start type\ndone \"\" \"\"\nset s999 ok\nkey q: unbound\nfocus s998\nkey q: start type\ndone \"\" \"\"\n";
+    let trace =
+        "key q: unbound\nset s0 ok\nkey q: start type\ndone \"\" \"\"\nset s999 ok\nkey q: unbound\nfocus s998\nkey q: start type\ndone \"\" \"\"\n";
     match transcript(rt.alloc(), Some(layout.as_bytes()), FULL_RULES, script) {
         Ok(out) => assert_eq!(rt; str::from_utf8(out.as_slice())?, trace),
         Err(failure) => assert!(rt; false, "{failure:?}"),

@@ -221,5 +221,7 @@ fn read_assignment(
 fn is_blank(text: &str) -> bool
     ensures { result ≡ script.is_blank text.now }
 {
-    text.as_bytes().iter().all(|byte| matches!(*byte, b' ' | b'\t' | b'\r' | b'\n'))
+    text.as_bytes()
+        .iter()
+        .all(|byte| matches!(*byte, b' ' | b'\t' | b'\r' | b'\n'))
 }
