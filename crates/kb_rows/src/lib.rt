@@ -4,13 +4,9 @@
 
 ghost use Rattle.std.specs.Prelude.{◌≡◌, Ok, IfOk, IfErr, option_map};
 ghost use Rattle.kb_rows.specs.Failure.{FailsToGive};
-ghost use Rattle.kb_rules.specs.RuleList.{Listed};
-ghost use Rattle.kb_context.specs.Scopes.{ScopesData};
-ghost use Rattle.kb_files.specs.Layout.{layout_scopes};
-ghost use Rattle.kb_files.specs.UserFile.{user_rules};
 ghost use Rattle.kb_script.specs.Script.{told_of};
 ghost use Rattle.kb_script.specs.ScriptRun.{text_of};
-ghost use Rattle.kb_session.specs.Session.{loaded_session};
+ghost use Rattle.kb_session.specs.Session.{Seen, loaded};
 
 use kb_script::{ScriptFault, run_script};
 use kb_session::{Inputs, LoadFault, Session};
@@ -54,9 +50,9 @@ pub fn transcript(
     user: &[u8],
     script: &[u8],
 ) -> Result<Vec<u8>, Failure>
-    ensures ok { IfOk result (λ out. (scopes : ScopesData) × (listed : Listed)
-        × (layout_scopes (option_map (λ bytes. bytes.now) layout.entry) ≡ Ok scopes) × (user_rules user.now ≡ Ok listed)
-        × (out.items ≡ text_of (told_of script.now) (loaded_session scopes listed))) }
+    ensures ok { IfOk result (λ out. (session : Seen)
+        × (loaded (option_map (λ bytes. bytes.now) layout.entry) user.now ≡ Ok session)
+        × (out.items ≡ text_of (told_of script.now) session)) }
     ensures err { IfErr result (λ failure. FailsToGive failure (option_map (λ bytes. bytes.now) layout.entry) user.now script.now) }
 {
     let mut session = match Session::load(alloc, Inputs { layout, user }) {
