@@ -171,38 +171,68 @@ fn lists_grow_at_the_end(rt: HostRuntime) -> Result<(), Fail> {
     Ok(())
 }
 
-#[test]
-fn rules_are_shared_and_resolved(rt: HostRuntime) -> Result<(), Fail> {
-    let text =
-        "[{\"key\":\"a b\",\"command\":\"x\"},{\"key\":\"c\",\"command\":\"y\",\"args\":1},{}]";
-    let value = Value::from_str(rt.alloc(), text)?;
-    let list = match value {
-        Value::Array(elements) => read_list(rt.alloc(), elements)?,
-        _ => read_list(rt.alloc(), Vec::new(rt.alloc()))?,
+/// The search among the two rules of a file with three elements, one of which is dropped.
+fn resolver_of(alloc: Global, text: &str) -> Option<Resolver> {
+    let list = match Value::from_str(alloc, text).ok()? {
+        Value::Array(elements) => read_list(alloc, elements).ok()?,
+        _ => return None,
     };
-    assert_eq!(rt; list.warnings().len(), 1);
-    let set = RuleSet::assemble(rt.alloc(), &list)?;
-    assert_eq!(rt; set.rules().len(), 2);
-    let resolver = Resolver::build(rt.alloc(), &set)?;
-    let scopes = window(rt.alloc()).ok_or("no scopes")?;
-    let chord = Chord::parse(rt.alloc(), "a b").ok().expect(&rt, "a b");
-    for (count, found) in [(1usize, "more"), (2, "x")] {
-        match resolver.resolve(&chord.as_slice()[..count.min(chord.len())], &scopes)? {
-            Resolved::Found(rule) => assert_eq!(rt; rule.command.as_str(), found),
-            Resolved::More => assert_eq!(rt; "more", found),
-            Resolved::Nothing => assert!(rt; false, "nothing is found"),
-        }
+    let set = RuleSet::assemble(alloc, &list).ok()?;
+    if list.warnings().len() != 1 || set.rules().len() != 2 {
+        return None;
     }
-    let mut state = ChordState::new(rt.alloc());
-    for stroke in chord.as_slice() {
-        match state.press(*stroke, &resolver, &scopes)? {
-            Pressed::Start(rule) => assert_eq!(rt; rule.command.as_str(), "x"),
-            Pressed::More => assert_eq!(rt; state.pressed().len(), 1),
-            Pressed::Left | Pressed::Unbound => assert!(rt; false, "it fits no rule"),
-        }
+    Resolver::build(alloc, &set).ok()
+}
+
+/// What a search finds.
+fn found(resolver: &Resolver, scopes: &Scopes, pressed: &[Keystroke]) -> &'static str {
+    match resolver.resolve(pressed, scopes) {
+        Ok(Resolved::Found(_)) => "found",
+        Ok(Resolved::More) => "more",
+        Ok(Resolved::Nothing) => "nothing",
+        Err(_) => "no memory",
     }
-    assert!(rt; !state.leave());
-    Ok(())
+}
+
+/// What a press does.
+fn pressed(
+    state: &mut ChordState,
+    stroke: Keystroke,
+    resolver: &Resolver,
+    scopes: &Scopes,
+) -> &'static str {
+    match state.press(stroke, resolver, scopes) {
+        Ok(Pressed::Start(_)) => "start",
+        Ok(Pressed::More) => "more",
+        Ok(Pressed::Left) => "left",
+        Ok(Pressed::Unbound) => "unbound",
+        Err(_) => "no memory",
+    }
+}
+
+/// Whether the first keystroke of a chord waits for more, and all of them find a rule and start it.
+fn is_followed(alloc: Global, text: &str, chord: &str) -> Option<bool> {
+    let resolver = resolver_of(alloc, text)?;
+    let scopes = window(alloc)?;
+    let chord = Chord::parse(alloc, chord).ok()?;
+    let strokes = chord.as_slice();
+    if found(&resolver, &scopes, strokes) != "found" {
+        return Some(false);
+    }
+    let mut state = ChordState::new(alloc);
+    let mut last = "";
+    for stroke in strokes {
+        last = pressed(&mut state, *stroke, &resolver, &scopes);
+    }
+    Some(last == "start" && !state.leave())
+}
+
+#[test]
+fn rules_are_shared_and_resolved(rt: HostRuntime) {
+    let text = r#"[{"key":"a b","command":"x"},{"key":"c","command":"y","args":1},{}]"#;
+    assert_eq!(rt; is_followed(rt.alloc(), text, "a b"), Some(true));
+    assert_eq!(rt; is_followed(rt.alloc(), text, "c"), Some(true));
+    assert_eq!(rt; is_followed(rt.alloc(), text, "b"), Some(false));
 }
 
 #[test]
@@ -272,35 +302,36 @@ fn a_session_that_is_stopped_answers_so(rt: HostRuntime) -> Result<(), Fail> {
     Ok(())
 }
 
+fn key_event(text: &str) -> Option<Event> {
+    Some(Event::Key(Keystroke::parse(text).ok()?))
+}
+
 #[test]
-fn a_session_handles_and_runs(rt: HostRuntime) -> Result<(), Fail> {
-    let key = Keystroke::parse("ctrl+a").ok().expect(&rt, "ctrl+a");
+fn a_session_reads_rules_anew(rt: HostRuntime) -> Result<(), Fail> {
+    let mut session = opened(rt.alloc()).ok_or("no session")?;
     let user = b"[{\"key\":\"ctrl+a\",\"command\":\"nope\"}]";
-    let inputs = Inputs {
-        layout: None,
-        user: b"",
-    };
-    let mut session = Session::load(rt.alloc(), inputs)
-        .ok()
-        .expect(&rt, "no session");
-    let first = Event::Key(key);
-    assert_eq!(rt; session.handle(first), Ok(Answer::Did));
     assert_eq!(rt; session.reload_user(user), Ok(Answer::Did));
     let refused = Answer::Refused(Refusal::File(FileFault::WrongShape));
     assert_eq!(rt; session.reload_user(b"{}"), Ok(refused));
-    let mut events = Vec::new(rt.alloc());
-    events.push(Event::Unread(7))?;
-    let again = Keystroke::parse("ctrl+a").ok().expect(&rt, "ctrl+a");
-    events.push(Event::Key(again))?;
+    let wanted = ["reloaded", "refused 41 WrongShape"];
+    assert!(rt; has_lines(&session, &wanted));
+    Ok(())
+}
+
+/// Two events: a line that can't be read, and a press.
+fn two_events(alloc: Global) -> Option<Vec<Event>> {
+    let mut events = Vec::new(alloc);
+    events.push(Event::Unread(7)).ok()?;
+    events.push(key_event("ctrl+a")?).ok()?;
+    Some(events)
+}
+
+#[test]
+fn a_session_runs(rt: HostRuntime) -> Result<(), Fail> {
+    let mut session = opened(rt.alloc()).ok_or("no session")?;
+    let events = two_events(rt.alloc()).ok_or("no events")?;
     assert_eq!(rt; session.run(events), Ok(()));
-    let lines = [
-        "key ctrl+a: unbound",
-        "reloaded",
-        "refused 41 WrongShape",
-        "unread line 7",
-        "key ctrl+a: start nope",
-        "not found nope",
-    ];
-    assert!(rt; has_lines(&session, &lines));
+    let wanted = ["unread line 7", "key ctrl+a: unbound"];
+    assert!(rt; has_lines(&session, &wanted));
     Ok(())
 }

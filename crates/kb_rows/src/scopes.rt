@@ -4,8 +4,6 @@ use crate::{Failure, transcript};
 use kb_session::{LoadFault, LoadFile};
 use std::alloc::Global;
 use std::fmt::Write;
-use std::str;
-use std::test::Fail;
 
 /// Rows, as `table` reads them.
 static ROWS: &str = r#"§ the lowest rule whose clause holds starts
@@ -476,73 +474,85 @@ fn bad_layouts_are_refused(rt: HostRuntime) {
     }
 }
 
-/// A layout of one scope with so many keys, `k0` and so on.
-fn many_keys(alloc: Global, count: usize) -> Result<String, Fail> {
-    let mut text = String::from_str(alloc, "{\"scopes\":[{\"name\":\"window\",\"keys\":{")?;
-    for number in 0..count {
-        if number > 0 {
-            text.push(',')?;
-        }
-        write!(text, "\"k{number}\":1")?;
-    }
-    text.push_str("}}]}")?;
-    Ok(text)
+/// One key more of a scope.
+fn add_key(text: &mut String, number: usize) -> Option<()> {
+    let comma = if number > 0 { "," } else { "" };
+    write!(text, "{comma}\"k{number}\":1").ok()
 }
 
-/// A layout of so many scopes, each in the one before, and the last has the focus.
-fn long_chain(alloc: Global, count: usize) -> Result<String, Fail> {
-    let mut text = String::from_str(alloc, "{\"scopes\":[{\"name\":\"s0\"}")?;
-    for number in 1..count {
-        let outer = number - 1;
-        write!(text, ",{{\"name\":\"s{number}\",\"parent\":\"s{outer}\"}}")?;
+/// A layout of one scope with so many keys, `k0` and so on.
+fn many_keys(alloc: Global, count: usize) -> Option<String> {
+    let mut text = String::from_str(alloc, r#"{"scopes":[{"name":"window","keys":{"#).ok()?;
+    for number in 0..count {
+        add_key(&mut text, number)?;
     }
-    let last = count.max(1) - 1;
-    write!(text, "],\"focus\":\"s{last}\"}}")?;
-    Ok(text)
+    text.push_str("}}]}").ok()?;
+    Some(text)
+}
+
+/// One scope more, in the one of this number.
+fn add_scope(text: &mut String, outer: usize, number: usize) -> Option<()> {
+    write!(text, ",{{\"name\":\"s{number}\",\"parent\":\"s{outer}\"}}").ok()
+}
+
+/// A layout of a scope `s0` and so many more, each in the one before.
+fn long_chain(alloc: Global, more: usize) -> Option<String> {
+    let mut text = String::from_str(alloc, r#"{"scopes":[{"name":"s0"}"#).ok()?;
+    for outer in 0..more {
+        add_scope(&mut text, outer, outer + 1)?;
+    }
+    text.push_str("]}").ok()?;
+    Some(text)
 }
 
 const FULL_RULES: &[u8] =
     b"[{\"key\":\"p\",\"command\":\"setContext\",\"args\":{\"key\":\"ok\",\"value\":true}},{\"key\":\"q\",\"command\":\"type\",\"when\":\"ok\"}]";
 
+/// Whether a script writes this trace with a layout and those rules.
+fn writes(alloc: Global, layout: Option<String>, script: &str, trace: &str) -> Option<bool> {
+    let layout = layout?;
+    let out = transcript(
+        alloc,
+        Some(layout.as_bytes()),
+        FULL_RULES,
+        script.as_bytes(),
+    )
+    .ok()?;
+    Some(out.as_slice() == trace.as_bytes())
+}
+
 #[test]
-fn ten_thousand_keys_are_the_most(rt: HostRuntime) -> Result<(), Fail> {
-    let layout = many_keys(rt.alloc(), 10_000)?;
+fn ten_thousand_keys_are_the_most(rt: HostRuntime) {
     let script =
-        b"set window ok true\nkey p\nkey q\nset window k1 2\nunset window k0\nkey p\nkey q\nset window k0 1\n";
+        "set window ok true\nkey p\nkey q\nset window k1 2\nunset window k0\nkey p\nkey q\nset window k0 1\n";
     let trace =
         "refused 22 TooManyKeys\nkey p: start setContext\ndone \"\" \"\"\nkey q: unbound\nset window k1\nunset window k0\nkey p: start setContext\ndone \"\" \"\"\nkey q: start type\ndone \"\" \"\"\nrefused 22 TooManyKeys\n";
-    match transcript(rt.alloc(), Some(layout.as_bytes()), FULL_RULES, script) {
-        Ok(out) => assert_eq!(rt; str::from_utf8(out.as_slice())?, trace),
-        Err(failure) => assert!(rt; false, "{failure:?}"),
-    }
-    Ok(())
+    let layout = many_keys(rt.alloc(), 10_000);
+    assert_eq!(rt; writes(rt.alloc(), layout, script, trace), Some(true));
 }
 
 #[test]
-fn one_key_more_is_refused(rt: HostRuntime) -> Result<(), Fail> {
-    let layout = many_keys(rt.alloc(), 10_001)?;
-    let fault = layout_fault(rt.alloc(), layout.as_str());
-    assert_eq!(rt; fault, Some((22, "TooManyKeys")));
-    Ok(())
-}
-
-#[test]
-fn a_thousand_scopes_nest(rt: HostRuntime) -> Result<(), Fail> {
-    let layout = long_chain(rt.alloc(), 1_000)?;
-    let script = b"key q\nset s0 ok 1\nkey q\nset s999 ok 0\nkey q\nfocus s998\nkey q\n";
+fn a_thousand_scopes_nest(rt: HostRuntime) {
+    let script = "focus s999\nkey q\nset s0 ok 1\nkey q\nset s999 ok 0\nkey q\nfocus s998\nkey q\n";
     let trace =
-        "key q: unbound\nset s0 ok\nkey q: start type\ndone \"\" \"\"\nset s999 ok\nkey q: unbound\nfocus s998\nkey q: start type\ndone \"\" \"\"\n";
-    match transcript(rt.alloc(), Some(layout.as_bytes()), FULL_RULES, script) {
-        Ok(out) => assert_eq!(rt; str::from_utf8(out.as_slice())?, trace),
-        Err(failure) => assert!(rt; false, "{failure:?}"),
-    }
-    Ok(())
+        "focus s999\nkey q: unbound\nset s0 ok\nkey q: start type\ndone \"\" \"\"\nset s999 ok\nkey q: unbound\nfocus s998\nkey q: start type\ndone \"\" \"\"\n";
+    let layout = long_chain(rt.alloc(), 999);
+    assert_eq!(rt; writes(rt.alloc(), layout, script, trace), Some(true));
+}
+
+/// The fault of a layout that was made.
+fn made_fault(alloc: Global, layout: Option<String>) -> Option<(u32, &'static str)> {
+    layout_fault(alloc, layout?.as_str())
 }
 
 #[test]
-fn a_scope_more_is_refused(rt: HostRuntime) -> Result<(), Fail> {
-    let layout = long_chain(rt.alloc(), 1_001)?;
-    let fault = layout_fault(rt.alloc(), layout.as_str());
-    assert_eq!(rt; fault, Some((21, "BadLayout")));
-    Ok(())
+fn one_key_more_is_refused(rt: HostRuntime) {
+    let layout = many_keys(rt.alloc(), 10_001);
+    assert_eq!(rt; made_fault(rt.alloc(), layout), Some((22, "TooManyKeys")));
+}
+
+#[test]
+fn a_scope_more_is_refused(rt: HostRuntime) {
+    let layout = long_chain(rt.alloc(), 1_000);
+    assert_eq!(rt; made_fault(rt.alloc(), layout), Some((21, "BadLayout")));
 }
