@@ -1,3 +1,1 @@
-mod CommandLineLemmas
-mod CommandLineRows
 pub mod FilesLemmas

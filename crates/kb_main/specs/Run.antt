@@ -3,9 +3,9 @@ use Rattle.std.specs.Prelude.{◌≡◌, ◌⊎◌, ℕ, ⊤, Some}
 use Rattle.clap.specs.Words.{kind_of}
 use Rattle.clap.specs.declared.error.kind.ErrorKind.TheVariants.{InvalidValue}
 use Rattle.kb_script.specs.declared.fault.ScriptFault.TheVariants as script
-use Rattle.kb_main.specs.declared.given.Options.{Options}
-use Rattle.kb_main.specs.declared.given.OptionsFault.{OptionsFault}
-use Rattle.kb_main.specs.declared.given.OptionsFault.TheVariants.{Line, NoMemory}
+use Rattle.kb_options.specs.declared.given.Options.{Options}
+use Rattle.kb_options.specs.declared.given.OptionsFault.{OptionsFault}
+use Rattle.kb_options.specs.declared.given.OptionsFault.TheVariants.{Line, NoMemory}
 use Rattle.kb_main.specs.declared.outcome.Ending.{Ending}
 use Rattle.kb_main.specs.declared.outcome.Ending.TheVariants.{Ran, CannotRead, Load, Script}
 

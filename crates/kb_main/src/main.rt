@@ -1,9 +1,7 @@
 //! `keyrun`: runs a script of events against the user's keybindings, and prints the trace.
 #![tactic(auto)]
 
-mod command_line;
 mod files;
-mod given;
 mod outcome;
 mod report;
 mod run;

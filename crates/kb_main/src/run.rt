@@ -4,12 +4,11 @@ ghost use Rattle.std.specs.Process.{exit_status};
 ghost use Rattle.kb_main.specs.Report.{status_of};
 ghost use Rattle.kb_main.specs.Run.{HasNoWords, EndsBeforeScript, EndsByScript, IsStatus};
 
-use crate::command_line::{not_text, options};
 use crate::files::{bytes_named, file_named, lent};
-use crate::given::{Options, OptionsFault};
 use crate::outcome::Ending;
 use crate::report::{OUT_OF_MEMORY, STOPPED, ending, line_status, script_ending, warning_line};
 use kb_context::NoMemory;
+use kb_options::{Options, OptionsFault, not_text, options};
 use kb_rules::Warning;
 use kb_script::{ScriptFault, run_script};
 use kb_session::{Inputs, Session};

@@ -188,10 +188,16 @@ fn is_like(token: &Token) -> bool
     matches!(token, Token::Like)
 }
 
+// They are pushed one by one, since `collect` goes on where its guess at the length finds no memory, and
+// each want ends the reading.
 fn characters_of(alloc: Global, text: &str) -> Result<Vec<char>, NoMemory>
     ensures { IfOk result (λ characters. characters.items ≡ chars text.now) }
 {
-    text.chars().collect(alloc)
+    let mut characters = Vec::new(alloc);
+    for character in text.chars() {
+        characters.push(character)?;
+    }
+    Ok(characters)
 }
 
 /// The tokens of a text. `BadToken` (30) where one can't be read; `NoMemory` (5).

@@ -1,7 +1,7 @@
 use Rattle.std.proofs.Common.{map}
 use Rattle.clap.specs.Words.{app_of}
-use Rattle.kb_main.proofs.CommandLineLemmas.{matched_err, matched_ok}
-use Rattle.kb_main.proofs.command_line.matched.Goals as goal
+use Rattle.kb_options.proofs.CommandLineLemmas.{matched_err, matched_ok}
+use Rattle.kb_options.proofs.command_line.matched.Goals as goal
 
 pub returns-in_err-try_get_matches_from : goal.returns-in_err-try_get_matches_from
 returns-in_err-try_get_matches_from c =

@@ -3,7 +3,7 @@ ghost use Rattle.std.specs.Prelude.{◌≡◌, false, IfOk, codes, map, option_m
 ghost use Rattle.std.specs.IoError.{error_kind};
 ghost use Rattle.std.specs.declared.io.ErrorKind.TheVariants as io_kind;
 ghost use Rattle.clap.specs.Words.{app_of, rule_of, with_rule, new_app, found_of, rows_of, first_of, kind_of};
-ghost use Rattle.kb_main.specs.CommandLine.{Matched, Gives, file_rule, keyrun_app, Reads};
+ghost use Rattle.kb_options.specs.CommandLine.{Matched, Gives, file_rule, keyrun_app, Reads};
 
 use crate::given::{Options, OptionsFault};
 use clap::error::ErrorKind;

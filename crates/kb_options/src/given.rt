@@ -29,7 +29,7 @@ pub enum OptionsFault {
 }
 
 impl From<NoMemory> for OptionsFault {
-    ghost use Rattle.kb_main.specs.declared.given.OptionsFault.TheVariants as fault;
+    ghost use Rattle.kb_options.specs.declared.given.OptionsFault.TheVariants as fault;
 
     ghost from_gives = { λ _ made. made ≡ fault.NoMemory };
 
@@ -40,7 +40,7 @@ impl From<NoMemory> for OptionsFault {
 
 /// `clap` reports refused memory as an error among its others; here it is `NoMemory`.
 impl From<clap::Error> for OptionsFault {
-    ghost use Rattle.kb_main.specs.CommandLine.{Explains};
+    ghost use Rattle.kb_options.specs.CommandLine.{Explains};
 
     ghost from_gives = { Explains };
 

@@ -6,9 +6,9 @@ use Rattle.clap.specs.declared.parser.matches.ArgMatches.{ArgMatches}
 use Rattle.clap.specs.declared.error.Error.{Error}
 use Rattle.clap.specs.declared.error.kind.ErrorKind.TheVariants.{OutOfMemory}
 use Rattle.clap.proofs.OnLiterals.{clap_on_literals}
-use Rattle.kb_main.specs.declared.given.OptionsFault.{OptionsFault}
-use Rattle.kb_main.specs.declared.given.OptionsFault.TheVariants.{Line, NoMemory}
-use Rattle.kb_main.specs.CommandLine.{Explains, Matched, Refuses, keyrun_app}
+use Rattle.kb_options.specs.declared.given.OptionsFault.{OptionsFault}
+use Rattle.kb_options.specs.declared.given.OptionsFault.TheVariants.{Line, NoMemory}
+use Rattle.kb_options.specs.CommandLine.{Explains, Matched, Refuses, keyrun_app}
 
 -- the command is one whose words clap gives a meaning
 keyrun_is_simple : is_simple keyrun_app ≡ true

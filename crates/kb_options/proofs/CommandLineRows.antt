@@ -4,7 +4,7 @@ use Rattle.std.specs.Prelude.{Some, None, codes}
 use Rattle.clap.specs.Words.{Text, fault_of, first_of, matches_of, takes}
 use Rattle.clap.specs.declared.error.kind.ErrorKind.TheVariants.{ArgumentConflict, DisplayHelp, InvalidValue, UnknownArgument}
 use Rattle.clap.proofs.OnLiterals.{clap_on_literals}
-use Rattle.kb_main.specs.CommandLine.{keyrun_app}
+use Rattle.kb_options.specs.CommandLine.{keyrun_app}
 
 abbrev all : List Text
 all = codes "keyrun" ∷ codes "--script" ∷ codes "s" ∷ codes "--user=u" ∷ codes "--layout" ∷ codes "l" ∷ []

@@ -5,9 +5,9 @@ use Rattle.clap.specs.Words.{IsAmong, fault_of, found_of, rows_of, kind_of, take
 use Rattle.clap.specs.declared.error.Error.{Error}
 use Rattle.clap.specs.declared.error.kind.ErrorKind.TheVariants.{OutOfMemory}
 use Rattle.clap.specs.declared.parser.matches.ArgMatches.{ArgMatches}
-use Rattle.kb_main.specs.declared.given.Options.{Options}
-use Rattle.kb_main.specs.declared.given.OptionsFault.{OptionsFault}
-use Rattle.kb_main.specs.declared.given.OptionsFault.TheVariants.{Line, NoMemory}
+use Rattle.kb_options.specs.declared.given.Options.{Options}
+use Rattle.kb_options.specs.declared.given.OptionsFault.{OptionsFault}
+use Rattle.kb_options.specs.declared.given.OptionsFault.TheVariants.{Line, NoMemory}
 
 -- ---- the command
 
