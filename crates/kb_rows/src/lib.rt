@@ -19,10 +19,6 @@ mod edges;
 #[cfg(test)]
 mod files;
 #[cfg(test)]
-mod json_texts;
-#[cfg(test)]
-mod key_texts;
-#[cfg(test)]
 mod rows;
 #[cfg(test)]
 mod scopes;

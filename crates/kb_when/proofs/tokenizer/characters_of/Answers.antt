@@ -6,5 +6,5 @@ use Rattle.kb_when.proofs.tokenizer.characters_of.Goals as goal
 pub returns : goal.returns
 returns c =
     let end = YieldsList-end (YieldsList-from_chars c.args.text.now c.utf8.text cc) c.loop-character.yielded _
-          c.loop-character.yielded_by _ _ c.in-None.is c.next.ensures.steps in
+    c.loop-character.yielded_by _ _ c.in-None.is c.next.ensures.steps in
     c.loop-character.invariant ∙ (sym (map-id c.loop-character.yielded) ∙ end.0)
