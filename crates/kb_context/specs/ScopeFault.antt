@@ -1,5 +1,5 @@
 -- The numbers and the names of refused calls on scopes, and when one is answered.
-use Rattle.std.specs.Prelude.{◌≡◌, ℕ, List, Option, Some, codes}
+use Rattle.std.specs.Prelude.{◌≡◌, ℕ, List, Option, Some, None, codes}
 use Rattle.kb_context.specs.declared.fault.ScopeFault.{ScopeFault}
 use Rattle.kb_context.specs.declared.fault.ScopeFault.TheVariants.{UnknownScope, BadLayout, TooManyKeys, NoMemory}
 
@@ -21,3 +21,8 @@ IsRefusal fault NoMemory = Unit {0}
 IsRefusal fault UnknownScope = fault ≡ Some UnknownScope
 IsRefusal fault BadLayout = fault ≡ Some BadLayout
 IsRefusal fault TooManyKeys = fault ≡ Some TooManyKeys
+
+-- The same of a call that looks before it takes memory: refused memory is answered only where no fault stands.
+abbrev pub IsRefusalOrMemory : Option ScopeFault → ScopeFault → Type 0
+IsRefusalOrMemory None answer = answer ≡ NoMemory
+IsRefusalOrMemory (Some fault) answer = answer ≡ fault

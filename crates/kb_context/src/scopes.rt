@@ -68,7 +68,7 @@ impl Model for Scopes {
 }
 
 impl Scopes {
-    ghost use Rattle.kb_context.specs.ScopeFault.{IsRefusal};
+    ghost use Rattle.kb_context.specs.ScopeFault.{IsRefusal, IsRefusalOrMemory};
     ghost use Rattle.kb_context.specs.Layout.{layout_fault, scopes_of};
     ghost use Rattle.kb_context.specs.Scopes.{context, place_of, value_in, value_at, set_fault_at, set_fault, with_value_at, with_value, without_value, with_focus, ReachesRoot, ChangesOnly, ChangesOnlyIn};
 
@@ -120,7 +120,7 @@ impl Scopes {
         requires { at < length self.old.scopes }
         ensures allowed { OnOk result (set_fault_at self.old at key.now ≡ None) }
         ensures ok { OnOk result (self.new ≡ with_value_at self.old at key.now value) }
-        ensures err { IfErr result (IsRefusal (set_fault_at self.old at key.now)) }
+        ensures err { IfErr result (IsRefusalOrMemory (set_fault_at self.old at key.now)) }
         ensures unchanged { OnErr result (self.new ≡ self.old) }
         ensures absent { OnErr result (value_at self.old at key.now ≡ None) }
         ensures change { OnOk result (ChangesOnly self.old self.new at key.now (Some value)) }
@@ -140,11 +140,11 @@ impl Scopes {
     ///
     /// `UnknownScope` (20) where no scope has the name. `TooManyKeys` (22) where the key is new in
     /// the scope and `KEY_LIMIT` keys stand in all scopes together. `NoMemory` (5), only where the
-    /// key is new. Both rules are our decision.
+    /// key is new and neither of these comes. The first two rules are our decision.
     pub fn set(&mut self, scope: &str, key: &str, value: ContextValue) -> Result<(), ScopeFault>
         ensures allowed { OnOk result (set_fault self.old scope.now key.now ≡ None) }
         ensures ok { OnOk result (self.new ≡ with_value self.old scope.now key.now value) }
-        ensures err { IfErr result (IsRefusal (set_fault self.old scope.now key.now)) }
+        ensures err { IfErr result (IsRefusalOrMemory (set_fault self.old scope.now key.now)) }
         ensures unchanged { OnErr result (self.new ≡ self.old) }
         ensures absent { OnErr result (value_in self.old scope.now key.now ≡ None) }
         ensures change { OnOk result (ChangesOnlyIn self.old self.new scope.now key.now (Some value)) }
@@ -160,7 +160,7 @@ impl Scopes {
     pub fn set_root(&mut self, key: &str, value: ContextValue) -> Result<(), ScopeFault>
         ensures allowed { OnOk result (set_fault_at self.old 0 key.now ≡ None) }
         ensures ok { OnOk result (self.new ≡ with_value_at self.old 0 key.now value) }
-        ensures err { IfErr result (IsRefusal (set_fault_at self.old 0 key.now)) }
+        ensures err { IfErr result (IsRefusalOrMemory (set_fault_at self.old 0 key.now)) }
         ensures unchanged { OnErr result (self.new ≡ self.old) }
         ensures absent { OnErr result (value_at self.old 0 key.now ≡ None) }
         ensures change { OnOk result (ChangesOnly self.old self.new 0 key.now (Some value)) }

@@ -1,6 +1,6 @@
 //! A core that stays in its place while native commands run on it.
 ghost use Rattle.std.specs.Prelude.{◌≡◌, None, IsTrue, IsSome, OnOk, OnErr, IfOk, IfErr};
-ghost use Rattle.kb_context.specs.ScopeFault.{IsRefusal};
+ghost use Rattle.kb_context.specs.ScopeFault.{IsRefusalOrMemory};
 ghost use Rattle.kb_context.specs.Scopes.{place_of, value_in, set_fault, with_value, without_value, with_focus};
 ghost use Rattle.kb_core.specs.Core.{core_after, with_scopes};
 ghost use Rattle.kb_core.specs.Native.{parameters_of};
@@ -68,7 +68,7 @@ impl HeldCore {
     pub fn set(&mut self, scope: &str, key: &str, value: ContextValue) -> Result<(), ScopeFault>
         ensures allowed { OnOk result (set_fault self.old.scopes scope.now key.now ≡ None) }
         ensures ok { OnOk result (self.new ≡ with_scopes self.old (with_value self.old.scopes scope.now key.now value)) }
-        ensures err { IfErr result (IsRefusal (set_fault self.old.scopes scope.now key.now)) }
+        ensures err { IfErr result (IsRefusalOrMemory (set_fault self.old.scopes scope.now key.now)) }
         ensures unchanged { OnErr result (self.new ≡ self.old) }
         ensures absent { OnErr result (value_in self.old.scopes scope.now key.now ≡ None) }
     {
