@@ -1,4 +1,1 @@
-pub mod Files
-pub mod ReadFaults
-pub mod Report
 pub mod Run

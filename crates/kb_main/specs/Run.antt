@@ -6,8 +6,8 @@ use Rattle.kb_script.specs.declared.fault.ScriptFault.TheVariants as script
 use Rattle.kb_options.specs.declared.given.Options.{Options}
 use Rattle.kb_options.specs.declared.given.OptionsFault.{OptionsFault}
 use Rattle.kb_options.specs.declared.given.OptionsFault.TheVariants.{Line, NoMemory}
-use Rattle.kb_main.specs.declared.outcome.Ending.{Ending}
-use Rattle.kb_main.specs.declared.outcome.Ending.TheVariants.{Ran, CannotRead, Load, Script}
+use Rattle.kb_ending.specs.declared.outcome.Ending.{Ending}
+use Rattle.kb_ending.specs.declared.outcome.Ending.TheVariants.{Ran, CannotRead, Load, Script}
 
 -- there are no words, since one is no text, or for want of memory
 abbrev pub HasNoWords : OptionsFault → Type 0

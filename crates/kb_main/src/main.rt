@@ -1,9 +1,6 @@
 //! `keyrun`: runs a script of events against the user's keybindings, and prints the trace.
 #![tactic(auto)]
 
-mod files;
-mod outcome;
-mod report;
 mod run;
 
 use std::process::ExitCode;

@@ -1,14 +1,15 @@
 //! The program over a runtime.
 ghost use Rattle.std.specs.Prelude.{◌≡◌, ◌⊎◌, IfErr, MatchResult};
 ghost use Rattle.std.specs.Process.{exit_status};
-ghost use Rattle.kb_main.specs.Report.{status_of};
+ghost use Rattle.kb_ending.specs.Report.{status_of};
 ghost use Rattle.kb_main.specs.Run.{HasNoWords, EndsBeforeScript, EndsByScript, IsStatus};
 
-use crate::files::{bytes_named, file_named, lent};
-use crate::outcome::Ending;
-use crate::report::{OUT_OF_MEMORY, STOPPED, ending, line_status, script_ending, warning_line};
 use kb_context::NoMemory;
-use kb_options::{Options, OptionsFault, not_text, options};
+use kb_ending::{
+    Ending, OUT_OF_MEMORY, STOPPED, bytes_named, ending, file_named, lent, script_ending,
+    warning_line,
+};
+use kb_options::{Options, OptionsFault, line_status, not_text, options};
 use kb_rules::Warning;
 use kb_script::{ScriptFault, run_script};
 use kb_session::{Inputs, Session};

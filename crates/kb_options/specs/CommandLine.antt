@@ -1,9 +1,10 @@
 -- The command line of `keyrun`: the command as clap's definitions see it, and what its words mean.
-use Rattle.std.specs.Prelude.{◌≡◌, true, ⊤, List, [], Some, Result, MatchResult, codes}
+use Rattle.std.specs.Prelude.{◌≡◌, ℕ, true, ⊤, List, [], Some, Result, MatchResult, codes}
 use Rattle.clap.specs.Words.{App, Rule, Row, Text, new_app, new_rule, with_rule, first_of, matches_of}
 use Rattle.clap.specs.Words.{IsAmong, fault_of, found_of, rows_of, kind_of, takes}
 use Rattle.clap.specs.declared.error.Error.{Error}
-use Rattle.clap.specs.declared.error.kind.ErrorKind.TheVariants.{OutOfMemory}
+use Rattle.clap.specs.declared.error.kind.ErrorKind.{ErrorKind}
+use Rattle.clap.specs.declared.error.kind.ErrorKind.TheVariants.{OutOfMemory, DisplayHelp, DisplayVersion}
 use Rattle.clap.specs.declared.parser.matches.ArgMatches.{ArgMatches}
 use Rattle.kb_options.specs.declared.given.Options.{Options}
 use Rattle.kb_options.specs.declared.given.OptionsFault.{OptionsFault}
@@ -50,3 +51,9 @@ abbrev pub Reads : List Text → Result Options OptionsFault → Type 0
 Reads words r = MatchResult r
     (λ given. (fault_of keyrun_app words ≡ []) × Gives (matches_of keyrun_app words) given)
     (Refuses words)
+
+-- the exit status of a command line that gives no options
+abbrev pub line_status_of : ErrorKind → ℕ
+line_status_of DisplayHelp = 0
+line_status_of DisplayVersion = 0
+line_status_of _ = 2

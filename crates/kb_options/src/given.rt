@@ -1,5 +1,7 @@
 //! What a command line gives: the options, or why there are none.
 ghost use Rattle.std.specs.Prelude.{◌≡◌};
+ghost use Rattle.clap.specs.Words.{kind_of};
+ghost use Rattle.kb_options.specs.CommandLine.{line_status_of};
 
 use clap::error::ErrorKind;
 use kb_context::{NoMemory, Text};
@@ -49,5 +51,16 @@ impl From<clap::Error> for OptionsFault {
             ErrorKind::OutOfMemory => OptionsFault::NoMemory,
             _ => OptionsFault::Line(error),
         }
+    }
+}
+
+/// The exit status of a command line that gives no options: 0 where it asks for help, and else 2 (our
+/// decision).
+pub fn line_status(error: &clap::Error) -> u8
+    ensures { result ≡ line_status_of (kind_of error.now) }
+{
+    match error.kind() {
+        ErrorKind::DisplayHelp | ErrorKind::DisplayVersion => 0,
+        _ => 2,
     }
 }

@@ -1,6 +1,6 @@
 //! The files that the command line names.
 ghost use Rattle.std.specs.Prelude.{◌≡◌, ◌≤◌, ◌↔◌, IfOk, IfErr, IfSome, IsSome, MatchResult, length, option_map};
-ghost use Rattle.kb_main.specs.Files.{IsWhole, FailsToRead, EndsFor, file_limit};
+ghost use Rattle.kb_ending.specs.Files.{IsWhole, FailsToRead, EndsFor, file_limit};
 
 use crate::outcome::Ending;
 use crate::report::file_ending;
@@ -25,7 +25,7 @@ pub enum ReadFault {
 }
 
 impl From<io::Error> for ReadFault {
-    ghost use Rattle.kb_main.specs.ReadFaults.{Explains};
+    ghost use Rattle.kb_ending.specs.ReadFaults.{Explains};
 
     ghost from_gives = { Explains };
 

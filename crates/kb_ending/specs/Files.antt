@@ -1,10 +1,10 @@
 -- What is read of a file. The bytes that a reader has left are known of a reader over memory, and not of a file.
 use Rattle.std.specs.Prelude.{◌≡◌, ◌⊎◌, ◌≤◌, ◌<◌, ℕ, List, Option, Some, None, IfSome, length, ⊤}
-use Rattle.kb_main.specs.Report.{out_of_memory}
-use Rattle.kb_main.specs.declared.files.ReadFault.{ReadFault}
-use Rattle.kb_main.specs.declared.files.ReadFault.TheVariants.{NoMemory, Failed, TooLong}
-use Rattle.kb_main.specs.declared.outcome.Ending.{Ending}
-use Rattle.kb_main.specs.declared.outcome.Ending.TheVariants.{CannotRead}
+use Rattle.kb_ending.specs.Report.{out_of_memory}
+use Rattle.kb_ending.specs.declared.files.ReadFault.{ReadFault}
+use Rattle.kb_ending.specs.declared.files.ReadFault.TheVariants.{NoMemory, Failed, TooLong}
+use Rattle.kb_ending.specs.declared.outcome.Ending.{Ending}
+use Rattle.kb_ending.specs.declared.outcome.Ending.TheVariants.{CannotRead}
 
 -- the most bytes of a file
 abbrev pub file_limit : ℕ

@@ -20,7 +20,7 @@ pub enum Ending {
 
 /// A program that finds no memory ends as a script that finds none.
 impl From<NoMemory> for Ending {
-    ghost use Rattle.kb_main.specs.Report.{out_of_memory};
+    ghost use Rattle.kb_ending.specs.Report.{out_of_memory};
 
     ghost from_gives = { λ _ end. end ≡ out_of_memory };
 
@@ -30,7 +30,7 @@ impl From<NoMemory> for Ending {
 }
 
 impl From<LoadFault> for Ending {
-    ghost use Rattle.kb_main.specs.declared.outcome.Ending.TheVariants.{Load};
+    ghost use Rattle.kb_ending.specs.declared.outcome.Ending.TheVariants.{Load};
 
     ghost from_gives = { λ fault end. end ≡ Load fault };
 

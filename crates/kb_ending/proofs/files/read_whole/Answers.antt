@@ -1,6 +1,6 @@
 use Rattle.std.proofs.Common.{ap, arith}
-use Rattle.kb_main.proofs.FilesLemmas.{read_within}
-use Rattle.kb_main.proofs.files.read_whole.Goals as goal
+use Rattle.kb_ending.proofs.FilesLemmas.{read_within}
+use Rattle.kb_ending.proofs.files.read_whole.Goals as goal
 
 pub returns-clause-ok : goal.returns-clause-ok
 returns-clause-ok g c =

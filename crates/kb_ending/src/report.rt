@@ -1,14 +1,12 @@
 //! What the program says of its end: the exit status, and the line for standard error.
 //!
-//! The statuses and the lines are our decision: 0 where the script ran, 2 for a command line that
-//! is refused, 3 for a file that is, and 4 for a run that stopped.
+//! The statuses and the lines are our decision: 0 where the script ran, 3 where a file is refused, and
+//! 4 for a run that stopped. A command line that is refused has status 2, which is not told here.
 ghost use Rattle.std.specs.Prelude.{◌≡◌, IfOk, string_bytes};
-ghost use Rattle.clap.specs.Words.{kind_of};
-ghost use Rattle.kb_main.specs.Report as report;
+ghost use Rattle.kb_ending.specs.Report as report;
 
 use crate::files::ReadFault;
 use crate::outcome::Ending;
-use clap::error::ErrorKind;
 use kb_context::{NoMemory, Text};
 use kb_files::FileFault;
 use kb_rules::Warning;
@@ -58,16 +56,6 @@ pub fn ending(alloc: Global, end: &Ending) -> Result<(u8, String), NoMemory>
         Ending::Load(LoadFault::NoMemory) => Ok((STOPPED, String::from_str(alloc, OUT_OF_MEMORY)?)),
         Ending::Load(LoadFault::Refused(file, fault)) => Ok((3, refusal(alloc, *file, *fault)?)),
         Ending::Script(fault) => Ok((STOPPED, String::from_str(alloc, script_line(*fault))?)),
-    }
-}
-
-/// The exit status of a command line that gives no options: 0 where it asks for help, and else 2.
-pub fn line_status(error: &clap::Error) -> u8
-    ensures { result ≡ report.line_status_of (kind_of error.now) }
-{
-    match error.kind() {
-        ErrorKind::DisplayHelp | ErrorKind::DisplayVersion => 0,
-        _ => 2,
     }
 }
 

@@ -3,8 +3,8 @@ use Rattle.std.specs.Prelude.{◌≡◌}
 use Rattle.std.specs.IoError.{error_kind}
 use Rattle.std.specs.declared.io.Error.{Error}
 use Rattle.std.specs.declared.io.ErrorKind.TheVariants.{OutOfMemory}
-use Rattle.kb_main.specs.declared.files.ReadFault.{ReadFault}
-use Rattle.kb_main.specs.declared.files.ReadFault.TheVariants.{NoMemory, Failed, TooLong}
+use Rattle.kb_ending.specs.declared.files.ReadFault.{ReadFault}
+use Rattle.kb_ending.specs.declared.files.ReadFault.TheVariants.{NoMemory, Failed, TooLong}
 
 -- the fault that an error of a read becomes
 abbrev pub Explains : Error → ReadFault → Type 0

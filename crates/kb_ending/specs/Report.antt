@@ -1,7 +1,5 @@
 -- The exit status and the line with which a run ends.
 use Rattle.std.specs.Prelude.{ℕ, Bool, true, false, List, [], ◌++◌, Result, Ok, Err, codes, decimal}
-use Rattle.clap.specs.declared.error.kind.ErrorKind.{ErrorKind}
-use Rattle.clap.specs.declared.error.kind.ErrorKind.TheVariants.{DisplayHelp, DisplayVersion}
 use Rattle.kb_files.specs.Fault.{file_name, file_number}
 use Rattle.kb_session.specs.Fault.{load_file_word}
 use Rattle.kb_files.specs.declared.fault.FileFault.{FileFault}
@@ -10,10 +8,10 @@ use Rattle.kb_session.specs.declared.fault.LoadFault.{LoadFault}
 use Rattle.kb_session.specs.declared.fault.LoadFault.TheVariants as load
 use Rattle.kb_script.specs.declared.fault.ScriptFault.{ScriptFault}
 use Rattle.kb_script.specs.declared.fault.ScriptFault.TheVariants as script
-use Rattle.kb_main.specs.declared.files.ReadFault.{ReadFault}
-use Rattle.kb_main.specs.declared.files.ReadFault.TheVariants as read
-use Rattle.kb_main.specs.declared.outcome.Ending.{Ending}
-use Rattle.kb_main.specs.declared.outcome.Ending.TheVariants.{Ran, CannotRead, Load, Script}
+use Rattle.kb_ending.specs.declared.files.ReadFault.{ReadFault}
+use Rattle.kb_ending.specs.declared.files.ReadFault.TheVariants as read
+use Rattle.kb_ending.specs.declared.outcome.Ending.{Ending}
+use Rattle.kb_ending.specs.declared.outcome.Ending.TheVariants.{Ran, CannotRead, Load, Script}
 
 -- ---- statuses
 
@@ -26,12 +24,6 @@ status_of Ran = 0
 status_of (CannotRead path) = 3
 status_of (Load fault) = load_status fault
 status_of (Script fault) = 4
-
--- of a command line that gives no options
-abbrev pub line_status_of : ErrorKind → ℕ
-line_status_of DisplayHelp = 0
-line_status_of DisplayVersion = 0
-line_status_of _ = 2
 
 -- ---- lines
 
