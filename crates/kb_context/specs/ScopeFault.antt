@@ -24,5 +24,7 @@ IsRefusal fault TooManyKeys = fault ≡ Some TooManyKeys
 
 -- The same of a call that looks before it takes memory: refused memory is answered only where no fault stands.
 abbrev pub IsRefusalOrMemory : Option ScopeFault → ScopeFault → Type 0
-IsRefusalOrMemory None answer = answer ≡ NoMemory
-IsRefusalOrMemory (Some fault) answer = answer ≡ fault
+IsRefusalOrMemory fault NoMemory = fault ≡ None
+IsRefusalOrMemory fault UnknownScope = fault ≡ Some UnknownScope
+IsRefusalOrMemory fault BadLayout = fault ≡ Some BadLayout
+IsRefusalOrMemory fault TooManyKeys = fault ≡ Some TooManyKeys

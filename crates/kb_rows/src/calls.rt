@@ -1,5 +1,5 @@
 //! Each public call of a session once, with memory at hand.
-use kb_context::{ContextValue, Text};
+use kb_context::{ContextValue, NoMemory, Text};
 use kb_files::FileFault;
 use kb_keys::Keystroke;
 use kb_script::ScriptFault;
@@ -64,27 +64,27 @@ fn has_lines(session: &Session, wanted: &[&str]) -> bool {
             .all(|(line, text)| line.as_str() == *text)
 }
 
-fn opened(alloc: Global) -> Option<Session> {
+fn opened(alloc: Global) -> Result<Session, LoadFault> {
     let inputs = Inputs {
         layout: None,
         user: b"",
     };
-    Session::load(alloc, inputs).ok()
+    Session::load(alloc, inputs)
 }
 
-/// A key of a scope that is set, or `None` without memory.
-fn set_event(alloc: Global, scope: &str, key: &str) -> Option<Event> {
-    let scope = Text::from_str(alloc, scope).ok()?;
-    let key = Text::from_str(alloc, key).ok()?;
-    Some(Event::SetKey(scope, key, ContextValue::Truth(true)))
+/// A key of a scope that is set.
+fn set_event(alloc: Global, scope: &str, key: &str) -> Result<Event, NoMemory> {
+    let scope = Text::from_str(alloc, scope)?;
+    let key = Text::from_str(alloc, key)?;
+    Ok(Event::SetKey(scope, key, ContextValue::Truth(true)))
 }
 
 #[test]
 fn a_session_sets_keys(rt: HostRuntime) -> Result<(), Fail> {
-    let mut session = opened(rt.alloc()).ok_or("no session")?;
-    let set = set_event(rt.alloc(), "window", "ok").ok_or("no event")?;
+    let mut session = opened(rt.alloc())?;
+    let set = set_event(rt.alloc(), "window", "ok")?;
     assert_eq!(rt; session.handle(set), Ok(Answer::Did));
-    let set = set_event(rt.alloc(), "nowhere", "ok").ok_or("no event")?;
+    let set = set_event(rt.alloc(), "nowhere", "ok")?;
     let refused = Ok(Answer::Refused(Refusal::UnknownScope));
     assert_eq!(rt; session.handle(set), refused);
     let wanted = ["set window ok", "refused 20 UnknownScope"];
@@ -94,7 +94,7 @@ fn a_session_sets_keys(rt: HostRuntime) -> Result<(), Fail> {
 
 #[test]
 fn a_session_that_is_stopped_answers_so(rt: HostRuntime) -> Result<(), Fail> {
-    let mut session = opened(rt.alloc()).ok_or("no session")?;
+    let mut session = opened(rt.alloc())?;
     assert!(rt; !session.is_stopped());
     session.stop();
     assert!(rt; session.is_stopped());
@@ -105,13 +105,9 @@ fn a_session_that_is_stopped_answers_so(rt: HostRuntime) -> Result<(), Fail> {
     Ok(())
 }
 
-fn key_event(text: &str) -> Option<Event> {
-    Some(Event::Key(Keystroke::parse(text).ok()?))
-}
-
 #[test]
 fn a_session_reads_rules_anew(rt: HostRuntime) -> Result<(), Fail> {
-    let mut session = opened(rt.alloc()).ok_or("no session")?;
+    let mut session = opened(rt.alloc())?;
     let user = b"[{\"key\":\"ctrl+a\",\"command\":\"nope\"}]";
     assert_eq!(rt; session.reload_user(user), Ok(Answer::Did));
     let refused = Answer::Refused(Refusal::File(FileFault::WrongShape));
@@ -122,17 +118,17 @@ fn a_session_reads_rules_anew(rt: HostRuntime) -> Result<(), Fail> {
 }
 
 /// Two events: a line that can't be read, and a press.
-fn two_events(alloc: Global) -> Option<Vec<Event>> {
+fn two_events(alloc: Global, key: Keystroke) -> Result<Vec<Event>, NoMemory> {
     let mut events = Vec::new(alloc);
-    events.push(Event::Unread(7)).ok()?;
-    events.push(key_event("ctrl+a")?).ok()?;
-    Some(events)
+    events.push(Event::Unread(7)).map_err(NoMemory::from)?;
+    events.push(Event::Key(key)).map_err(NoMemory::from)?;
+    Ok(events)
 }
 
 #[test]
 fn a_session_runs(rt: HostRuntime) -> Result<(), Fail> {
-    let mut session = opened(rt.alloc()).ok_or("no session")?;
-    let events = two_events(rt.alloc()).ok_or("no events")?;
+    let mut session = opened(rt.alloc())?;
+    let events = two_events(rt.alloc(), Keystroke::parse("ctrl+a")?)?;
     assert_eq!(rt; session.run(events), Ok(()));
     let wanted = ["unread line 7", "key ctrl+a: unbound"];
     assert!(rt; has_lines(&session, &wanted));

@@ -40,11 +40,14 @@ fn loaded(alloc: Global, user: &[u8]) -> Result<Session, LoadFault> {
 }
 
 /// Whether a text is a warning's number and place.
-fn says(warning: &Warning, text: &str) -> Option<bool> {
-    let (number, place) = text.split_once(' ')?;
-    let number = number.parse::<u32>().ok()?;
-    let place = place.parse::<usize>().ok()?;
-    Some(warning.number == number && warning.place == place)
+fn says(warning: &Warning, text: &str) -> bool {
+    match text.split_once(' ') {
+        Some((number, place)) => {
+            number.parse::<u32>() == Ok(warning.number)
+                && place.parse::<usize>() == Ok(warning.place)
+        }
+        None => false,
+    }
 }
 
 fn has_warnings(warnings: &[Warning], wanted: &str) -> bool {
@@ -54,7 +57,7 @@ fn has_warnings(warnings: &[Warning], wanted: &str) -> bool {
     let mut left = warnings.iter();
     for text in wanted.split(',') {
         match left.next() {
-            Some(warning) if says(warning, text) == Some(true) => {}
+            Some(warning) if says(warning, text) => {}
             _ => return false,
         }
     }
