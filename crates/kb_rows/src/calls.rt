@@ -79,30 +79,36 @@ fn set_event(alloc: Global, scope: &str, key: &str) -> Result<Event, NoMemory> {
     Ok(Event::SetKey(scope, key, ContextValue::Truth(true)))
 }
 
-#[test]
-fn a_session_sets_keys(rt: HostRuntime) -> Result<(), Fail> {
-    let mut session = opened(rt.alloc())?;
-    let set = set_event(rt.alloc(), "window", "ok")?;
-    assert_eq!(rt; session.handle(set), Ok(Answer::Did));
-    let set = set_event(rt.alloc(), "nowhere", "ok")?;
-    let refused = Ok(Answer::Refused(Refusal::UnknownScope));
-    assert_eq!(rt; session.handle(set), refused);
+/// Whether a session sets a key, and refuses one in a scope that there isn't.
+fn sets_keys(alloc: Global) -> Option<bool> {
+    let mut session = opened(alloc).ok()?;
+    let set = set_event(alloc, "window", "ok").ok()?;
+    let is_set = session.handle(set) == Ok(Answer::Did);
+    let set = set_event(alloc, "nowhere", "ok").ok()?;
+    let is_refused = session.handle(set) == Ok(Answer::Refused(Refusal::UnknownScope));
     let wanted = ["set window ok", "refused 20 UnknownScope"];
-    assert!(rt; has_lines(&session, &wanted));
-    Ok(())
+    Some(is_set && is_refused && has_lines(&session, &wanted))
 }
 
 #[test]
-fn a_session_that_is_stopped_answers_so(rt: HostRuntime) -> Result<(), Fail> {
-    let mut session = opened(rt.alloc())?;
-    assert!(rt; !session.is_stopped());
+fn a_session_sets_keys(rt: HostRuntime) {
+    assert_eq!(rt; sets_keys(rt.alloc()), Some(true));
+}
+
+/// Whether a session says that it is stopped once it is, and answers so.
+fn stops(alloc: Global) -> Option<bool> {
+    let mut session = opened(alloc).ok()?;
+    if session.is_stopped() {
+        return Some(false);
+    }
     session.stop();
-    assert!(rt; session.is_stopped());
-    assert_eq!(rt;
-        session.handle(Event::Unread(1)),
-        Err(SessionFault::Stopped)
-    );
-    Ok(())
+    let answers_so = session.handle(Event::Unread(1)) == Err(SessionFault::Stopped);
+    Some(session.is_stopped() && answers_so)
+}
+
+#[test]
+fn a_session_that_is_stopped_answers_so(rt: HostRuntime) {
+    assert_eq!(rt; stops(rt.alloc()), Some(true));
 }
 
 #[test]
@@ -125,12 +131,16 @@ fn two_events(alloc: Global, key: Keystroke) -> Result<Vec<Event>, NoMemory> {
     Ok(events)
 }
 
-#[test]
-fn a_session_runs(rt: HostRuntime) -> Result<(), Fail> {
-    let mut session = opened(rt.alloc())?;
-    let events = two_events(rt.alloc(), Keystroke::parse("ctrl+a")?)?;
-    assert_eq!(rt; session.run(events), Ok(()));
+/// Whether a session runs both.
+fn runs(alloc: Global) -> Option<bool> {
+    let mut session = opened(alloc).ok()?;
+    let events = two_events(alloc, Keystroke::parse("ctrl+a").ok()?).ok()?;
+    let has_run = session.run(events).is_ok();
     let wanted = ["unread line 7", "key ctrl+a: unbound"];
-    assert!(rt; has_lines(&session, &wanted));
-    Ok(())
+    Some(has_run && has_lines(&session, &wanted))
+}
+
+#[test]
+fn a_session_runs(rt: HostRuntime) {
+    assert_eq!(rt; runs(rt.alloc()), Some(true));
 }

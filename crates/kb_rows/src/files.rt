@@ -2,7 +2,6 @@
 use kb_rules::Warning;
 use kb_session::{Inputs, LoadFault, Session};
 use std::alloc::Global;
-use std::test::Fail;
 
 /// Files and their warnings. A row begins with `§` and its name; behind each `¶` stand the file, and the
 /// number and the place of each warning.
@@ -117,13 +116,19 @@ fn what_is_no_list_is_refused(rt: HostRuntime) {
     assert!(rt; refuses(rt.alloc(), b"\xff", 1, "NotUtf8"));
 }
 
+/// Whether a session has the warnings of its rules, through a reload that is refused and one that is
+/// taken.
+fn warns_as_it_stands(alloc: Global) -> Option<bool> {
+    let mut session = loaded(alloc, b"[1]").ok()?;
+    let has_first = has_warnings(session.warnings(), "41 0");
+    session.reload_user(b"{}").ok()?;
+    let keeps_them = has_warnings(session.warnings(), "41 0");
+    session.reload_user(b"[{},[]]").ok()?;
+    let has_others = has_warnings(session.warnings(), "40 0,41 1");
+    Some(has_first && keeps_them && has_others)
+}
+
 #[test]
-fn warnings_are_of_the_files_as_they_stand(rt: HostRuntime) -> Result<(), Fail> {
-    let mut session = loaded(rt.alloc(), b"[1]")?;
-    assert!(rt; has_warnings(session.warnings(), "41 0"));
-    assert!(rt; session.reload_user(b"{}").is_ok());
-    assert!(rt; has_warnings(session.warnings(), "41 0"));
-    assert!(rt; session.reload_user(b"[{},[]]").is_ok());
-    assert!(rt; has_warnings(session.warnings(), "40 0,41 1"));
-    Ok(())
+fn warnings_are_of_the_files_as_they_stand(rt: HostRuntime) {
+    assert_eq!(rt; warns_as_it_stands(rt.alloc()), Some(true));
 }
