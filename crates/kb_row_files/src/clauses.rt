@@ -62,12 +62,14 @@ fn add_fault_of(alloc: Global, text: &str, said: &mut String) -> Result<(), NoMe
 /// The number of a text's fault, and those of the text with each of some tokens behind it.
 pub fn behind(alloc: Global, tokens: &str, text: &str) -> Result<String, NoMemory> {
     let mut said = String::new(alloc);
+    let text = format!(in alloc; "{text} ")?;
+    let text = text.as_str();
     add_fault_of(alloc, text, &mut said)?;
     said.push(':')?;
     for token in tokens.split(' ') {
         said.push(' ')?;
-        let text = format!(in alloc; "{text} {token} ")?;
-        add_fault_of(alloc, text.as_str(), &mut said)?;
+        let longer = format!(in alloc; "{text}{token} ")?;
+        add_fault_of(alloc, longer.as_str(), &mut said)?;
     }
     Ok(said)
 }

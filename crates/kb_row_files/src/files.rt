@@ -1,30 +1,17 @@
 //! The files of rows.
 use crate::teller::retold;
 use std::alloc::Global;
-use std::rt::{Env, Files};
-use std::{env, fs, io};
+use std::rt::Files;
+use std::{fs, io};
 
 /// The files in the folder that the program runs in, in the order of their names.
-fn names_here(rt: &HostRuntime) -> io::Result<Vec<String>> {
+fn names(rt: &HostRuntime) -> io::Result<Vec<String>> {
     let mut names = Vec::new(rt.alloc());
     for entry in fs::read_dir(rt, ".")? {
         names.push(String::from_str(rt.alloc(), entry?.file_name())?)?;
     }
     names.sort_unstable();
     Ok(names)
-}
-
-/// The files that the command line names, and where it names none all that there are.
-fn names(rt: &HostRuntime) -> io::Result<Vec<String>> {
-    let mut names = Vec::new(rt.alloc());
-    for word in env::args(rt)?.skip(1) {
-        names.push(word)?;
-    }
-    if names.is_empty() {
-        names_here(rt)
-    } else {
-        Ok(names)
-    }
 }
 
 /// That a file holds, or the file as it has to be.

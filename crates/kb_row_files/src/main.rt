@@ -10,6 +10,7 @@ mod scopes;
 mod sessions;
 mod streams;
 mod teller;
+mod transcripts;
 
 use std::process::ExitCode;
 

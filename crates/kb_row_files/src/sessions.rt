@@ -7,8 +7,10 @@ use crate::escapes::{bytes_of, shown};
 use crate::streams::{Broken, Narrow};
 use kb_context::NoMemory;
 use kb_ending::{Ending, ending, lent, warning_line};
+use kb_keys::Keystroke;
 use kb_script::run_script;
-use kb_session::{Inputs, Session};
+use kb_session::{Inputs, Session, SessionFault};
+use kb_trace::Event;
 use std::alloc::Global;
 use std::io::{Read, Write};
 use std::str;
@@ -131,9 +133,58 @@ fn run_stream(
     run_written(alloc, session, script.as_slice(), Narrow { taken, room, fails }, told)
 }
 
+// A press, or an unread line where the word is no key.
+fn event_of(word: &str) -> Event {
+    match Keystroke::parse(word) {
+        Ok(stroke) => Event::Key(stroke),
+        Err(_) => Event::Unread(0),
+    }
+}
+
+fn events_of(alloc: Global, words: &str) -> Result<Vec<Event>, NoMemory> {
+    let mut events = Vec::new(alloc);
+    for word in words.split(' ') {
+        events.push(event_of(word)).map_err(NoMemory::from)?;
+    }
+    Ok(events)
+}
+
+fn add_fault(fault: SessionFault, told: &mut String) -> Result<(), NoMemory> {
+    let number = fault.number();
+    let name = fault.name();
+    write!(told, "> {number} {name}\n")
+}
+
+fn handle(session: &mut Session, word: &str, told: &mut String) -> Result<(), NoMemory> {
+    match session.handle(event_of(word)) {
+        Ok(_) => Ok(()),
+        Err(fault) => add_fault(fault, told),
+    }
+}
+
+fn run_all(
+    alloc: Global,
+    session: &mut Session,
+    words: &str,
+    told: &mut String,
+) -> Result<(), NoMemory> {
+    match session.run(events_of(alloc, words)?) {
+        Ok(()) => Ok(()),
+        Err(fault) => add_fault(fault, told),
+    }
+}
+
+fn stop(session: &mut Session, told: &mut String) -> Result<(), NoMemory> {
+    let was_stopped = session.is_stopped();
+    session.stop();
+    let is_stopped = session.is_stopped();
+    write!(told, "> {was_stopped} {is_stopped}\n")
+}
+
 // `warnings` are those of the rules as they stand, `trace` is all that was written so far. `read N SCRIPT`
 // runs a script whose reader fails behind so many bytes, `write N SCRIPT` one whose writer does, and
-// `fill N SCRIPT` one whose writer then takes no more.
+// `fill N SCRIPT` one whose writer then takes no more. `handle KEY` and `run KEY ..` are calls with
+// presses, and `stop` stops the session, and says whether it was stopped, and is.
 fn ask(
     alloc: Global,
     session: &mut Session,
@@ -144,18 +195,18 @@ fn ask(
     match word {
         "warnings" => add_warnings(alloc, session, told),
         "trace" => add_trace(session, told),
+        "handle" => handle(session, rest, told),
+        "run" => run_all(alloc, session, rest, told),
+        "stop" => stop(session, told),
         "read" | "write" | "fill" => run_stream(alloc, session, word, rest, told),
         _ => add_answer("no question", told),
     }
 }
 
-// The rest of a line of a file.
+// What a line says of a file.
 fn text_of<'a>(line: &'a str, file: &str) -> Option<&'a str> {
-    match line.strip_prefix(file) {
-        Some("") => Some(""),
-        Some(rest) => rest.strip_prefix(' '),
-        None => None,
-    }
+    let (word, text) = line.split_once(' ').unwrap_or((line, ""));
+    if word == file { Some(text) } else { None }
 }
 
 fn is_of_file(line: &str) -> bool {

@@ -5,7 +5,7 @@
 //! ` => ` and its answer; a line that begins with `#` is for the reader too. Of a block of kind
 //! `session` see there.
 use crate::escapes::{bytes_of, shown};
-use crate::{answers, clauses, natives, scopes, sessions};
+use crate::{answers, clauses, natives, scopes, sessions, transcripts};
 use kb_context::{NoMemory, Scopes};
 use std::alloc::Global;
 use std::str;
@@ -39,6 +39,7 @@ fn answer_of_text(
         "context" => answers::context(alloc, text),
         "native" => natives::declared(alloc, text),
         "arguments" => natives::arguments(alloc, text),
+        "transcript" => transcripts::text(alloc, text),
         "tree" => clauses::same(alloc, text),
         _ => match scopes {
             Some(scopes) => answer_over(alloc, kind, scopes, text),

@@ -1,6 +1,6 @@
 //! What crosses crates: the transcript of a script over memory is the model's text, and the rows of
-//! the definitions, which `proofs/ModelRows.antt` evaluates. Rows of the engine are text files
-//! (`rows/README.md`).
+//! the definitions, which `proofs/ModelRows.antt` evaluates. Rows of the engine, and of transcripts too,
+//! are text files (`rows/README.md`).
 #![tactic(auto)]
 
 ghost use Rattle.std.specs.Prelude.{◌≡◌, Ok, IfOk, IfErr, option_map};
@@ -12,9 +12,6 @@ ghost use Rattle.kb_session.specs.Session.{Seen, loaded};
 use kb_script::{ScriptFault, run_script};
 use kb_session::{Inputs, LoadFault, Session};
 use std::alloc::Global;
-
-#[cfg(test)]
-mod calls;
 
 /// Why there is no transcript.
 #[derive(Clone, Copy, Debug, PartialEq, Eq)]
