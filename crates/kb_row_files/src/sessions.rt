@@ -108,7 +108,11 @@ fn run_written(
     let mut writer = writer;
     let mut reader = script;
     let end = run(alloc, session, &mut reader, &mut writer);
-    let Narrow { taken, room: _, fails: _ } = writer;
+    let Narrow {
+        taken,
+        room: _,
+        fails: _,
+    } = writer;
     add_taken(alloc, taken.as_slice(), told)?;
     add_ending(alloc, &end, told)
 }
@@ -130,7 +134,13 @@ fn run_stream(
     }
     let taken = Vec::new(alloc);
     let fails = word == "write";
-    run_written(alloc, session, script.as_slice(), Narrow { taken, room, fails }, told)
+    run_written(
+        alloc,
+        session,
+        script.as_slice(),
+        Narrow { taken, room, fails },
+        told,
+    )
 }
 
 // A press, or an unread line where the word is no key.
@@ -288,5 +298,11 @@ pub fn tell(alloc: Global, lines: &str, told: &mut String) -> Result<(), NoMemor
     add_file_lines(lines, told)?;
     let layout = file_in(alloc, lines, "layout")?;
     let user = file_in(alloc, lines, "user")?;
-    tell_loaded(alloc, lent(&layout), lent(&user).unwrap_or(&[]), lines, told)
+    tell_loaded(
+        alloc,
+        lent(&layout),
+        lent(&user).unwrap_or(&[]),
+        lines,
+        told,
+    )
 }
