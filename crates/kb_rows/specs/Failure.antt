@@ -1,5 +1,5 @@
 -- Why there is no transcript of a script.
-use Rattle.std.specs.Prelude.{◌≡◌, ℕ, List, Option, ◌<◌, length, ⊤}
+use Rattle.std.specs.Prelude.{ℕ, List, Option, ◌<◌, length, ⊤}
 use Rattle.kb_rows.specs.declared.Failure.{Failure}
 use Rattle.kb_rows.specs.declared.Failure.TheVariants as failure
 use Rattle.kb_script.specs.declared.fault.ScriptFault.{ScriptFault}

@@ -1,5 +1,6 @@
-//! Tests that cross crates: rows of files, scripts and the traces that they must write, run over
-//! memory.
+//! What crosses crates: the transcript of a script over memory is the model's text, and the rows of
+//! the definitions, which `proofs/ModelRows.antt` evaluates. Rows of the engine, and of transcripts too,
+//! are text files (`rows/README.md`).
 #![tactic(auto)]
 
 ghost use Rattle.std.specs.Prelude.{◌≡◌, Ok, IfOk, IfErr, option_map};
@@ -11,21 +12,6 @@ ghost use Rattle.kb_session.specs.Session.{Seen, loaded};
 use kb_script::{ScriptFault, run_script};
 use kb_session::{Inputs, LoadFault, Session};
 use std::alloc::Global;
-
-#[cfg(test)]
-mod calls;
-#[cfg(test)]
-mod edges;
-#[cfg(test)]
-mod files;
-#[cfg(test)]
-mod rows;
-#[cfg(test)]
-mod scopes;
-#[cfg(test)]
-mod streams;
-#[cfg(test)]
-mod table;
 
 /// Why there is no transcript.
 #[derive(Clone, Copy, Debug, PartialEq, Eq)]

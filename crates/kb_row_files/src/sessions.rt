@@ -1,0 +1,308 @@
+//! Whole sessions. A session is called here alone.
+//!
+//! Its lines are those of the files, `layout TEXT` and `user TEXT` (more than one of a file are parted
+//! by line feeds), then those of the script, and below each what it writes, behind `> `. A line that
+//! begins with `? ` is none of the script's: it asks something else of the session.
+use crate::escapes::{bytes_of, shown};
+use crate::streams::{Broken, Narrow};
+use kb_context::NoMemory;
+use kb_ending::{Ending, ending, lent, warning_line};
+use kb_keys::Keystroke;
+use kb_script::run_script;
+use kb_session::{Inputs, Session, SessionFault};
+use kb_trace::Event;
+use std::alloc::Global;
+use std::io::{Read, Write};
+use std::str;
+
+fn add_answer(line: &str, told: &mut String) -> Result<(), NoMemory> {
+    write!(told, "> {line}\n")
+}
+
+// Whole lines, each as an answer. What is behind the last line feed shows that it has none.
+fn add_lines(lines: &str, told: &mut String) -> Result<(), NoMemory> {
+    for line in lines.split_inclusive('\n') {
+        match line.strip_suffix('\n') {
+            Some(line) => add_answer(line, told)?,
+            None => write!(told, "> {line}⟨no line feed⟩\n")?,
+        }
+    }
+    Ok(())
+}
+
+fn add_warnings(alloc: Global, session: &Session, told: &mut String) -> Result<(), NoMemory> {
+    for warning in session.warnings() {
+        let line = warning_line(alloc, warning)?;
+        add_answer(line.as_str(), told)?;
+    }
+    Ok(())
+}
+
+fn add_trace(session: &Session, told: &mut String) -> Result<(), NoMemory> {
+    for line in session.trace() {
+        add_answer(line.as_str(), told)?;
+    }
+    Ok(())
+}
+
+fn add_ending(alloc: Global, end: &Ending, told: &mut String) -> Result<(), NoMemory> {
+    let (_, line) = ending(alloc, end)?;
+    if line.is_empty() {
+        Ok(())
+    } else {
+        add_answer(line.as_str(), told)
+    }
+}
+
+fn run<R: Read, W: Write>(
+    alloc: Global,
+    session: &mut Session,
+    reader: &mut R,
+    writer: &mut W,
+) -> Ending {
+    match run_script(alloc, reader, writer, session) {
+        Ok(()) => Ending::Ran,
+        Err(fault) => Ending::Script(fault),
+    }
+}
+
+fn run_line(
+    alloc: Global,
+    session: &mut Session,
+    script: &[u8],
+    told: &mut String,
+) -> Result<(), NoMemory> {
+    let mut out = Vec::new(alloc);
+    let mut reader = script;
+    let end = run(alloc, session, &mut reader, &mut out);
+    add_lines(str::from_utf8(out.as_slice()).unwrap_or("no text"), told)?;
+    add_ending(alloc, &end, told)
+}
+
+// What a writer took, in one line.
+fn add_taken(alloc: Global, taken: &[u8], told: &mut String) -> Result<(), NoMemory> {
+    let taken = shown(alloc, str::from_utf8(taken).unwrap_or("no text"))?;
+    add_answer(taken.as_str(), told)
+}
+
+fn run_read(
+    alloc: Global,
+    session: &mut Session,
+    left: &[u8],
+    told: &mut String,
+) -> Result<(), NoMemory> {
+    let mut out = Vec::new(alloc);
+    let mut reader = Broken { left };
+    let end = run(alloc, session, &mut reader, &mut out);
+    add_taken(alloc, out.as_slice(), told)?;
+    add_ending(alloc, &end, told)
+}
+
+fn run_written(
+    alloc: Global,
+    session: &mut Session,
+    script: &[u8],
+    writer: Narrow,
+    told: &mut String,
+) -> Result<(), NoMemory> {
+    let mut writer = writer;
+    let mut reader = script;
+    let end = run(alloc, session, &mut reader, &mut writer);
+    let Narrow {
+        taken,
+        room: _,
+        fails: _,
+    } = writer;
+    add_taken(alloc, taken.as_slice(), told)?;
+    add_ending(alloc, &end, told)
+}
+
+// Runs a script whose reader or writer fails after so many bytes.
+fn run_stream(
+    alloc: Global,
+    session: &mut Session,
+    word: &str,
+    rest: &str,
+    told: &mut String,
+) -> Result<(), NoMemory> {
+    let (count, script) = rest.split_once(' ').unwrap_or((rest, ""));
+    let room = count.parse::<usize>().unwrap_or(0);
+    let script = bytes_of(alloc, &[], script)?;
+    if word == "read" {
+        let left = &script.as_slice()[..room.min(script.len())];
+        return run_read(alloc, session, left, told);
+    }
+    let taken = Vec::new(alloc);
+    let fails = word == "write";
+    run_written(
+        alloc,
+        session,
+        script.as_slice(),
+        Narrow { taken, room, fails },
+        told,
+    )
+}
+
+// A press, or an unread line where the word is no key.
+fn event_of(word: &str) -> Event {
+    match Keystroke::parse(word) {
+        Ok(stroke) => Event::Key(stroke),
+        Err(_) => Event::Unread(0),
+    }
+}
+
+fn events_of(alloc: Global, words: &str) -> Result<Vec<Event>, NoMemory> {
+    let mut events = Vec::new(alloc);
+    for word in words.split(' ') {
+        events.push(event_of(word)).map_err(NoMemory::from)?;
+    }
+    Ok(events)
+}
+
+fn add_fault(fault: SessionFault, told: &mut String) -> Result<(), NoMemory> {
+    let number = fault.number();
+    let name = fault.name();
+    write!(told, "> {number} {name}\n")
+}
+
+fn handle(session: &mut Session, word: &str, told: &mut String) -> Result<(), NoMemory> {
+    match session.handle(event_of(word)) {
+        Ok(_) => Ok(()),
+        Err(fault) => add_fault(fault, told),
+    }
+}
+
+fn run_all(
+    alloc: Global,
+    session: &mut Session,
+    words: &str,
+    told: &mut String,
+) -> Result<(), NoMemory> {
+    match session.run(events_of(alloc, words)?) {
+        Ok(()) => Ok(()),
+        Err(fault) => add_fault(fault, told),
+    }
+}
+
+fn stop(session: &mut Session, told: &mut String) -> Result<(), NoMemory> {
+    let was_stopped = session.is_stopped();
+    session.stop();
+    let is_stopped = session.is_stopped();
+    write!(told, "> {was_stopped} {is_stopped}\n")
+}
+
+// `warnings` are those of the rules as they stand, `trace` is all that was written so far. `read N SCRIPT`
+// runs a script whose reader fails behind so many bytes, `write N SCRIPT` one whose writer does, and
+// `fill N SCRIPT` one whose writer then takes no more. `handle KEY` and `run KEY ..` are calls with
+// presses, and `stop` stops the session, and says whether it was stopped, and is.
+fn ask(
+    alloc: Global,
+    session: &mut Session,
+    question: &str,
+    told: &mut String,
+) -> Result<(), NoMemory> {
+    let (word, rest) = question.split_once(' ').unwrap_or((question, ""));
+    match word {
+        "warnings" => add_warnings(alloc, session, told),
+        "trace" => add_trace(session, told),
+        "handle" => handle(session, rest, told),
+        "run" => run_all(alloc, session, rest, told),
+        "stop" => stop(session, told),
+        "read" | "write" | "fill" => run_stream(alloc, session, word, rest, told),
+        _ => add_answer("no question", told),
+    }
+}
+
+// What a line says of a file.
+fn text_of<'a>(line: &'a str, file: &str) -> Option<&'a str> {
+    let (word, text) = line.split_once(' ').unwrap_or((line, ""));
+    if word == file { Some(text) } else { None }
+}
+
+fn is_of_file(line: &str) -> bool {
+    text_of(line, "layout").is_some() || text_of(line, "user").is_some()
+}
+
+fn add_file_lines(lines: &str, told: &mut String) -> Result<(), NoMemory> {
+    for line in lines.lines() {
+        if is_of_file(line) {
+            write!(told, "{line}\n")?;
+        }
+    }
+    Ok(())
+}
+
+// Plays the lines of a script one by one. Before each stand as many blank ones as were run, so that it
+// has its number.
+fn play(
+    alloc: Global,
+    session: &mut Session,
+    lines: &str,
+    told: &mut String,
+) -> Result<(), NoMemory> {
+    let mut feeds = Vec::new(alloc);
+    for line in lines.lines() {
+        if is_of_file(line) || line.starts_with("> ") {
+            continue;
+        }
+        write!(told, "{line}\n")?;
+        if let Some(question) = line.strip_prefix("? ") {
+            ask(alloc, session, question, told)?;
+        } else {
+            let script = bytes_of(alloc, feeds.as_slice(), line)?;
+            run_line(alloc, session, script.as_slice(), told)?;
+            feeds.push(b'\n').map_err(NoMemory::from)?;
+        }
+    }
+    Ok(())
+}
+
+// The text of a file, if it has a line.
+fn file_in(alloc: Global, lines: &str, file: &str) -> Result<Option<Vec<u8>>, NoMemory> {
+    let mut text = String::new(alloc);
+    let mut is_there = false;
+    for line in lines.lines() {
+        if let Some(more) = text_of(line, file) {
+            if is_there {
+                text.push('\n')?;
+            }
+            text.push_str(more)?;
+            is_there = true;
+        }
+    }
+    if is_there {
+        Ok(Some(bytes_of(alloc, &[], text.as_str())?))
+    } else {
+        Ok(None)
+    }
+}
+
+fn tell_loaded(
+    alloc: Global,
+    layout: Option<&[u8]>,
+    user: &[u8],
+    lines: &str,
+    told: &mut String,
+) -> Result<(), NoMemory> {
+    match Session::load(alloc, Inputs { layout, user }) {
+        Ok(mut session) => {
+            add_warnings(alloc, &session, told)?;
+            play(alloc, &mut session, lines, told)
+        }
+        Err(fault) => add_ending(alloc, &Ending::Load(fault), told),
+    }
+}
+
+/// Tells a session. The load is answered below the lines of the files.
+pub fn tell(alloc: Global, lines: &str, told: &mut String) -> Result<(), NoMemory> {
+    add_file_lines(lines, told)?;
+    let layout = file_in(alloc, lines, "layout")?;
+    let user = file_in(alloc, lines, "user")?;
+    tell_loaded(
+        alloc,
+        lent(&layout),
+        lent(&user).unwrap_or(&[]),
+        lines,
+        told,
+    )
+}
