@@ -1,5 +1,5 @@
 -- The rule that an element of a rule file is, or its first fault.
-use Rattle.std.specs.Prelude.{ℕ, ◌==◌, ◌||◌, not, Bool, List, [], Option, None, Some, Result, Ok, Err, is_some, if◌then◌else◌, codes, nat_eq}
+use Rattle.std.specs.Prelude.{ℕ, not, Bool, List, [], Option, None, Some, Result, Ok, Err, is_some, if◌then◌else◌, codes, nat_eq}
 use Rattle.std.specs.List.{list_all, starts_with}
 use Rattle.kb_context.specs.Reading.{◌>>=◌, ◌>>◌, or_fault, or_default, unless, guard}
 use Rattle.kb_keys.specs.declared.key_fault.KeyFault.{KeyFault}
@@ -7,8 +7,8 @@ use Rattle.kb_keys.specs.declared.keystroke.Keystroke.{Keystroke}
 use Rattle.kb_keys.specs.Chord.{chord_of}
 use Rattle.kb_when.specs.declared.fault.WhenFault.{WhenFault}
 use Rattle.kb_when.specs.Clause.{Clause}
-use Rattle.kb_when.specs.ClauseText.{fault_of}
-use Rattle.kb_when.specs.Builder.{clause_in}
+use Rattle.kb_when.specs.Characters.{is_blank}
+use Rattle.kb_when.specs.ClauseText.{clause_in}
 use Rattle.serde_json.specs.Data.{Data}
 use Rattle.serde_json.specs.Find.{get, as_object, as_str}
 use Rattle.kb_rules.specs.declared.entry_fault.EntryFault.{EntryFault}
@@ -32,27 +32,19 @@ optional_text name d = or_default [] text_of (get name d)
 abbrev pub is_removal : List ℕ → Bool
 is_removal command = starts_with nat_eq command (codes "-")
 
--- space, tab, CR or LF
-abbrev pub is_blank_byte : ℕ → Bool
-is_blank_byte byte = byte == 32 || byte == 9 || byte == 13 || byte == 10
-
--- the clause is empty, or white space alone
-abbrev pub is_blank : List ℕ → Bool
-is_blank clause = list_all is_blank_byte clause
-
 -- a fault of the key text is one of the element
 abbrev pub of_key : Result (List Keystroke) KeyFault → Result (List Keystroke) EntryFault
 of_key (Ok chord) = Ok chord
 of_key (Err fault) = Err (Key fault)
 
--- a text with a fault isn't read, and one without has its clause
-abbrev pub clause_read : Option WhenFault → Option Clause → Result (Option Clause) EntryFault
-clause_read (Some fault) clause = Err (When fault)
-clause_read None clause = Ok clause
+-- a fault of the clause is one of the element
+abbrev pub of_clause : Result Clause WhenFault → Result (Option Clause) EntryFault
+of_clause (Ok clause) = Ok (Some clause)
+of_clause (Err fault) = Err (When fault)
 
--- a blank text is no clause
+-- a text that is empty, or white space alone, is no clause
 unfoldable pub when_of : List ℕ → Result (Option Clause) EntryFault
-when_of text = if is_blank text then Ok None else clause_read (fault_of text) (clause_in text)
+when_of text = if list_all is_blank text then Ok None else of_clause (clause_in text)
 
 -- the arguments, if there are any: each number is whole within i64
 abbrev pub args_of : Data → Result (Option Data) EntryFault

@@ -2,12 +2,12 @@
 ghost use Rattle.std.specs.Prelude.{◌≡◌, Some, option_map, is_some, not, IfOk};
 ghost use Rattle.std.specs.List.{list_all};
 ghost use Rattle.kb_context.specs.Reading.{Gives, seen};
-ghost use Rattle.kb_when.specs.ClauseText.{fault_of};
-ghost use Rattle.kb_when.specs.Builder.{clause_in};
+ghost use Rattle.kb_when.specs.Characters.{is_blank};
+ghost use Rattle.kb_when.specs.ClauseText.{clause_in};
 ghost use Rattle.serde_json.specs.Data.{object};
 ghost use Rattle.serde_json.specs.Find.{get};
 ghost use Rattle.serde_json.specs.View.{view, members_view};
-ghost use Rattle.kb_rules.specs.Entry.{text_of, required_text, optional_text, is_blank, is_blank_byte, is_removal, clause_read, when_of, args_of, entry_of};
+ghost use Rattle.kb_rules.specs.Entry.{text_of, required_text, optional_text, is_removal, of_clause, when_of, args_of, entry_of};
 
 use crate::entry_fault::{EntryError, EntryFault};
 use crate::json::Json;
@@ -15,7 +15,7 @@ use crate::rule::Rule;
 use crate::whole::has_whole_numbers;
 use kb_context::Text;
 use kb_keys::Chord;
-use kb_when::{Clause, WhenFault};
+use kb_when::{Clause, WhenFault, is_blank_text};
 use serde_json::{Map, Value};
 use std::alloc::Global;
 
@@ -77,29 +77,15 @@ fn is_removal(command: &str) -> bool
     command.as_bytes().starts_with(b"-")
 }
 
-/// Whether a clause says nothing: it is empty, or white space alone (our decision).
-fn is_blank(clause: &str) -> bool
-    ensures { result ≡ is_blank clause.now }
-{
-    clause.as_bytes().iter().all(|byte| is_blank_byte(*byte))
-}
-
-/// Whether a byte is space, tab, CR or LF.
-fn is_blank_byte(byte: u8) -> bool
-    ensures { result ≡ is_blank_byte byte }
-{
-    matches!(byte, b' ' | b'\t' | b'\r' | b'\n')
-}
-
 /// The clause of a `when` text, if it says something.
 #[tactic(auto, unfolding(crate::specs::Entry::when_of))]
 fn read_when(alloc: Global, text: &str) -> Result<Option<Clause>, EntryError>
     ensures read { Gives (λ when. when) result (when_of text.now) }
 
     // What `read` cites: a text that says something is never a rule without a clause.
-    ensures kept { IfOk result (λ when. is_some when ≡ not (is_blank text.now)) }
+    ensures kept { IfOk result (λ when. is_some when ≡ not (list_all is_blank text.now)) }
 {
-    if is_blank(text) {
+    if is_blank_text(text) {
         return Ok(None);
     }
     Ok(Some(read_clause(alloc, text)?))
@@ -107,7 +93,7 @@ fn read_when(alloc: Global, text: &str) -> Result<Option<Clause>, EntryError>
 
 /// The clause of a text.
 fn read_clause(alloc: Global, text: &str) -> Result<Clause, EntryError>
-    ensures { Gives Some result (clause_read (fault_of text.now) (clause_in text.now)) }
+    ensures { Gives Some result (of_clause (clause_in text.now)) }
 {
     match Clause::parse(alloc, text) {
         Ok(clause) => Ok(clause),

@@ -1,32 +1,37 @@
 -- From tokens to the text.
-use Rattle.std.proofs.Common.{◌≡◌, ℕ, List, Some, sym, ◌∙◌, subst, ap, Option, []}
+use Rattle.std.proofs.Common.{◌≡◌, ℕ, List, Some, None, ◌∙◌, ap, Option, Ok, refl}
+use Rattle.std.specs.Prelude.{Result}
+use Rattle.kb_context.specs.Reading.{◌>>=◌, or_fault}
 use Rattle.kb_when.specs.declared.token.Token.{Token}
 use Rattle.kb_when.specs.declared.fault.WhenFault.{WhenFault}
-use Rattle.kb_when.specs.declared.fault.WhenFault.TheVariants.{NoMemory}
+use Rattle.kb_when.specs.declared.fault.WhenFault.TheVariants.{BadToken}
 use Rattle.kb_when.specs.Clause.{Clause}
 use Rattle.kb_when.specs.Tokenizer.{tokens_of}
-use Rattle.kb_when.specs.Grammar.{IsClause}
-use Rattle.kb_when.specs.Parser.{IsOnlyClause, IsFault}
-use Rattle.std.specs.Prelude.{option_and_then}
-use Rattle.kb_when.specs.Builder.{clause_in, unless_fault, build, at_start, empty}
-use Rattle.kb_when.proofs.GrammarLemmas.{built}
-use Rattle.kb_when.specs.ClauseText.{StandsFor, tokens_fault}
+use Rattle.kb_when.specs.Reading.{clause_of_tokens}
+use Rattle.kb_when.specs.ClauseText.{StandsFor, clause_in, ReadsByGrammar}
+use Rattle.kb_when.proofs.GrammarLemmas.{read_clause, found_clause, no_ok}
 
-module _ (text : List ℕ) (ts : List Token) (read : tokens_of text ≡ Some ts) where
-  here : (u : Clause) → StandsFor text u → IsClause ts u
-  here u s =
-      let p = s.read in let same : s.tokens ≡ ts = cc in
-      subst (λ (x : List Token). IsClause x u) same s.stands
+abbrev all : Option (List Token) → Result Clause WhenFault
+all o = or_fault BadToken o >>= clause_of_tokens
 
-  pub only_one : (t u v : Clause) → IsOnlyClause ts t → v ≡ t → StandsFor text u → u ≡ v
-  only_one t u v o e s = o.only u (here u s) ∙ sym e
-
-  pub no_clause : (f : WhenFault) → IsFault ts f → (t : Clause) → StandsFor text t → f ≡ NoMemory
-  no_clause f h t s = h.none t (here t s)
-
--- a text without a fault has the clause that stands for its tokens
-pub is_clause_in : (text : List ℕ) (ts : List Token) (t u : Clause) → tokens_of text ≡ Some ts → IsOnlyClause ts t → u ≡ t → clause_in text ≡ Some u
+pub is_read : (text : List ℕ) (t : Clause) → StandsFor text t → clause_in text ≡ Ok t
 unfolding clause_in
-is_clause_in text ts t u read o e =
-    ap (λ (x : Option (List Token)). unless_fault (tokens_fault x) (option_and_then (build at_start empty []) x)) read
-    ∙ ap (λ (x : Option WhenFault). unless_fault x (build at_start empty [] ts)) o.no_fault ∙ built ts t o.stands ∙ ap Some (sym e)
+is_read text t s = ap all s.read ∙ read_clause s.tokens t s.stands
+
+stands_by : (text : List ℕ) (t : Clause) (o : Option (List Token)) → tokens_of text ≡ o → all o ≡ Ok t → StandsFor text t
+stands_by text t (Some ts) e h = record { tokens = ts; read = e; stands = found_clause ts t h }
+stands_by text t None e h = absurd (no_ok h)
+
+pub stands : (text : List ℕ) (t : Clause) → clause_in text ≡ Ok t → StandsFor text t
+unfolding clause_in
+stands text t h = stands_by text t (tokens_of text) refl h
+
+pub by_grammar : (text : List ℕ) → ReadsByGrammar text
+by_grammar text t = (is_read text t, stands text t)
+
+pub only : (text : List ℕ) (t u : Clause) → clause_in text ≡ Ok t → StandsFor text u → u ≡ t
+only text t u h s = let p = is_read text u s in cc
+
+pub reads : (text : List ℕ) (ts : List Token) (t : Clause) → tokens_of text ≡ Some ts → clause_of_tokens ts ≡ Ok t → clause_in text ≡ Ok t
+unfolding clause_in
+reads text ts t e h = ap all e ∙ h

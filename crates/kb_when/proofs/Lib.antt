@@ -1,10 +1,7 @@
 pub mod ClauseLemmas
+pub mod DescentLemmas
 pub mod GrammarLemmas
-pub mod MembersLemmas
 pub mod NumberLemmas
-pub mod ParserLemmas
 pub mod SameLemmas
-pub mod ScanLemmas
-pub mod SeveralLemmas
 pub mod TokenizerLemmas
 pub mod WordsLemmas

@@ -1,11 +1,13 @@
 -- The tokens so far, and those of what is left.
 use Rattle.std.proofs.Common.{◌≡◌, ℕ, zero, suc, ◌<◌, ◌≤◌, List, [], ◌∷◌, ◌++◌, Option, Some, None, option_map, length, cond, Bool, true, false, refl, sym, ◌∙◌, ap, subst, arith, append_assoc, nat_eq, codes, lit<, ◌&&◌}
-use Rattle.std.specs.Prelude.{chars}
+use Rattle.std.specs.Prelude.{chars, Result, Ok, Err}
 use Rattle.kb_when.specs.declared.token.Token.{Token}
 use Rattle.kb_when.specs.Characters.{behind, front, ends_word, is_quote, is_no_letter, begins_blank, skipped, is_no_blank, behind_sign}
-use Rattle.kb_when.specs.Tokenizer.{Read, lex, next_token, next_word, is_like, tokens_of, tokens_within, CountSuffices, after_token, unless_empty, IsBadToken, sign_or, signs_or, comparisons, signs, blank_around, in_class, closes, pattern_text, from_close, patterned, pattern_or, quoted, quoted_or, word_of}
+use Rattle.kb_when.specs.Tokenizer.{Read, lex, next_token, next_word, is_like, tokens_of, tokens_within, CountSuffices, after_token, unless_empty, sign_or, signs_or, comparisons, signs, blank_around, in_class, closes, up_to_close, from_close, patterned, pattern_or, quoted, quoted_or, word_of}
 use Rattle.kb_when.specs.declared.fault.WhenFault.{WhenFault}
-use Rattle.kb_when.specs.declared.fault.WhenFault.TheVariants.{BadToken, NoMemory}
+use Rattle.kb_when.specs.declared.fault.WhenFault.TheVariants.{BadToken}
+use Rattle.kb_context.specs.Reading.{or_fault}
+use Rattle.kb_when.specs.WhenFault.{IsRefusal}
 
 abbrev pub joined : List Token → Option (List Token) → Option (List Token)
 joined ts o = option_map (λ us. ts ++ us) o
@@ -23,18 +25,31 @@ behind_length : (p : ℕ → Bool) (cs : List ℕ) → length (behind p cs) ≤ 
 behind_length p [] = omega arith
 behind_length p (c ∷ cs) = cut_length (p c) c cs (behind p cs) (behind_length p cs)
 
-pub word_shorter : (c : ℕ) (more cs : List ℕ) → cs ≡ c ∷ more → false ≡ ends_word c → length (behind ends_word cs) < length cs
-word_shorter c more cs e h =
-    subst (λ (x : List ℕ). length (behind ends_word x) < length x) (sym e) (rw (← h) (omega (arith, behind_length ends_word more)))
+pub word_shorter : (cs text rest : List ℕ) → text ≡ front ends_word cs → rest ≡ behind ends_word cs → (length text ≡ 0 → ⊥) → length rest < length cs
+word_shorter [] text rest p q h = absurd (h (ap length p))
+word_shorter (c ∷ cs) text rest p q h = by (ends_word c) (ap length p) (ap length q) (behind_length ends_word cs) where
+  by : (b : Bool) → length text ≡ length (cond b [] (c ∷ front ends_word cs)) → length rest ≡ length (cond b (c ∷ cs) (behind ends_word cs)) → length (behind ends_word cs) ≤ length cs → length rest < suc (length cs)
+  by true m n l = absurd (h m)
+  by false m n l = omega arith
 
 pub skipped_length : (cs : List ℕ) → length (skipped cs) ≤ length cs
 skipped_length cs = behind_length is_no_blank cs
 
--- where nothing was read there, nothing is read here
-pub bad_token : {X Y : Type 0} (there : Option X) (here : Option Y) (f : WhenFault) → (there ≡ None → here ≡ None) → IsBadToken there f → IsBadToken here f
-bad_token there here BadToken h g = h g
-bad_token there here NoMemory h g = tt
-bad_token there here _ h g = absurd g
+abbrev failed : (A : Type 0) → WhenFault → Result A WhenFault
+failed A f = Err f
+
+abbrev given : {A : Type 0} → A → Result A WhenFault
+given x = Ok x
+
+-- a piece is read where there is one, and where there is none, there is none in the whole
+pub a_piece : {A : Type 0} (o : Option A) (x : A) → given x ≡ or_fault BadToken o → o ≡ Some x
+a_piece (Some y) x e = cc
+a_piece None x e = cc
+
+pub no_piece : {A B : Type 0} (there : Option A) (here : Option B) (f : WhenFault) → failed A f ≡ or_fault BadToken there → (there ≡ None → here ≡ None) → IsRefusal (or_fault BadToken here) f
+no_piece {A} {B} None here f e g =
+    subst (λ (o : Option B). IsRefusal (or_fault BadToken o) f) (sym (g refl)) (let p : BadToken ≡ f = cc in subst (IsRefusal (failed B BadToken)) p refl)
+no_piece (Some x) here f e g = cc
 
 joined_once : (ts : List Token) (t : Token) (o : Option (List Token)) → joined ts (option_map (λ us. t ∷ us) o) ≡ joined (ts ++ t ∷ []) o
 joined_once ts t None = refl
@@ -147,7 +162,7 @@ patterned_shorter n text (c ∷ rest) h = omega (arith, behind_length is_no_lett
 pattern_or_shorter : (like : Bool) (n : ℕ) (o : Option (List ℕ)) (later : Read) → LeavesFewer n o → IsShorter n later → IsShorter n (pattern_or like o later)
 pattern_or_shorter true n None later h k = k
 pattern_or_shorter true n (Some rest) later h k =
-    patterned_shorter n (pattern_text false false rest) (from_close false false rest) (omega (arith, close_length false false rest))
+    patterned_shorter n (up_to_close false false rest) (from_close false false rest) (omega (arith, close_length false false rest))
 pattern_or_shorter false n o later h k = k
 
 quoted_shorter : (n : ℕ) (text rest : List ℕ) → length rest ≤ n → IsShorter n (quoted text rest)

@@ -1,12 +1,12 @@
--- The clause that a text stands for, and the fault of a text.
-use Rattle.std.specs.Prelude.{◌≡◌, ℕ, List, [], Option, Some, None}
+-- The clause that a text stands for, or the text's fault.
+use Rattle.std.specs.Prelude.{◌≡◌, ◌↔◌, ℕ, List, Result, Ok, Some}
+use Rattle.kb_context.specs.Reading.{◌>>=◌}
 use Rattle.kb_when.specs.declared.token.Token.{Token}
 use Rattle.kb_when.specs.declared.fault.WhenFault.{WhenFault}
-use Rattle.kb_when.specs.declared.fault.WhenFault.TheVariants.{BadToken}
 use Rattle.kb_when.specs.Clause.{Clause}
-use Rattle.kb_when.specs.Tokenizer.{tokens_of}
+use Rattle.kb_when.specs.Tokenizer.{tokens_of, tokens_or_fault}
 use Rattle.kb_when.specs.Grammar.{IsClause}
-use Rattle.kb_when.specs.Scan.{at_operand, scan}
+use Rattle.kb_when.specs.Reading.{clause_of_tokens}
 
 -- the text has tokens, and by the grammar these stand for the clause
 pub record StandsFor (text : List ℕ) (t : Clause) : Type 0 where
@@ -14,10 +14,10 @@ pub record StandsFor (text : List ℕ) (t : Clause) : Type 0 where
   pub read : tokens_of text ≡ Some tokens
   pub stands : IsClause tokens t
 
-abbrev pub tokens_fault : Option (List Token) → Option WhenFault
-tokens_fault None = Some BadToken
-tokens_fault (Some tokens) = scan at_operand [] tokens
+-- the clause of a text, or its fault: all tokens are read before the grammar is asked
+unfoldable pub clause_in : List ℕ → Result Clause WhenFault
+clause_in text = tokens_or_fault text >>= clause_of_tokens
 
--- the fault of a text, if it has one: all tokens are read before the grammar is asked
-abbrev pub fault_of : List ℕ → Option WhenFault
-fault_of text = tokens_fault (tokens_of text)
+-- the reading gives a clause exactly where the grammar has it stand for the text
+abbrev pub ReadsByGrammar : List ℕ → Type 0
+ReadsByGrammar text = (t : Clause) → StandsFor text t ↔ (clause_in text ≡ Ok t)

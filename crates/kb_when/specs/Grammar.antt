@@ -3,7 +3,6 @@ use Rattle.std.specs.Prelude.{◌≡◌, ℕ, ℤ, suc, ◌<◌, List, [], ◌�
 use Rattle.kb_when.specs.declared.operator.Operator.{Operator}
 use Rattle.kb_when.specs.declared.token.Token.{Token}
 use Rattle.kb_when.specs.declared.token.Token.TheVariants.{Or, And, Not, Open, Close, Equal, Unequal, Comparison, Word, Quoted}
-use Rattle.kb_when.specs.declared.parser.TheConstants.{DEPTH_LIMIT}
 use Rattle.kb_when.specs.Number.{number_of}
 use Rattle.kb_when.specs.Clause.{Clause, always, never, key, equals, compare, member, not_of, all_of, any_of, Clauses, no_clauses, clause}
 use Rattle.kb_when.specs.Words.{the_true, the_false, the_in, the_not, is_reserved, is_equal, is_unequal}
@@ -41,8 +40,8 @@ mutual
     more_and : {depth : ℕ} {ts us rest : List Token} {t : Clause} {cs : Clauses} → Operand depth ts t (And ∷ us) → Conjuncts depth us cs rest → Conjuncts depth ts (clause t cs) rest
 
   pub data Operand : ℕ → List Token → Clause → List Token → Type 0 where
-    negated : {depth : ℕ} {ts rest : List Token} {t : Clause} → depth < DEPTH_LIMIT → Operand (suc depth) ts t rest → Operand depth (Not ∷ ts) (not_of t) rest
-    enclosed : {depth : ℕ} {ts rest : List Token} {cs : Clauses} → depth < DEPTH_LIMIT → Disjuncts (suc depth) ts cs (Close ∷ rest) → Operand depth (Open ∷ ts) (any_joined cs) rest
+    negated : {depth : ℕ} {ts rest : List Token} {t : Clause} → depth < 64 → Operand (suc depth) ts t rest → Operand depth (Not ∷ ts) (not_of t) rest
+    enclosed : {depth : ℕ} {ts rest : List Token} {cs : Clauses} → depth < 64 → Disjuncts (suc depth) ts cs (Close ∷ rest) → Operand depth (Open ∷ ts) (any_joined cs) rest
     truth : {depth : ℕ} {rest : List Token} → Operand depth (Word the_true ∷ rest) always rest
     falsity : {depth : ℕ} {rest : List Token} → Operand depth (Word the_false ∷ rest) never rest
     keyed : {depth : ℕ} {ts rest : List Token} {t : Clause} (k : List ℕ) → is_reserved k ≡ false → KeyTail k ts t rest → Operand depth (Word k ∷ ts) t rest

@@ -1,4 +1,3 @@
-pub mod Builder
 pub mod Characters
 pub mod Clause
 pub mod ClauseCode
@@ -7,8 +6,8 @@ pub mod Grammar
 pub mod Number
 pub mod Operator
 pub mod Parser
+pub mod Reading
 pub mod Same
-pub mod Scan
 pub mod Tokenizer
 pub mod Tree
 pub mod Value

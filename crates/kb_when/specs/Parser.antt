@@ -1,14 +1,64 @@
--- What the descent answers: the grammar's clause for the tokens that it read, and how the scan for faults goes on.
-use Rattle.std.specs.Prelude.{◌≡◌, ℕ, ◌<◌, ◌≤◌, List, [], ◌∷◌, false, None, length}
+-- What the descent answers: how the reading goes on behind the tokens that were read, or the reading's fault.
+use Rattle.std.specs.Prelude.{◌≡◌, ℕ, ◌<◌, ◌≤◌, Bool, true, false, List, [], ◌∷◌, Result, Ok, Err, ⊤, length}
+use Rattle.kb_when.specs.declared.atom.Atom.{Atom}
+use Rattle.kb_when.specs.declared.atom.Atom.TheVariants as atoms
+use Rattle.kb_when.specs.declared.atom.Condition.{Condition}
+use Rattle.kb_when.specs.declared.parser.Start.{Start}
+use Rattle.kb_when.specs.declared.parser.Start.TheVariants as starts
 use Rattle.kb_when.specs.declared.token.Token.{Token}
-use Rattle.kb_when.specs.declared.token.Token.TheVariants.{Or, And, Word}
+use Rattle.kb_when.specs.declared.token.Token.TheVariants.{Or, And, Not, Open, Close}
 use Rattle.kb_when.specs.declared.fault.WhenFault.{WhenFault}
-use Rattle.kb_when.specs.declared.fault.WhenFault.TheVariants.{NoMemory}
+use Rattle.kb_when.specs.declared.fault.WhenFault.TheVariants.{Unexpected}
 use Rattle.kb_when.specs.WhenFault.{IsRefusal}
-use Rattle.kb_when.specs.Clause.{Clause, Clauses, member}
-use Rattle.kb_when.specs.Words.{is_reserved}
-use Rattle.kb_when.specs.Grammar.{Disjuncts, Conjuncts, Operand, KeyTail, any_joined, all_joined, IsClause}
-use Rattle.kb_when.specs.Scan.{State, at_operand, behind_key, behind_operand, Opened, strip, scan}
+use Rattle.kb_when.specs.Clause.{Clause, always, never, key, equals, compare, member, not_of, Clauses, no_clauses}
+use Rattle.kb_when.specs.Grammar.{any_joined, all_joined}
+use Rattle.kb_when.specs.Reading.{State, at_operand, behind_operand, Opened, bang, paren, Built, append, snoc, operand, read_from}
+
+-- ---- atoms
+
+abbrev pub clause_of_atom : Atom → Clause
+clause_of_atom atoms.True = always
+clause_of_atom atoms.False = never
+clause_of_atom (atoms.Key k) = key k.now
+clause_of_atom (atoms.Equals k v) = equals k.now v.now
+clause_of_atom (atoms.Compare k o n) = compare k.now o n
+clause_of_atom (atoms.Member k other) = member k.now other.now
+
+abbrev pub negated_if : Bool → Clause → Clause
+negated_if true t = not_of t
+negated_if false t = t
+
+abbrev pub clause_of_condition : Condition → Clause
+clause_of_condition c = negated_if c.negated (clause_of_atom c.atom)
+
+-- ---- what is read without memory
+
+-- from a place on, the reading ends at the fault, whatever is built
+abbrev pub FailsAt : State → List Token → WhenFault → Type 0
+FailsAt s ts f = (b : Built) → read_from s b ts ≡ Err f
+
+-- from a place on, the clause of an atom is one more operand
+pub record ReadsAtom (s : State) (ts : List Token) (t : Clause) (rest : List Token) : Type 0 where
+  pub goes_on : (b : Built) → read_from s b ts ≡ read_from behind_operand (operand b t) rest
+  pub shorter : length rest ≤ length ts
+
+-- what stands behind the ")" that comes next
+abbrev pub behind_close : List Token → Result (List Token) WhenFault
+behind_close (Close ∷ ts) = Ok ts
+behind_close _ = Err Unexpected
+
+-- ---- what is read with memory
+
+-- one operand, where so many "(" and "!" are open
+pub record ReadsOperand (depth : ℕ) (ts : List Token) (t : Clause) (rest : List Token) : Type 0 where
+  pub goes_on : (b : Built) → length b.opened ≡ depth → read_from at_operand b ts ≡ read_from behind_operand (operand b t) rest
+  pub shorter : length rest < length ts
+
+-- no "!" waits
+abbrev pub IsBare : List Opened → Type 0
+IsBare [] = Unit {0}
+IsBare (bang ∷ st) = ⊥
+IsBare (paren os an ∷ st) = Unit {0}
 
 abbrev pub NoAnd : List Token → Type 0
 NoAnd [] = Unit {0}
@@ -20,63 +70,47 @@ NoOr [] = Unit {0}
 NoOr (Or ∷ ts) = ⊥
 NoOr (_ ∷ ts) = Unit {0}
 
--- behind the key k; the scan ends the operand
-pub record GivesKeyTail (k : List ℕ) (ts : List Token) (t : Clause) (rest : List Token) : Type 0 where
-  pub tree : KeyTail k ts t rest
-  pub scans : (st : Opened) → strip st ≡ st → scan behind_key st ts ≡ scan behind_operand st rest
-  pub shorter : length rest ≤ length ts
-
--- behind "in"
-pub record GivesMember (k : List ℕ) (ts : List Token) (t : Clause) (rest : List Token) : Type 0 where
-  pub other : List ℕ
-  pub a_key : is_reserved other ≡ false
-  pub first : ts ≡ Word other ∷ rest
-  pub tree : t ≡ member k other
-
--- one operand, at any stack of open "(" and "!" of this depth
-pub record GivesOperand (depth : ℕ) (ts : List Token) (t : Clause) (rest : List Token) : Type 0 where
-  pub tree : Operand depth ts t rest
-  pub scans : (st : Opened) → length st ≡ depth → scan at_operand st ts ≡ scan behind_operand (strip st) rest
-  pub shorter : length rest < length ts
-
--- operands joined by "&&", as many as there are, where no "!" waits
-pub record GivesConjunction (depth : ℕ) (ts : List Token) (t : Clause) (rest : List Token) : Type 0 where
+-- operands joined by "&&", as many as there are
+pub record ReadsConjunction (depth : ℕ) (ts : List Token) (t : Clause) (rest : List Token) : Type 0 where
   pub members : Clauses
   pub joined : t ≡ all_joined members
-  pub tree : Conjuncts depth ts members rest
-  pub scans : (st : Opened) → length st ≡ depth → strip st ≡ st → scan at_operand st ts ≡ scan behind_operand st rest
+  pub goes_on : (b : Built) → length b.opened ≡ depth → IsBare b.opened → read_from at_operand b ts ≡ read_from behind_operand (record b { ands = append b.ands members }) rest
   pub shorter : length rest < length ts
   pub no_and : NoAnd rest
 
--- operands joined by "||", as many as there are, where no "!" waits
-pub record GivesDisjunction (depth : ℕ) (ts : List Token) (t : Clause) (rest : List Token) : Type 0 where
-  pub members : Clauses
-  pub joined : t ≡ any_joined members
-  pub tree : Disjuncts depth ts members rest
-  pub scans : (st : Opened) → length st ≡ depth → strip st ≡ st → scan at_operand st ts ≡ scan behind_operand st rest
+-- operands joined by "||", as many as there are
+pub record ReadsDisjunction (depth : ℕ) (ts : List Token) (t : Clause) (rest : List Token) : Type 0 where
+  pub before : Clauses
+  pub last : Clauses
+  pub joined : t ≡ any_joined (snoc before (all_joined last))
+  pub goes_on : (os : Clauses) (st : List Opened) → length st ≡ depth → IsBare st → read_from at_operand (record { ors = os; ands = no_clauses; opened = st }) ts ≡ read_from behind_operand (record { ors = append os before; ands = last; opened = st }) rest
   pub shorter : length rest < length ts
   pub no_and : NoAnd rest
   pub no_or : NoOr rest
 
--- at any stack of this depth the scan finds the fault
+-- wherever so many are open, the reading ends at the fault
 abbrev pub Fails : ℕ → List Token → WhenFault → Type 0
-Fails depth ts f = (st : Opened) → length st ≡ depth → IsRefusal (scan at_operand st ts) f
+Fails depth ts f = (b : Built) → length b.opened ≡ depth → IsRefusal (read_from at_operand b ts) f
 
 -- the same, where no "!" waits
 abbrev pub FailsBare : ℕ → List Token → WhenFault → Type 0
-FailsBare depth ts f = (st : Opened) → length st ≡ depth → strip st ≡ st → IsRefusal (scan at_operand st ts) f
+FailsBare depth ts f = (b : Built) → length b.opened ≡ depth → IsBare b.opened → IsRefusal (read_from at_operand b ts) f
 
--- the same from another place
-abbrev pub FailsIn : State → List Token → WhenFault → Type 0
-FailsIn s ts f = (st : Opened) → IsRefusal (scan s st ts) f
+-- the same, where no operand of "&&" stands before
+abbrev pub FailsOuter : ℕ → List Token → WhenFault → Type 0
+FailsOuter depth ts f = (os : Clauses) (st : List Opened) → length st ≡ depth → IsBare st → IsRefusal (read_from at_operand (record { ors = os; ands = no_clauses; opened = st }) ts) f
 
--- the scan finds the fault, and unless it is memory, no clause stands for the tokens
-pub record IsFault (ts : List Token) (f : WhenFault) : Type 0 where
-  pub found : IsRefusal (scan at_operand [] ts) f
-  pub none : (t : Clause) → IsClause ts t → f ≡ NoMemory
+-- what an operand begins with: a "!" or a "(", and fewer than 64 are open; or a whole atom
+abbrev pub Begins : ℕ → List Token → Start → List Token → Type 0
+Begins depth ts starts.Not rest = (ts ≡ Not ∷ rest) × (depth < 64)
+Begins depth ts starts.Open rest = (ts ≡ Open ∷ rest) × (depth < 64)
+Begins depth ts (starts.Atom c) rest = ReadsOperand depth ts (clause_of_condition c) rest
 
--- the clause stands for the tokens, no other does, and the scan finds no fault
-pub record IsOnlyClause (ts : List Token) (t : Clause) : Type 0 where
-  pub stands : IsClause ts t
-  pub only : (u : Clause) → IsClause ts u → u ≡ t
-  pub no_fault : scan at_operand [] ts ≡ None
+-- no operand begins here: the reading ends at the fault
+abbrev pub FailsToBegin : ℕ → List Token → WhenFault → Type 0
+FailsToBegin depth ts f = (b : Built) → length b.opened ≡ depth → read_from at_operand b ts ≡ Err f
+
+-- no token is left
+abbrev pub all_read : List Token → Result ⊤ WhenFault
+all_read [] = Ok tt
+all_read (t ∷ ts) = Err Unexpected

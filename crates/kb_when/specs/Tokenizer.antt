@@ -1,10 +1,15 @@
 -- The tokens of a text. The rules are our decision.
-use Rattle.std.specs.Prelude.{◌≡◌, ℕ, zero, suc, ◌<◌, List, [], ◌∷◌, Bool, true, false, if◌then◌else◌, nat_eq, not, ◌&&◌, ◌||◌, Option, Some, None, option_map, codes, length, chars}
+use Rattle.std.specs.Prelude.{◌≡◌, ℕ, zero, suc, ◌<◌, List, [], ◌∷◌, Bool, true, false, if◌then◌else◌, nat_eq, not, ◌&&◌, ◌||◌, Option, Some, None, Result, option_map, codes, length, chars}
 use Rattle.kb_when.specs.declared.operator.Operator.TheVariants.{Below, AtMost, Above, AtLeast}
 use Rattle.kb_when.specs.declared.fault.WhenFault.{WhenFault}
-use Rattle.kb_when.specs.declared.fault.WhenFault.TheVariants.{BadToken, NoMemory}
+use Rattle.kb_when.specs.declared.fault.WhenFault.TheVariants.{BadToken}
 use Rattle.kb_when.specs.declared.token.Token.{Token}
 use Rattle.kb_when.specs.declared.token.Token.TheVariants.{Or, And, Not, Open, Close, Equal, Unequal, Comparison, Like, Word, Quoted, Pattern}
+use Rattle.kb_context.specs.Reading.{or_fault}
+use Rattle.kb_when.specs.declared.piece.Sign.{Sign}
+use Rattle.kb_when.specs.declared.piece.Sign.TheVariants as sign
+use Rattle.kb_when.specs.declared.piece.Piece.{Piece}
+use Rattle.kb_when.specs.declared.piece.Piece.TheVariants as piece
 use Rattle.kb_when.specs.Characters.{begins_blank, ends_word, is_quote, is_no_letter, front, behind, skipped, bytes_of, behind_sign}
 
 -- a token and the characters that follow it, if there is one
@@ -52,21 +57,17 @@ next_sign cs = signs_or (λ sign. behind_sign sign cs) signs
 abbrev pub in_class : Bool → ℕ → Bool
 in_class inside c = nat_eq c 91 || (inside && not (nat_eq c 93))
 
--- a backslash (92) and the character after it, of which a "/" (47) stands for itself
-abbrev pub pair : ℕ → List ℕ → List ℕ
-pair c cs = if nat_eq c 47 then 47 ∷ cs else 92 ∷ c ∷ cs
-
 -- whether a character closes the pattern: a "/" outside a "[..]"
 abbrev pub closes : Bool → ℕ → Bool
 closes inside c = nat_eq c 47 && not inside
 
--- the text of a pattern up to the "/" that closes it: behind a backslash or not, inside a "[..]" or not
-abbrev pub pattern_text : Bool → Bool → List ℕ → List ℕ
-pattern_text escaped inside [] = []
-pattern_text true inside (c ∷ cs) = pair c (pattern_text false inside cs)
-pattern_text false inside (c ∷ cs) =
-    if nat_eq c 92 then pattern_text true inside cs
-    else (if closes inside c then [] else c ∷ pattern_text false (in_class inside c) cs)
+-- the characters of a pattern up to the "/" that closes it: behind a backslash (92) or not, inside a "[..]" or not
+abbrev pub up_to_close : Bool → Bool → List ℕ → List ℕ
+up_to_close escaped inside [] = []
+up_to_close true inside (c ∷ cs) = c ∷ up_to_close false inside cs
+up_to_close false inside (c ∷ cs) =
+    if nat_eq c 92 then c ∷ up_to_close true inside cs
+    else (if closes inside c then [] else c ∷ up_to_close false (in_class inside c) cs)
 
 -- the characters from that "/" on, or none
 abbrev pub from_close : Bool → Bool → List ℕ → List ℕ
@@ -76,14 +77,24 @@ from_close false inside (c ∷ cs) =
     if nat_eq c 92 then from_close true inside cs
     else (if closes inside c then c ∷ cs else from_close false (in_class inside c) cs)
 
+-- a backslash and the character after it, of which a "/" (47) stands for itself
+abbrev pub pair : ℕ → List ℕ → List ℕ
+pair c cs = if nat_eq c 47 then 47 ∷ cs else 92 ∷ c ∷ cs
+
+-- the text of a pattern's characters: behind a backslash or not
+abbrev pub pattern_text : Bool → List ℕ → List ℕ
+pattern_text escaped [] = []
+pattern_text true (c ∷ cs) = pair c (pattern_text false cs)
+pattern_text false (c ∷ cs) = if nat_eq c 92 then pattern_text true cs else c ∷ pattern_text false cs
+
 -- a pattern and its flags, the letters behind it, unless no "/" closes it
 abbrev pub patterned : List ℕ → List ℕ → Read
-patterned text [] = None
-patterned text (c ∷ rest) = Some (Pattern (bytes_of text) (bytes_of (front is_no_letter rest)), behind is_no_letter rest)
+patterned cs [] = None
+patterned cs (c ∷ rest) = Some (Pattern (bytes_of (pattern_text false cs)) (bytes_of (front is_no_letter rest)), behind is_no_letter rest)
 
 -- the pattern behind its first "/"
 abbrev pub next_pattern : List ℕ → Read
-next_pattern cs = patterned (pattern_text false false cs) (from_close false false cs)
+next_pattern cs = patterned (up_to_close false false cs) (from_close false false cs)
 
 -- right behind "=~" a "/" begins a pattern
 abbrev pub pattern_or : Bool → Option (List ℕ) → Read → Read
@@ -160,8 +171,24 @@ tokens_of text = tokens_within (suc (length (chars text))) text
 abbrev pub CountSuffices : List ℕ → Type 0
 CountSuffices text = (count : ℕ) → length (chars text) < count → tokens_within count text ≡ tokens_of text
 
--- that nothing was read is a bad token; where memory is refused, that may be answered instead
-abbrev pub IsBadToken : {X : Type 0} → Option X → WhenFault → Type 0
-IsBadToken read BadToken = read ≡ None
-IsBadToken read NoMemory = Unit {0}
-IsBadToken read _ = ⊥
+-- the token of a piece
+abbrev pub token_of_sign : Sign → Token
+token_of_sign sign.Or = Or
+token_of_sign sign.And = And
+token_of_sign sign.Not = Not
+token_of_sign sign.Open = Open
+token_of_sign sign.Close = Close
+token_of_sign sign.Equal = Equal
+token_of_sign sign.Unequal = Unequal
+token_of_sign sign.Like = Like
+token_of_sign (sign.Comparison o) = Comparison o
+
+abbrev pub token_of : Piece → Token
+token_of (piece.Sign s) = token_of_sign s
+token_of (piece.Word cs) = Word (bytes_of cs.now)
+token_of (piece.Quoted cs) = Quoted (bytes_of cs.now)
+token_of (piece.Pattern cs flags) = Pattern (bytes_of (pattern_text false cs.now)) (bytes_of flags.now)
+
+-- the tokens of a text, or the fault that one can't be read
+abbrev pub tokens_or_fault : List ℕ → Result (List Token) WhenFault
+tokens_or_fault text = or_fault BadToken (tokens_of text)

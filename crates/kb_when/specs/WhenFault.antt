@@ -1,5 +1,5 @@
 -- The numbers and the names of faults of clauses, and when one is answered.
-use Rattle.std.specs.Prelude.{◌≡◌, ℕ, List, Option, Some, codes}
+use Rattle.std.specs.Prelude.{◌≡◌, ℕ, List, Result, Err, codes}
 use Rattle.kb_when.specs.declared.fault.WhenFault.{WhenFault}
 use Rattle.kb_when.specs.declared.fault.WhenFault.TheVariants.{BadToken, Unexpected, TooDeep, BadNumber, NoMemory}
 
@@ -17,7 +17,7 @@ name_of TooDeep = codes "TooDeep"
 name_of BadNumber = codes "BadNumber"
 name_of NoMemory = codes "NoMemory"
 
--- The answer is the fault that there is. Where memory is refused, that may be answered instead.
-abbrev pub IsRefusal : Option WhenFault → WhenFault → Type 0
-IsRefusal fault NoMemory = Unit {0}
-IsRefusal fault answer = fault ≡ Some answer
+-- The answer is the fault that the reading gives. Where memory is refused, that may be answered instead.
+abbrev pub IsRefusal : {X : Type 0} → Result X WhenFault → WhenFault → Type 0
+IsRefusal reading NoMemory = Unit {0}
+IsRefusal reading answer = reading ≡ Err answer

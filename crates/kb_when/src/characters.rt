@@ -1,5 +1,6 @@
 //! Classes and runs of characters.
 ghost use Rattle.std.specs.Prelude.{◌≡◌, ◌+◌, ◌≤◌, IfOk, IfSome, length, option_map};
+ghost use Rattle.std.specs.List.{list_all};
 ghost use Rattle.kb_when.specs.Characters.{is_blank, begins_blank, ends_word, ends_at, skipped, front, behind, bytes_of, behind_sign};
 
 use kb_context::{NoMemory, Text};
@@ -10,6 +11,15 @@ pub(crate) fn is_blank(character: char) -> bool
     ensures { result ≡ is_blank character }
 {
     character == ' ' || character == '\t' || character == '\r' || character == '\n'
+}
+
+/// Whether a text says nothing: it is empty, or white space alone (our decision).
+pub fn is_blank_text(text: &str) -> bool
+    ensures { result ≡ list_all is_blank text.now }
+{
+    text.as_bytes()
+        .iter()
+        .all(|byte| is_blank(char::from(*byte)))
 }
 
 /// Whether white space stands first.
@@ -63,7 +73,7 @@ pub(crate) fn after_sign<'c>(characters: &'c [char], sign: &[char]) -> Option<&'
 }
 
 /// Before which character a run of characters ends.
-#[derive(Clone, Copy, Debug)]
+#[derive(Clone, Copy)]
 pub(crate) enum Until {
     /// One that ends a word.
     WordEnd,
@@ -87,22 +97,27 @@ impl Until {
     }
 }
 
-/// The characters up to the run's end, or all of them, and what follows them.
-pub(crate) fn read_until(
-    alloc: Global,
-    characters: &[char],
-    until: Until,
-) -> Result<(Text, &[char]), NoMemory>
-    ensures text { IfOk result (λ r. r.0 ≡ bytes_of (front (ends_at until) characters.now)) }
-    ensures rest { IfOk result (λ r. r.1.now ≡ behind (ends_at until) characters.now) }
-    ensures len { IfOk result (λ r. length r.1.now ≤ length characters.now) }
+/// The characters up to the run's end, and what follows them. It takes no memory.
+pub(crate) fn split_run(characters: &[char], until: Until) -> (&[char], &[char])
+    ensures front { result.0.now ≡ front (ends_at until) characters.now }
+    ensures rest { result.1.now ≡ behind (ends_at until) characters.now }
+    ensures len { length result.1.now ≤ length characters.now }
 {
-    let mut text = String::new(alloc);
     for (i, character) in characters.iter().enumerate() {
         if until.is_at(*character) {
-            return Ok((Text::from_string(text), &characters[i..]));
+            return (&characters[..i], &characters[i..]);
         }
+    }
+    (characters, &characters[characters.len()..])
+}
+
+/// The text of characters.
+pub(crate) fn text_of(alloc: Global, characters: &[char]) -> Result<Text, NoMemory>
+    ensures { IfOk result (λ text. text ≡ bytes_of characters.now) }
+{
+    let mut text = String::new(alloc);
+    for character in characters {
         text.push(*character)?;
     }
-    Ok((Text::from_string(text), &characters[characters.len()..]))
+    Ok(Text::from_string(text))
 }

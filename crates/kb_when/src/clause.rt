@@ -1,5 +1,5 @@
 //! Clauses.
-ghost use Rattle.std.specs.Prelude.{◌≡◌, ◌↔◌, IsTrue, IsOk, IfOk, IfErr, OnOk, Some, None};
+ghost use Rattle.std.specs.Prelude.{◌≡◌, ◌↔◌, IsTrue, IsOk, IfOk, IfErr, Ok};
 
 use crate::fault::WhenFault;
 use crate::parser::parse_tokens;
@@ -32,32 +32,29 @@ impl Model for Clause {
 
 impl Clause {
     ghost use Rattle.kb_context.specs.Scopes.{context};
-    ghost use Rattle.kb_when.specs.declared.fault.WhenFault.TheVariants.{NoMemory};
     ghost use Rattle.kb_when.specs.WhenFault.{IsRefusal};
     ghost use Rattle.kb_when.specs.Tokenizer.{CountSuffices};
-    ghost use Rattle.kb_when.specs.ClauseText.{StandsFor, fault_of};
-    ghost use Rattle.kb_when.specs.Builder.{clause_in};
+    ghost use Rattle.kb_when.specs.ClauseText.{StandsFor, clause_in, ReadsByGrammar};
     ghost use Rattle.kb_when.specs.Value.{value};
 
     /// The clause of a text.
     ///
-    /// `BadToken` (30) where a token can't be read. Then, as a scan of the tokens finds it first:
-    /// `TooDeep` (32) where more than `DEPTH_LIMIT` `(` and `!` stand around an operand,
+    /// `BadToken` (30) where a token can't be read. Then, as reading the tokens from the left meets it first:
+    /// `TooDeep` (32) where more than 64 `(` and `!` stand around an operand,
     /// `BadNumber` (33) where a word or a quoted text that is no number follows a comparison, and
     /// `Unexpected` (31) for any other token or end. `NoMemory` (5). The operators are those of
     /// VS Code's documentation of "when clause contexts"; `=~` is `Unexpected` so far. Tokens,
     /// precedence and faults are our decision.
+    #[tactic(auto, unfolding(crate::specs::ClauseText::clause_in))]
     pub fn parse(alloc: Global, text: &str) -> Result<Clause, WhenFault>
         ensures stands { IfOk result (StandsFor text.now) }
         ensures only { IfOk result (λ clause.
             (other : _) → StandsFor text.now other → other ≡ clause) }
-        ensures read { IfOk result (λ clause. clause_in text.now ≡ Some clause) }
-        ensures good { OnOk result (fault_of text.now ≡ None) }
-        ensures fault { IfErr result (IsRefusal (fault_of text.now)) }
+        ensures read { IfOk result (λ clause. clause_in text.now ≡ Ok clause) }
+        ensures fault { IfErr result (IsRefusal (clause_in text.now)) }
 
-        // Where a clause stands for the text, nothing but memory is refused.
-        ensures no_clause { IfErr result (λ fault.
-            (clause : _) → StandsFor text.now clause → fault ≡ NoMemory) }
+        // For all texts the reading is that of the grammar.
+        ensures grammar { ReadsByGrammar text.now }
 
         // The tokens of the text are found by counting, and the count suffices.
         ensures counted { CountSuffices text.now }

@@ -1,18 +1,20 @@
 //! When clauses: conditions on context keys, read from texts into trees and valued over scopes.
 #![tactic(auto)]
 
+mod atom;
 mod characters;
 pub mod clause;
 pub mod fault;
 mod number;
 mod operator;
 mod parser;
+mod piece;
 mod token;
 mod tokenizer;
 mod tree;
 mod value;
 mod words;
 
+pub use characters::is_blank_text;
 pub use clause::Clause;
 pub use fault::WhenFault;
-pub use parser::DEPTH_LIMIT;

@@ -1,60 +1,128 @@
-//! Clauses from tokens, by descent with one token ahead. Each function says two things of what it
-//! reads: what the grammar gives, and how the scan for faults goes on.
-ghost use Rattle.std.specs.Prelude.{◌≡◌, ◌≤◌, ◌<◌, ◌∷◌, [], IfOk, IfErr, MatchOption, map, length};
-ghost use Rattle.kb_when.specs.Clause.{not_of, equals};
+//! Clauses from tokens, by descent with one token ahead. Each function says how the reading of the
+//! tokens goes on behind those that it read. What decides a fault takes no memory.
+ghost use Rattle.std.specs.Prelude.{◌≡◌, ◌≤◌, ◌<◌, ◌∷◌, [], IfOk, IfErr, Ok, map, length};
 ghost use Rattle.kb_when.specs.Tree.{clause_of, clauses_of};
-ghost use Rattle.kb_when.specs.Words.{is_reserved, is_equal, is_unequal, the_not};
+ghost use Rattle.kb_context.specs.Reading.{seen};
 ghost use Rattle.kb_when.specs.Grammar.{any_joined, all_joined};
-ghost use Rattle.kb_when.specs.Scan.{behind_key, at_value, at_number, at_other, behind_not};
-ghost use Rattle.kb_when.specs.Parser.{GivesKeyTail, GivesMember, GivesOperand, GivesConjunction, GivesDisjunction, Fails, FailsBare, FailsIn, IsFault, IsOnlyClause};
-ghost use Rattle.kb_when.specs.declared.token.Token.TheVariants.{Not, Open, Equal, Unequal, Comparison, Word};
+ghost use Rattle.kb_when.specs.WhenFault.{IsRefusal};
+ghost use Rattle.kb_when.specs.Reading.{at_operand, clause_of_tokens};
+ghost use Rattle.kb_when.specs.Parser.{Begins, behind_close, ReadsOperand, ReadsConjunction, ReadsDisjunction, Fails, FailsAt, FailsBare, FailsOuter, FailsToBegin, all_read, clause_of_condition};
+ghost use Rattle.kb_when.specs.declared.token.Token.TheVariants.{Not, Open, Word};
 
+use crate::atom::{Atom, Condition, key_tail, next, plain};
 use crate::fault::WhenFault;
-use crate::number::read_number;
-use crate::operator::Operator;
 use crate::token::Token;
 use crate::tree::Tree;
 use crate::words::{is_reserved, is_word};
-use kb_context::{NoMemory, Text};
+use kb_context::Text;
 use std::alloc::Global;
 
 /// How many `(` and `!` may stand around an operand (our decision).
-pub const DEPTH_LIMIT: usize = 64;
+const DEPTH_LIMIT: usize = 64;
 
-fn next(tokens: &[Token]) -> Option<(&Token, &[Token])>
-    ensures { MatchOption result (tokens.now ≡ []) (λ p. tokens.now ≡ p.0.now ∷ p.1.now) }
-{
-    tokens.split_first()
+/// What an operand begins with.
+#[derive(Clone, Copy)]
+enum Start<'t> {
+    /// A `!`.
+    Not,
+    /// A `(`.
+    Open,
+    /// A whole atom.
+    Atom(Condition<'t>),
 }
 
-/// An operand with the `!` before it.
-#[cycle(descent)]
-fn operand(alloc: Global, tokens: &[Token], depth: usize) -> Result<(Tree, &[Token]), WhenFault>
-    requires { depth ≤ DEPTH_LIMIT }
-    ensures ok { IfOk result (λ r. GivesOperand depth tokens.now (clause_of r.0) r.1.now) }
-    ensures err { IfErr result (Fails depth tokens.now) }
+/// What an operand begins with, and the tokens behind it.
+fn begin(tokens: &[Token], depth: usize) -> Result<(Start<'_>, &[Token]), WhenFault>
+    ensures ok { IfOk result (λ r. Begins depth tokens.now r.0 r.1.now) }
+    ensures err { IfErr result (FailsToBegin depth tokens.now) }
 {
     let Some((first, rest)) = next(tokens) else {
         return Err(WhenFault::Unexpected);
     };
     match first {
-        Token::Not => negated(alloc, rest, depth),
-        Token::Open => enclosed(alloc, rest, depth),
-        Token::Word(word) => atom(alloc, word, rest, depth),
+        Token::Not => {
+            if depth >= DEPTH_LIMIT {
+                return Err(WhenFault::TooDeep);
+            }
+            Ok((Start::Not, rest))
+        }
+        Token::Open => {
+            if depth >= DEPTH_LIMIT {
+                return Err(WhenFault::TooDeep);
+            }
+            Ok((Start::Open, rest))
+        }
+        Token::Word(word) => {
+            let (condition, rest) = atom(word, rest)?;
+            Ok((Start::Atom(condition), rest))
+        }
         _ => Err(WhenFault::Unexpected),
+    }
+}
+
+/// The atom that a word begins.
+fn atom<'t>(word: &'t Text, rest: &'t [Token]) -> Result<(Condition<'t>, &'t [Token]), WhenFault>
+    ensures ok { IfOk result (λ r. (depth : _) →
+        ReadsOperand depth (Word word.now ∷ rest.now) (clause_of_condition r.0) r.1.now) }
+    ensures err { IfErr result (FailsAt at_operand (Word word.now ∷ rest.now)) }
+{
+    if is_word(word, "true") {
+        return Ok((plain(Atom::True), rest));
+    }
+    if is_word(word, "false") {
+        return Ok((plain(Atom::False), rest));
+    }
+    if is_reserved(word) {
+        return Err(WhenFault::Unexpected);
+    }
+    key_tail(word, rest)
+}
+
+/// The tokens behind a `)`.
+fn behind_close(tokens: &[Token]) -> Result<&[Token], WhenFault>
+    ensures { seen (λ r. r.now) result ≡ behind_close tokens.now }
+{
+    let Some((first, rest)) = next(tokens) else {
+        return Err(WhenFault::Unexpected);
+    };
+    match first {
+        Token::Close => Ok(rest),
+        _ => Err(WhenFault::Unexpected),
+    }
+}
+
+/// That no token is left.
+fn all_read(tokens: &[Token]) -> Result<(), WhenFault>
+    ensures { result ≡ all_read tokens.now }
+{
+    if tokens.is_empty() {
+        return Ok(());
+    }
+    Err(WhenFault::Unexpected)
+}
+
+/// An operand with the `!` before it.
+#[cycle(descent)]
+fn operand(alloc: Global, tokens: &[Token], depth: usize) -> Result<(Tree, &[Token]), WhenFault>
+    requires { depth ≤ 64 }
+    ensures ok { IfOk result (λ r. ReadsOperand depth tokens.now (clause_of r.0) r.1.now) }
+    ensures err { IfErr result (Fails depth tokens.now) }
+{
+    let (start, rest) = begin(tokens, depth)?;
+    match start {
+        Start::Not => negated(alloc, rest, depth),
+        Start::Open => enclosed(alloc, rest, depth),
+        Start::Atom(condition) => Ok((condition.tree(alloc)?, rest)),
     }
 }
 
 /// The operand behind a `!`.
 #[cycle(descent)]
 fn negated(alloc: Global, rest: &[Token], depth: usize) -> Result<(Tree, &[Token]), WhenFault>
-    requires { depth ≤ DEPTH_LIMIT }
-    ensures ok { IfOk result (λ r. GivesOperand depth (Not ∷ rest.now) (clause_of r.0) r.1.now) }
+    requires { depth < 64 }
+    ensures ok { IfOk result (λ r. ReadsOperand depth (Not ∷ rest.now) (clause_of r.0) r.1.now) }
     ensures err { IfErr result (Fails depth (Not ∷ rest.now)) }
 {
-    if depth >= DEPTH_LIMIT {
-        return Err(WhenFault::TooDeep);
-    }
     let (tree, more) = operand(alloc, rest, depth + 1)?;
     let tree = Box::new(alloc, tree)?;
     Ok((Tree::negation(tree), more))
@@ -63,216 +131,13 @@ fn negated(alloc: Global, rest: &[Token], depth: usize) -> Result<(Tree, &[Token
 /// What stands behind a `(`, up to its `)`.
 #[cycle(descent)]
 fn enclosed(alloc: Global, rest: &[Token], depth: usize) -> Result<(Tree, &[Token]), WhenFault>
-    requires { depth ≤ DEPTH_LIMIT }
-    ensures ok { IfOk result (λ r. GivesOperand depth (Open ∷ rest.now) (clause_of r.0) r.1.now) }
+    requires { depth < 64 }
+    ensures ok { IfOk result (λ r. ReadsOperand depth (Open ∷ rest.now) (clause_of r.0) r.1.now) }
     ensures err { IfErr result (Fails depth (Open ∷ rest.now)) }
 {
-    if depth >= DEPTH_LIMIT {
-        return Err(WhenFault::TooDeep);
-    }
     let (tree, more) = disjunction(alloc, rest, depth + 1)?;
-    let Some((first, after)) = next(more) else {
-        return Err(WhenFault::Unexpected);
-    };
-    match first {
-        Token::Close => Ok((tree, after)),
-        _ => Err(WhenFault::Unexpected),
-    }
-}
-
-/// The operand that a word begins.
-fn atom<'t>(
-    alloc: Global,
-    word: &Text,
-    rest: &'t [Token],
-    depth: usize,
-) -> Result<(Tree, &'t [Token]), WhenFault>
-    ensures ok { IfOk result (λ r.
-        GivesOperand depth (Word word.now ∷ rest.now) (clause_of r.0) r.1.now) }
-    ensures err { IfErr result (Fails depth (Word word.now ∷ rest.now)) }
-{
-    if is_word(word, "true") {
-        return Ok((Tree::always(), rest));
-    }
-    if is_word(word, "false") {
-        return Ok((Tree::never(), rest));
-    }
-    if is_reserved(word) {
-        return Err(WhenFault::Unexpected);
-    }
-    key_tail(alloc, word, rest)
-}
-
-/// A key with what stands behind it.
-fn key_tail<'t>(
-    alloc: Global,
-    key: &Text,
-    tokens: &'t [Token],
-) -> Result<(Tree, &'t [Token]), WhenFault>
-    ensures ok { IfOk result (λ r. GivesKeyTail key.now tokens.now (clause_of r.0) r.1.now) }
-    ensures err { IfErr result (FailsIn behind_key tokens.now) }
-{
-    let Some((first, rest)) = next(tokens) else {
-        return Ok((Tree::key(key.copied()?), tokens));
-    };
-    match first {
-        Token::Equal => equality(alloc, key, rest),
-        Token::Unequal => inequality(alloc, key, rest),
-        Token::Comparison(operator) => comparison(key, *operator, rest),
-        Token::Word(word) => {
-            if is_word(word, "in") {
-                return member(key, rest);
-            }
-            if is_word(word, "not") {
-                return no_member(alloc, key, rest);
-            }
-            Err(WhenFault::Unexpected)
-        }
-        _ => Ok((Tree::key(key.copied()?), tokens)),
-    }
-}
-
-/// The value behind `==`.
-fn equality<'t>(
-    alloc: Global,
-    key: &Text,
-    rest: &'t [Token],
-) -> Result<(Tree, &'t [Token]), WhenFault>
-    ensures ok { IfOk result (λ r.
-        GivesKeyTail key.now (Equal ∷ rest.now) (clause_of r.0) r.1.now) }
-    ensures err { IfErr result (FailsIn at_value rest.now) }
-{
-    let Some((first, after)) = next(rest) else {
-        return Err(WhenFault::Unexpected);
-    };
-    match first {
-        Token::Word(value) => Ok((equal_word(alloc, key, value)?, after)),
-        Token::Quoted(value) => Ok((Tree::equal(key.copied()?, value.copied()?), after)),
-        _ => Err(WhenFault::Unexpected),
-    }
-}
-
-/// `key == value`, the value without quotes.
-fn equal_word(alloc: Global, key: &Text, value: &Text) -> Result<Tree, NoMemory>
-    ensures { IfOk result (λ t. clause_of t ≡ is_equal key.now value.now) }
-{
-    if is_word(value, "true") {
-        return Ok(Tree::key(key.copied()?));
-    }
-    if is_word(value, "false") {
-        let tree = Tree::key(key.copied()?);
-        return Ok(Tree::negation(Box::new(alloc, tree)?));
-    }
-    Ok(Tree::equal(key.copied()?, value.copied()?))
-}
-
-/// The value behind `!=`.
-fn inequality<'t>(
-    alloc: Global,
-    key: &Text,
-    rest: &'t [Token],
-) -> Result<(Tree, &'t [Token]), WhenFault>
-    ensures ok { IfOk result (λ r.
-        GivesKeyTail key.now (Unequal ∷ rest.now) (clause_of r.0) r.1.now) }
-    ensures err { IfErr result (FailsIn at_value rest.now) }
-{
-    let Some((first, after)) = next(rest) else {
-        return Err(WhenFault::Unexpected);
-    };
-    match first {
-        Token::Word(value) => Ok((unequal_word(alloc, key, value)?, after)),
-        Token::Quoted(value) => Ok((unequal(alloc, key, value)?, after)),
-        _ => Err(WhenFault::Unexpected),
-    }
-}
-
-/// `key != 'value'`.
-fn unequal(alloc: Global, key: &Text, value: &Text) -> Result<Tree, NoMemory>
-    ensures { IfOk result (λ t. clause_of t ≡ not_of (equals key.now value.now)) }
-{
-    let tree = Tree::equal(key.copied()?, value.copied()?);
-    Ok(Tree::negation(Box::new(alloc, tree)?))
-}
-
-/// `key != value`, the value without quotes.
-fn unequal_word(alloc: Global, key: &Text, value: &Text) -> Result<Tree, NoMemory>
-    ensures { IfOk result (λ t. clause_of t ≡ is_unequal key.now value.now) }
-{
-    if is_word(value, "true") {
-        let tree = Tree::key(key.copied()?);
-        return Ok(Tree::negation(Box::new(alloc, tree)?));
-    }
-    if is_word(value, "false") {
-        return Ok(Tree::key(key.copied()?));
-    }
-    unequal(alloc, key, value)
-}
-
-/// The number behind a comparison.
-fn comparison<'t>(
-    key: &Text,
-    operator: Operator,
-    rest: &'t [Token],
-) -> Result<(Tree, &'t [Token]), WhenFault>
-    ensures ok { IfOk result (λ r.
-        GivesKeyTail key.now (Comparison operator ∷ rest.now) (clause_of r.0) r.1.now) }
-    ensures err { IfErr result (FailsIn at_number rest.now) }
-{
-    let Some((first, after)) = next(rest) else {
-        return Err(WhenFault::Unexpected);
-    };
-    match first {
-        Token::Word(word) => match read_number(word.as_str()) {
-            Some(number) => Ok((Tree::compare(key.copied()?, operator, number), after)),
-            None => Err(WhenFault::BadNumber),
-        },
-        Token::Quoted(_) => Err(WhenFault::BadNumber),
-        _ => Err(WhenFault::Unexpected),
-    }
-}
-
-/// The other key behind `in`.
-fn member<'t>(key: &Text, rest: &'t [Token]) -> Result<(Tree, &'t [Token]), WhenFault>
-    ensures ok { IfOk result (λ r. GivesMember key.now rest.now (clause_of r.0) r.1.now) }
-    ensures err { IfErr result (FailsIn at_other rest.now) }
-{
-    let Some((first, after)) = next(rest) else {
-        return Err(WhenFault::Unexpected);
-    };
-    match first {
-        Token::Word(word) => {
-            if is_reserved(word) {
-                return Err(WhenFault::Unexpected);
-            }
-            Ok((Tree::member(key.copied()?, word.copied()?), after))
-        }
-        _ => Err(WhenFault::Unexpected),
-    }
-}
-
-/// `in` and the other key, behind `not`.
-fn no_member<'t>(
-    alloc: Global,
-    key: &Text,
-    rest: &'t [Token],
-) -> Result<(Tree, &'t [Token]), WhenFault>
-    ensures ok { IfOk result (λ r.
-        GivesKeyTail key.now (Word the_not ∷ rest.now) (clause_of r.0) r.1.now) }
-    ensures err { IfErr result (FailsIn behind_not rest.now) }
-{
-    let Some((first, after)) = next(rest) else {
-        return Err(WhenFault::Unexpected);
-    };
-    match first {
-        Token::Word(word) => {
-            if !is_word(word, "in") {
-                return Err(WhenFault::Unexpected);
-            }
-            let (tree, more) = member(key, after)?;
-            Ok((Tree::negation(Box::new(alloc, tree)?), more))
-        }
-        _ => Err(WhenFault::Unexpected),
-    }
+    let after = behind_close(more)?;
+    Ok((tree, after))
 }
 
 /// Trees joined by `||`; one alone stays as it is.
@@ -300,8 +165,8 @@ fn joined_by_and(mut trees: Vec<Tree>) -> Tree
 /// Operands joined by `&&`. A loop, so a long flat list takes no depth of calls.
 #[cycle(descent)]
 fn conjunction(alloc: Global, tokens: &[Token], depth: usize) -> Result<(Tree, &[Token]), WhenFault>
-    requires { depth ≤ DEPTH_LIMIT }
-    ensures ok { IfOk result (λ r. GivesConjunction depth tokens.now (clause_of r.0) r.1.now) }
+    requires { depth ≤ 64 }
+    ensures ok { IfOk result (λ r. ReadsConjunction depth tokens.now (clause_of r.0) r.1.now) }
     ensures err { IfErr result (FailsBare depth tokens.now) }
 {
     let mut trees = Vec::new(alloc);
@@ -322,9 +187,9 @@ fn conjunction(alloc: Global, tokens: &[Token], depth: usize) -> Result<(Tree, &
 /// Conjunctions joined by `||`.
 #[cycle(descent)]
 fn disjunction(alloc: Global, tokens: &[Token], depth: usize) -> Result<(Tree, &[Token]), WhenFault>
-    requires { depth ≤ DEPTH_LIMIT }
-    ensures ok { IfOk result (λ r. GivesDisjunction depth tokens.now (clause_of r.0) r.1.now) }
-    ensures err { IfErr result (FailsBare depth tokens.now) }
+    requires { depth ≤ 64 }
+    ensures ok { IfOk result (λ r. ReadsDisjunction depth tokens.now (clause_of r.0) r.1.now) }
+    ensures err { IfErr result (FailsOuter depth tokens.now) }
 {
     let mut trees = Vec::new(alloc);
     let mut rest = tokens;
@@ -341,15 +206,13 @@ fn disjunction(alloc: Global, tokens: &[Token], depth: usize) -> Result<(Tree, &
     }
 }
 
-/// The only tree of the tokens, or the fault that the scan finds: `Unexpected` (31), `TooDeep`
-/// (32) or `BadNumber` (33); `NoMemory` (5).
+/// The tree of the tokens, or the fault that reading them meets first: `Unexpected` (31),
+/// `TooDeep` (32) or `BadNumber` (33); `NoMemory` (5).
 pub(crate) fn parse_tokens(alloc: Global, tokens: &[Token]) -> Result<Tree, WhenFault>
-    ensures tree { IfOk result (λ t. IsOnlyClause tokens.now (clause_of t)) }
-    ensures fault { IfErr result (IsFault tokens.now) }
+    ensures tree { IfOk result (λ t. clause_of_tokens tokens.now ≡ Ok (clause_of t)) }
+    ensures fault { IfErr result (IsRefusal (clause_of_tokens tokens.now)) }
 {
     let (tree, rest) = disjunction(alloc, tokens, 0)?;
-    if !rest.is_empty() {
-        return Err(WhenFault::Unexpected);
-    }
+    all_read(rest)?;
     Ok(tree)
 }

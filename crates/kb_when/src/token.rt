@@ -3,7 +3,7 @@ use crate::operator::Operator;
 use kb_context::Text;
 
 /// A token of a clause. `===` and `!==` are read as `==` and `!=`.
-#[derive(Debug, Drop)]
+#[derive(Drop)]
 pub(crate) enum Token {
     /// `||`.
     Or,

@@ -1,15 +1,56 @@
 //! Tokens from texts. At each place the first rule that applies is taken: a comparison, a sign, a
 //! pattern, a quoted text, a word.
-ghost use Rattle.std.specs.Prelude.{◌≡◌, ◌+◌, ◌<◌, ◌≤◌, IfOk, IfErr, IfSome, Some, chars, option_map, length, false, is_some, if◌then◌else◌};
-ghost use Rattle.kb_when.specs.Characters.{bytes_of, behind_sign};
-ghost use Rattle.kb_when.specs.Tokenizer.{blank_around, next_comparison, next_sign, pattern_text, from_close, next_pattern, next_quoted, next_word, next_token, is_like, tokens_of, IsBadToken};
+ghost use Rattle.std.specs.Prelude.{◌≡◌, ◌+◌, ◌<◌, ◌≤◌, Some, IfOk, IfErr, IfSome, chars, option_map, length, false, is_some, if◌then◌else◌};
+ghost use Rattle.kb_context.specs.Reading.{or_fault, seen};
+ghost use Rattle.kb_when.specs.WhenFault.{IsRefusal};
+ghost use Rattle.kb_when.specs.Characters.{behind_sign};
+ghost use Rattle.kb_when.specs.Tokenizer.{blank_around, next_comparison, next_sign, up_to_close, from_close, next_pattern, next_quoted, next_word, next_token, is_like, token_of, token_of_sign, tokens_of, tokens_or_fault};
+ghost use Rattle.kb_when.specs.declared.fault.WhenFault.TheVariants.{BadToken};
+ghost use Rattle.kb_when.specs.declared.token.Token.TheVariants.{Comparison};
 
-use crate::characters::{Until, after_sign, begins_blank, ends_word, read_until, skip_blanks};
+use crate::characters::{Until, after_sign, begins_blank, skip_blanks, split_run};
 use crate::fault::WhenFault;
 use crate::operator::Operator;
+use crate::piece::{Piece, Sign};
 use crate::token::Token;
-use kb_context::{NoMemory, Text};
+use kb_context::NoMemory;
 use std::alloc::Global;
+
+/// The comparisons, a longer one before a shorter one.
+const COMPARISONS: [(&[char], Operator); 4] = [
+    (&['<', '='], Operator::AtMost),
+    (&['>', '='], Operator::AtLeast),
+    (&['<'], Operator::Below),
+    (&['>'], Operator::Above),
+];
+
+/// The other signs, a longer one before a shorter one.
+const SIGNS: [(&[char], Sign); 10] = [
+    (&['=', '=', '='], Sign::Equal),
+    (&['!', '=', '='], Sign::Unequal),
+    (&['=', '='], Sign::Equal),
+    (&['!', '='], Sign::Unequal),
+    (&['=', '~'], Sign::Like),
+    (&['&', '&'], Sign::And),
+    (&['|', '|'], Sign::Or),
+    (&['!'], Sign::Not),
+    (&['('], Sign::Open),
+    (&[')'], Sign::Close),
+];
+
+/// The longest sign that the characters begin with, and what follows it.
+fn sign(characters: &[char]) -> Option<(Sign, &[char])>
+    ensures value { (other : _) → next_sign characters.now other ≡
+        (if is_some result then option_map (λ r. (token_of_sign r.0, r.1.now)) result else other) }
+    ensures shorter { IfSome result (λ r. length r.1.now < length characters.now) }
+{
+    for (sign, kind) in SIGNS.as_slice() {
+        if let Some(rest) = after_sign(characters, sign) {
+            return Some((*kind, rest));
+        }
+    }
+    None
+}
 
 /// What follows a sign that white space stands around.
 fn after_spaced<'c>(characters: &'c [char], sign: &[char], spaced: bool) -> Option<&'c [char]>
@@ -26,160 +67,109 @@ fn after_spaced<'c>(characters: &'c [char], sign: &[char], spaced: bool) -> Opti
 }
 
 /// The comparison that the characters begin with, and what follows it.
-fn comparison(characters: &[char], spaced: bool) -> Option<(Token, &[char])>
+fn comparison(characters: &[char], spaced: bool) -> Option<(Operator, &[char])>
     ensures value { (other : _) → next_comparison spaced characters.now other ≡
-        (if is_some result then option_map (λ r. (r.0, r.1.now)) result else other) }
+        (if is_some result then option_map (λ r. (Comparison r.0, r.1.now)) result else other) }
     ensures shorter { IfSome result (λ r. length r.1.now < length characters.now) }
 {
-    if let Some(rest) = after_spaced(characters, &['<', '='], spaced) {
-        return Some((Token::Comparison(Operator::AtMost), rest));
+    for (sign, operator) in COMPARISONS.as_slice() {
+        if let Some(rest) = after_spaced(characters, sign, spaced) {
+            return Some((*operator, rest));
+        }
     }
-    if let Some(rest) = after_spaced(characters, &['>', '='], spaced) {
-        return Some((Token::Comparison(Operator::AtLeast), rest));
-    }
-    if let Some(rest) = after_spaced(characters, &['<'], spaced) {
-        return Some((Token::Comparison(Operator::Below), rest));
-    }
-    let rest = after_spaced(characters, &['>'], spaced)?;
-    Some((Token::Comparison(Operator::Above), rest))
+    None
 }
 
-/// The longest other sign that the characters begin with, and what follows it.
-fn sign(characters: &[char]) -> Option<(Token, &[char])>
-    ensures value { (other : _) → next_sign characters.now other ≡
-        (if is_some result then option_map (λ r. (r.0, r.1.now)) result else other) }
-    ensures shorter { IfSome result (λ r. length r.1.now < length characters.now) }
-{
-    if let Some(rest) = after_sign(characters, &['=', '=', '=']) {
-        return Some((Token::Equal, rest));
-    }
-    if let Some(rest) = after_sign(characters, &['!', '=', '=']) {
-        return Some((Token::Unequal, rest));
-    }
-    if let Some(rest) = after_sign(characters, &['=', '=']) {
-        return Some((Token::Equal, rest));
-    }
-    if let Some(rest) = after_sign(characters, &['!', '=']) {
-        return Some((Token::Unequal, rest));
-    }
-    if let Some(rest) = after_sign(characters, &['=', '~']) {
-        return Some((Token::Like, rest));
-    }
-    if let Some(rest) = after_sign(characters, &['&', '&']) {
-        return Some((Token::And, rest));
-    }
-    if let Some(rest) = after_sign(characters, &['|', '|']) {
-        return Some((Token::Or, rest));
-    }
-    if let Some(rest) = after_sign(characters, &['!']) {
-        return Some((Token::Not, rest));
-    }
-    if let Some(rest) = after_sign(characters, &['(']) {
-        return Some((Token::Open, rest));
-    }
-    let rest = after_sign(characters, &[')'])?;
-    Some((Token::Close, rest))
-}
-
-/// The text of a pattern up to the `/` that closes it, and what begins there. A backslash and the
+/// A pattern's characters up to the `/` that closes it, and what begins there. A backslash and the
 /// character behind it are one pair, and inside `[..]` a `/` closes nothing.
-fn read_pattern(alloc: Global, characters: &[char]) -> Result<(Text, &[char]), NoMemory>
-    ensures text { IfOk result (λ r. r.0 ≡ bytes_of (pattern_text false false characters.now)) }
-    ensures rest { IfOk result (λ r. r.1.now ≡ from_close false false characters.now) }
-    ensures len { IfOk result (λ r. length r.1.now ≤ length characters.now) }
+fn split_pattern(characters: &[char]) -> (&[char], &[char])
+    ensures front { result.0.now ≡ up_to_close false false characters.now }
+    ensures rest { result.1.now ≡ from_close false false characters.now }
+    ensures len { length result.1.now ≤ length characters.now }
 {
-    let mut text = String::new(alloc);
     let mut escaped = false;
     let mut in_class = false;
     for (i, character) in characters.iter().enumerate() {
         if escaped {
-            if *character != '/' {
-                text.push('\\')?;
-            }
-            text.push(*character)?;
             escaped = false;
         } else if *character == '\\' {
             escaped = true;
         } else {
             if *character == '/' && !in_class {
-                return Ok((Text::from_string(text), &characters[i..]));
+                return (&characters[..i], &characters[i..]);
             }
-            text.push(*character)?;
             in_class = *character == '[' || (in_class && *character != ']');
         }
     }
-    Ok((Text::from_string(text), &characters[characters.len()..]))
+    (characters, &characters[characters.len()..])
 }
 
 /// The pattern behind its first `/`.
-fn pattern(alloc: Global, characters: &[char]) -> Result<(Token, &[char]), WhenFault>
-    ensures ok { IfOk result (λ r. next_pattern characters.now ≡ Some (r.0, r.1.now)) }
-    ensures shorter { IfOk result (λ r. length r.1.now < length characters.now) }
-    ensures err { IfErr result (IsBadToken (next_pattern characters.now)) }
+fn pattern(characters: &[char]) -> Option<(Piece<'_>, &[char])>
+    ensures value { option_map (λ r. (token_of r.0, r.1.now)) result ≡ next_pattern characters.now }
+    ensures shorter { IfSome result (λ r. length r.1.now < length characters.now) }
 {
-    let (text, more) = read_pattern(alloc, characters)?;
-    let Some((_, more)) = more.split_first() else {
-        return Err(WhenFault::BadToken);
-    };
-    let (flags, rest) = read_until(alloc, more, Until::NoLetter)?;
-    Ok((Token::Pattern(text, flags), rest))
+    let (text, more) = split_pattern(characters);
+    let (_, more) = more.split_first()?;
+    let (flags, rest) = split_run(more, Until::NoLetter);
+    Some((Piece::Pattern(text, flags), rest))
 }
 
 /// The quoted text behind its first quote.
-fn quotation(alloc: Global, characters: &[char]) -> Result<(Token, &[char]), WhenFault>
-    ensures ok { IfOk result (λ r. next_quoted characters.now ≡ Some (r.0, r.1.now)) }
-    ensures shorter { IfOk result (λ r. length r.1.now < length characters.now) }
-    ensures err { IfErr result (IsBadToken (next_quoted characters.now)) }
+fn quotation(characters: &[char]) -> Option<(Piece<'_>, &[char])>
+    ensures value { option_map (λ r. (token_of r.0, r.1.now)) result ≡ next_quoted characters.now }
+    ensures shorter { IfSome result (λ r. length r.1.now < length characters.now) }
 {
-    let (text, more) = read_until(alloc, characters, Until::Quote)?;
-    let Some((_, rest)) = more.split_first() else {
-        return Err(WhenFault::BadToken);
-    };
-    Ok((Token::Quoted(text), rest))
+    let (text, more) = split_run(characters, Until::Quote);
+    let (_, rest) = more.split_first()?;
+    Some((Piece::Quoted(text), rest))
 }
 
 /// The word that the characters begin with, if they begin with one.
-fn word(alloc: Global, characters: &[char]) -> Result<(Token, &[char]), WhenFault>
-    ensures ok { IfOk result (λ r. next_word characters.now ≡ Some (r.0, r.1.now)) }
-    ensures shorter { IfOk result (λ r. length r.1.now < length characters.now) }
-    ensures err { IfErr result (IsBadToken (next_word characters.now)) }
+fn word(characters: &[char]) -> Option<(Piece<'_>, &[char])>
+    ensures value { option_map (λ r. (token_of r.0, r.1.now)) result ≡ next_word characters.now }
+    ensures shorter { IfSome result (λ r. length r.1.now < length characters.now) }
 {
-    let Some((first, _)) = characters.split_first() else {
-        return Err(WhenFault::BadToken);
-    };
-    if ends_word(*first) {
-        return Err(WhenFault::BadToken);
+    let (text, rest) = split_run(characters, Until::WordEnd);
+    if text.is_empty() {
+        return None;
     }
-    let (text, rest) = read_until(alloc, characters, Until::WordEnd)?;
-    Ok((Token::Word(text), rest))
+    Some((Piece::Word(text), rest))
 }
 
-/// The token that the characters begin with, where white space stands before them or doesn't, and
+/// The piece that the characters begin with, where white space stands before them or doesn't, and
 /// the token before is `=~` or isn't.
-fn next_token(
-    alloc: Global,
+fn next_piece(characters: &[char], spaced: bool, behind_like: bool) -> Option<(Piece<'_>, &[char])>
+    ensures value { option_map (λ r. (token_of r.0, r.1.now)) result ≡
+        next_token spaced behind_like characters.now }
+    ensures shorter { IfSome result (λ r. length r.1.now < length characters.now) }
+{
+    if let Some((operator, rest)) = comparison(characters, spaced) {
+        return Some((Piece::Sign(Sign::Comparison(operator)), rest));
+    }
+    if let Some((sign, rest)) = sign(characters) {
+        return Some((Piece::Sign(sign), rest));
+    }
+    if behind_like && let Some(rest) = after_sign(characters, &['/']) {
+        return pattern(rest);
+    }
+    if let Some(rest) = after_sign(characters, &['\'']) {
+        return quotation(rest);
+    }
+    word(characters)
+}
+
+/// The next piece, or `BadToken` where there is none.
+fn read_piece(
     characters: &[char],
     spaced: bool,
     behind_like: bool,
-) -> Result<(Token, &[char]), WhenFault>
-    ensures ok { IfOk result (λ r.
-        next_token spaced behind_like characters.now ≡ Some (r.0, r.1.now)) }
+) -> Result<(Piece<'_>, &[char]), WhenFault>
+    ensures value { seen (λ r. (token_of r.0, r.1.now)) result ≡
+        or_fault BadToken (next_token spaced behind_like characters.now) }
     ensures shorter { IfOk result (λ r. length r.1.now < length characters.now) }
-    ensures err { IfErr result (IsBadToken (next_token spaced behind_like characters.now)) }
 {
-    if let Some((token, rest)) = comparison(characters, spaced) {
-        return Ok((token, rest));
-    }
-    if let Some((token, rest)) = sign(characters) {
-        return Ok((token, rest));
-    }
-    if behind_like && let Some(rest) = after_sign(characters, &['/']) {
-        return pattern(alloc, rest);
-    }
-    if let Some(rest) = after_sign(characters, &['\'']) {
-        return quotation(alloc, rest);
-    }
-    word(alloc, characters)
+    next_piece(characters, spaced, behind_like).ok_or(WhenFault::BadToken)
 }
 
 fn is_like(token: &Token) -> bool
@@ -203,7 +193,7 @@ fn characters_of(alloc: Global, text: &str) -> Result<Vec<char>, NoMemory>
 /// The tokens of a text. `BadToken` (30) where one can't be read; `NoMemory` (5).
 pub(crate) fn tokenize(alloc: Global, text: &str) -> Result<Vec<Token>, WhenFault>
     ensures ok { IfOk result (λ tokens. tokens_of text.now ≡ Some tokens.items) }
-    ensures err { IfErr result (IsBadToken (tokens_of text.now)) }
+    ensures err { IfErr result (IsRefusal (tokens_or_fault text.now)) }
 {
     let characters = characters_of(alloc, text)?;
     let mut tokens = Vec::new(alloc);
@@ -211,7 +201,8 @@ pub(crate) fn tokenize(alloc: Global, text: &str) -> Result<Vec<Token>, WhenFaul
     let mut behind_like = false;
     let mut rest = skip_blanks(&characters);
     while !rest.is_empty() {
-        let (token, more) = next_token(alloc, rest, spaced, behind_like)?;
+        let (piece, more) = read_piece(rest, spaced, behind_like)?;
+        let token = piece.token(alloc)?;
         behind_like = is_like(&token);
         tokens.push(token)?;
         spaced = begins_blank(more);

@@ -1,6 +1,6 @@
 use Rattle.std.proofs.Common.{◌+◌, ◌*◌, length, map}
 use Rattle.kb_when.specs.Tree.{clause_of}
-use Rattle.kb_when.proofs.SeveralLemmas.{AllSoFar, AnySoFar}
+use Rattle.kb_when.proofs.DescentLemmas.{AllSoFar, AnySoFar}
 use Rattle.kb_when.proofs.parser.+descent.Given as goal
 
 abbrev pub decreases-operand : goal.decreases-operand

@@ -1,7 +1,7 @@
 use Rattle.std.proofs.Common.{map, arith, ◌∙◌}
 use Rattle.std.proofs.lemmas.List.{length-map}
 use Rattle.kb_when.specs.Tree.{clause_of}
-use Rattle.kb_when.proofs.MembersLemmas.{any_of-several}
+use Rattle.kb_when.proofs.DescentLemmas.{any_of-several}
 use Rattle.kb_when.proofs.parser.joined_by_or.Goals as goal
 
 pub returns : goal.returns

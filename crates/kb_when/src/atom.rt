@@ -1,0 +1,256 @@
+//! Atoms: a key alone, or a key with what it is compared with, by the words of the tokens. What is
+//! read here takes no memory, so that each fault is the reading's.
+ghost use Rattle.std.specs.Prelude.{◌≡◌, ◌∷◌, [], IfOk, IfErr, MatchOption, if◌then◌else◌};
+ghost use Rattle.kb_when.specs.Clause.{not_of, equals, member};
+ghost use Rattle.kb_when.specs.Words.{is_equal, is_unequal};
+ghost use Rattle.kb_when.specs.Reading.{behind_key, behind_not, at_value, at_other, at_number};
+ghost use Rattle.kb_when.specs.Parser.{clause_of_atom, clause_of_condition, ReadsAtom, FailsAt};
+
+use crate::fault::WhenFault;
+use crate::number::read_number;
+use crate::operator::Operator;
+use crate::token::Token;
+use crate::tree::Tree;
+use crate::words::{is_reserved, is_word};
+use kb_context::{NoMemory, Text};
+use std::alloc::Global;
+
+/// An atom, whose words the tokens own.
+#[derive(Clone, Copy)]
+pub(crate) enum Atom<'t> {
+    /// `true`.
+    True,
+    /// `false`.
+    False,
+    /// A key alone.
+    Key(&'t Text),
+    /// A key and the text that its value is to be.
+    Equals(&'t Text, &'t Text),
+    /// A key and the number that its value is compared with.
+    Compare(&'t Text, Operator, i64),
+    /// A key, and the key of the list or object in which its value is to be.
+    Member(&'t Text, &'t Text),
+}
+
+/// An atom that is to hold, or that isn't.
+#[derive(Clone, Copy)]
+pub(crate) struct Condition<'t> {
+    /// Whether the atom isn't to hold.
+    pub(crate) negated: bool,
+    /// The atom.
+    pub(crate) atom: Atom<'t>,
+}
+
+/// The first token, and those behind it.
+pub(crate) fn next(tokens: &[Token]) -> Option<(&Token, &[Token])>
+    ensures { MatchOption result (tokens.now ≡ []) (λ p. tokens.now ≡ p.0.now ∷ p.1.now) }
+{
+    tokens.split_first()
+}
+
+/// A key with what stands behind it.
+pub(crate) fn key_tail<'t>(
+    key: &'t Text,
+    tokens: &'t [Token],
+) -> Result<(Condition<'t>, &'t [Token]), WhenFault>
+    ensures ok { IfOk result (λ r.
+        ReadsAtom (behind_key key.now) tokens.now (clause_of_condition r.0) r.1.now) }
+    ensures err { IfErr result (FailsAt (behind_key key.now) tokens.now) }
+{
+    let Some((first, rest)) = next(tokens) else {
+        return Ok((plain(Atom::Key(key)), tokens));
+    };
+    match first {
+        Token::Equal => value(key, true, rest),
+        Token::Unequal => value(key, false, rest),
+        Token::Comparison(operator) => number(key, *operator, rest),
+        Token::Word(word) => {
+            if is_word(word, "in") {
+                return other(key, true, rest);
+            }
+            if is_word(word, "not") {
+                return no_member(key, rest);
+            }
+            Err(WhenFault::Unexpected)
+        }
+        _ => Ok((plain(Atom::Key(key)), tokens)),
+    }
+}
+
+/// An atom that is to hold.
+pub(crate) fn plain(atom: Atom<'_>) -> Condition<'_>
+    ensures { clause_of_condition result ≡ clause_of_atom atom.entry }
+{
+    Condition {
+        negated: false,
+        atom,
+    }
+}
+
+/// The value behind `==`, or behind `!=`.
+fn value<'t>(
+    key: &'t Text,
+    equal: bool,
+    tokens: &'t [Token],
+) -> Result<(Condition<'t>, &'t [Token]), WhenFault>
+    ensures ok { IfOk result (λ r.
+        ReadsAtom (at_value equal key.now) tokens.now (clause_of_condition r.0) r.1.now) }
+    ensures err { IfErr result (FailsAt (at_value equal key.now) tokens.now) }
+{
+    let Some((first, rest)) = next(tokens) else {
+        return Err(WhenFault::Unexpected);
+    };
+    match first {
+        Token::Word(value) => Ok((equal_word(key, equal, value), rest)),
+        Token::Quoted(value) => Ok((equal_text(key, equal, value), rest)),
+        _ => Err(WhenFault::Unexpected),
+    }
+}
+
+/// A key that is to be the text, or isn't.
+fn equal_text<'t>(key: &'t Text, equal: bool, value: &'t Text) -> Condition<'t>
+    ensures { clause_of_condition result ≡
+        (if equal then equals key.now value.now else not_of (equals key.now value.now)) }
+{
+    Condition {
+        negated: !equal,
+        atom: Atom::Equals(key, value),
+    }
+}
+
+/// A key that is to be the word, or isn't. `true` and `false` ask whether the key holds.
+fn equal_word<'t>(key: &'t Text, equal: bool, value: &'t Text) -> Condition<'t>
+    ensures { clause_of_condition result ≡
+        (if equal then is_equal key.now value.now else is_unequal key.now value.now) }
+{
+    if is_word(value, "true") {
+        return Condition {
+            negated: !equal,
+            atom: Atom::Key(key),
+        };
+    }
+    if is_word(value, "false") {
+        return Condition {
+            negated: equal,
+            atom: Atom::Key(key),
+        };
+    }
+    equal_text(key, equal, value)
+}
+
+/// The number behind a comparison.
+fn number<'t>(
+    key: &'t Text,
+    operator: Operator,
+    tokens: &'t [Token],
+) -> Result<(Condition<'t>, &'t [Token]), WhenFault>
+    ensures ok { IfOk result (λ r.
+        ReadsAtom (at_number operator key.now) tokens.now (clause_of_condition r.0) r.1.now) }
+    ensures err { IfErr result (FailsAt (at_number operator key.now) tokens.now) }
+{
+    let Some((first, rest)) = next(tokens) else {
+        return Err(WhenFault::Unexpected);
+    };
+    match first {
+        Token::Word(word) => match read_number(word.as_str()) {
+            Some(number) => Ok((plain(Atom::Compare(key, operator, number)), rest)),
+            None => Err(WhenFault::BadNumber),
+        },
+        Token::Quoted(_) => Err(WhenFault::BadNumber),
+        _ => Err(WhenFault::Unexpected),
+    }
+}
+
+/// The other key behind `in`, or behind `not in`.
+fn other<'t>(
+    key: &'t Text,
+    inside: bool,
+    tokens: &'t [Token],
+) -> Result<(Condition<'t>, &'t [Token]), WhenFault>
+    ensures ok { IfOk result (λ r.
+        ReadsAtom (at_other inside key.now) tokens.now (clause_of_condition r.0) r.1.now) }
+    ensures err { IfErr result (FailsAt (at_other inside key.now) tokens.now) }
+{
+    let Some((first, rest)) = next(tokens) else {
+        return Err(WhenFault::Unexpected);
+    };
+    match first {
+        Token::Word(word) => {
+            if is_reserved(word) {
+                return Err(WhenFault::Unexpected);
+            }
+            Ok((among(key, inside, word), rest))
+        }
+        _ => Err(WhenFault::Unexpected),
+    }
+}
+
+/// A key whose value is to be in another key's, or isn't.
+fn among<'t>(key: &'t Text, inside: bool, other: &'t Text) -> Condition<'t>
+    ensures { clause_of_condition result ≡
+        (if inside then member key.now other.now else not_of (member key.now other.now)) }
+{
+    Condition {
+        negated: !inside,
+        atom: Atom::Member(key, other),
+    }
+}
+
+/// `in` and the other key, behind `not`.
+fn no_member<'t>(
+    key: &'t Text,
+    tokens: &'t [Token],
+) -> Result<(Condition<'t>, &'t [Token]), WhenFault>
+    ensures ok { IfOk result (λ r.
+        ReadsAtom (behind_not key.now) tokens.now (clause_of_condition r.0) r.1.now) }
+    ensures err { IfErr result (FailsAt (behind_not key.now) tokens.now) }
+{
+    let Some((first, rest)) = next(tokens) else {
+        return Err(WhenFault::Unexpected);
+    };
+    match first {
+        Token::Word(word) => {
+            if !is_word(word, "in") {
+                return Err(WhenFault::Unexpected);
+            }
+            other(key, false, rest)
+        }
+        _ => Err(WhenFault::Unexpected),
+    }
+}
+
+impl Atom<'_> {
+    ghost use Rattle.kb_when.specs.Tree.{clause_of};
+    ghost use Rattle.kb_when.specs.Parser.{clause_of_atom};
+
+    fn tree(self) -> Result<Tree, NoMemory>
+        ensures { IfOk result (λ t. clause_of t ≡ clause_of_atom self.entry) }
+    {
+        match self {
+            Atom::True => Ok(Tree::always()),
+            Atom::False => Ok(Tree::never()),
+            Atom::Key(key) => Ok(Tree::key(key.copied()?)),
+            Atom::Equals(key, value) => Ok(Tree::equal(key.copied()?, value.copied()?)),
+            Atom::Compare(key, operator, number) => {
+                Ok(Tree::compare(key.copied()?, operator, number))
+            }
+            Atom::Member(key, other) => Ok(Tree::member(key.copied()?, other.copied()?)),
+        }
+    }
+}
+
+impl Condition<'_> {
+    ghost use Rattle.kb_when.specs.Tree.{clause_of};
+    ghost use Rattle.kb_when.specs.Parser.{clause_of_condition};
+
+    /// The tree of the atom, which takes memory for its words.
+    pub(crate) fn tree(self, alloc: Global) -> Result<Tree, NoMemory>
+        ensures { IfOk result (λ t. clause_of t ≡ clause_of_condition self.entry) }
+    {
+        let tree = self.atom.tree()?;
+        if !self.negated {
+            return Ok(tree);
+        }
+        Ok(Tree::negation(Box::new(alloc, tree)?))
+    }
+}
