@@ -27,6 +27,10 @@ class Edit:
     def name(self):
         return os.path.basename(self.file)
 
+    @property
+    def path(self):
+        return "/".join(self.file.split("/")[-4:])
+
 
 def read_edit(file, folder, functions):
     """An edit of the crate in this folder, which has these functions."""

@@ -14,7 +14,7 @@ import re
 
 FUNCTION = re.compile(r"^fn (\S+): (.*)$")
 ITEM = re.compile(r"^(?:impl|enum|struct|trait|type) (\S+): (.*)$")
-ERROR = re.compile(r"^(?:\./)?(\S+?):\d+:\d+: error\S*: (?:`([^`]*)`: )?(.*)$")
+ERROR = re.compile(r"^(?:\./)?(\S+?):\d+:\d+: error\S*: (?:`([^`]*)`: )?")
 GOAL = re.compile(r"^note: (?:\./)?(src/\S+?):(\d+):\d+: it is not proved that .*\(`([^`]*)`\)")
 # An error that only says that a proof names what an edit took away, or rests on a proof that does.
 NAMES = re.compile(r"has no field|is not in scope|has no `|was not admitted")
@@ -77,7 +77,7 @@ class Said:
             if of_item.unread or not (of_item.is_proved or of_item.waits):
                 self.stray.append(line)
         elif found := ERROR.match(line):
-            self.read_error(line, found[1], found[2] or found[3][:60])
+            self.read_error(line, found[1], found[2])
         elif found := GOAL.match(line):
             inside = [it for it in self.functions if it.file == found[1] and it.spans(int(found[2]))]
             if inside:
@@ -97,7 +97,8 @@ class Said:
             self.stray.append(line)
         elif NAMES.search(line) or file.endswith("/Invariants.antt"):
             self.found[unit].lacks_names = True
-        else:
+        elif goal:
+            # (without a name it tells of what rests on an answer that failed)
             self.found[unit].goals.append(goal)
 
 

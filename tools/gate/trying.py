@@ -17,14 +17,24 @@ so that no edit passes for refused because of another edit of its batch:
 """
 
 import dataclasses
+import os
+import shutil
+import tempfile
+import threading
 import time
 
-from gate.edits import texts_with
-from gate.kit import rt
+from gate.edits import edits_of, texts_with
+from gate.kit import built_libraries, rt
 from gate.said import Said
-from gate.source import named_in
+from gate.source import functions_of, named_in
 
 FLAGS = ["--jobs", "1"]
+printing = threading.Lock()
+
+
+def say(line):
+    with printing:
+        print(line, flush=True)
 
 
 @dataclasses.dataclass
@@ -142,7 +152,8 @@ class Crate:
             return
         self.pending.remove(edit)
         if unit in said.named and not verdict.is_proved and verdict.goals and not (verdict.waits or verdict.unread):
-            self.judged(Tried(edit, True, f"refused in batch {number}: `{verdict.goals[0]}` of {unit}", number))
+            less = " (a proof file also names what the edit took away)" if verdict.lacks_names else ""
+            self.judged(Tried(edit, True, f"refused in batch {number}: `{verdict.goals[0]}` of {unit}{less}", number))
 
     def try_alone(self, edit):
         """Judges an edit as rt does a must-fail edit: over the kept work, and from nothing where it isn't refused."""
@@ -172,3 +183,36 @@ def trouble_in(ran, said, batch, texts):
         if unit not in changed and (verdict.goals or verdict.lacks_names or verdict.unread):
             return f"`{unit}` fails, which no edit changes"
     return ""
+
+
+def try_crate(crate, functions, edits, is_kept):
+    """Tries a crate's edits over a folder of kept work."""
+    with tempfile.TemporaryDirectory(prefix="wrong-bodies-") as folder:
+        if is_kept:
+            checked, folder = (os.path.join(crate.folder, "out", it) for it in ("incremental", "edits"))
+            if os.path.isdir(checked) and not os.path.isdir(folder):
+                shutil.copytree(checked, folder)
+            os.makedirs(folder, exist_ok=True)
+        return Crate(crate, functions, edits, folder, say).try_all()
+
+
+def try_crates(crates, is_kept=False):
+    """Tries the wrong bodies of these crates side by side, and says whether all are refused."""
+    tasks, chosen = {}, []
+    for crate in crates:
+        functions = functions_of(crate)
+        edits = edits_of(crate, functions, ["wrong-bodies"])
+        if edits:
+            chosen.append(crate)
+            call = lambda given, jobs, it=(crate, functions, edits): try_crate(*it, is_kept)
+            tasks[crate.name, "edits"] = ([], len(edits) * crate.count(rb"\n"), rt.need(crate), call)
+    if not built_libraries(chosen):
+        say("a library was not built")
+        return False
+    found = [it for results in rt.in_lanes(tasks).values() for it in results]
+    for it in found:
+        if not it.is_refused or it.says_little:
+            say(f"{'says little' if it.is_refused else 'NOT REFUSED'}: {it.edit.path}: {it.text}")
+    refused = sum(it.is_refused for it in found)
+    say(f"{refused} refused, {len(found) - refused} not")
+    return refused == len(found)
