@@ -20,7 +20,7 @@ class Function:
     owner: str
     trait: str
     name: str
-    # The lines of its head's first word, of its opening brace and of its closing one.
+    # The lines of its first attribute or word, of its opening brace and of its closing one.
     head: int
     opens: int
     closes: int
@@ -98,11 +98,12 @@ def impl_at(words, at):
 
 
 def attributes(words, at):
-    """The words before this place that belong to the same item."""
+    """The words before this place that belong to the same item, and the line where it begins."""
     start = at
-    while start and words[start - 1][1] not in ("{", "}", ";"):
+    # (of a ghost item only its first word is code)
+    while start and words[start - 1][1] not in ("{", "}", ";", "ghost"):
         start -= 1
-    return [it for _, it in words[start:at]]
+    return [it for _, it in words[start:at]], words[start][0]
 
 
 def module_of(file):
@@ -114,7 +115,7 @@ def functions_in(file, folder):
     """The functions of one source, an inner one before the one that it stands in."""
     words = words_of(os.path.join(folder, file))
     found, blocks = [], []
-    for place, (line, word) in enumerate(words):
+    for place, (_, word) in enumerate(words):
         while blocks and place > blocks[-1][0]:
             blocks.pop()
         if word == "impl" and (place == 0 or words[place - 1][1] in ("}", ";", "]", "unsafe")):
@@ -122,11 +123,11 @@ def functions_in(file, folder):
         opened = body_at(words, place + 1) if word == "fn" and re.match(r"\w", words[place + 1][1]) else None
         if opened is None:
             continue
-        end, before = closing(words, opened), attributes(words, place)
+        end, (before, head) = closing(words, opened), attributes(words, place)
         cycle = before[before.index("cycle") + 2] if "cycle" in before else ""
         public = "pub" in before and before[before.index("pub") + 1 : before.index("pub") + 2] != ["("]
         owner, trait = blocks[-1][1:] if blocks else ("", "")
-        where = (line, words[opened][0], words[end][0])
+        where = (head, words[opened][0], words[end][0])
         texts = [[it for _, it in words[start:stop]] for start, stop in ((opened, end), (place, opened))]
         found.append(Function(file, module_of(file), owner, trait, words[place + 1][1], *where, cycle, public, "const" in before, "test" in before, *texts))
     return sorted(found, key=lambda it: it.closes - it.opens)
