@@ -20,6 +20,7 @@ GOAL = re.compile(r"^note: (?:\./)?(src/\S+?):(\d+):\d+: it is not proved that .
 NAMES = re.compile(r"has no field|is not in scope|has no `|was not admitted")
 SEARCHED = re.compile(r"^`search` did not prove (`.*`)$")
 WAITS = re.compile(r"^it (?:calls|passes the blocks?|waits for the proof of) (`.*`)(?:, which (?:is|are) not proved)?$")
+IN_CYCLE = re.compile(r"^in `[^`]*`, of this cycle of calls: ")
 LACKS = re.compile(r"^(?:not proved|no proof|expected answers in \S+)$")
 
 
@@ -108,6 +109,7 @@ def read_parts(text, verdict):
         return
     verdict.is_proved = False
     for part in text.removeprefix("no proof: ").split("; "):
+        part = IN_CYCLE.sub("", part)
         if found := SEARCHED.match(part):
             verdict.goals += re.findall(r"`([^`]*)`", found[1])
         elif found := WAITS.match(part):

@@ -139,6 +139,9 @@ class Reading(unittest.TestCase):
         found = said("./proofs/a/+ring/Answers.antt:3:5: error: `returns`: the two types differ", ring)
         self.assertEqual(found.found["a::+ring"].goals, ["returns"])
         self.assertEqual(found.found["a::+ring"].waits, set())
+        found = said("fn tiny::a::one_of_ring: no proof: in `tiny::a::two_of_ring`, of this cycle of calls: it calls `tiny::a::other`, which is not proved")
+        self.assertEqual(found.found["a::+ring"].waits, {"a::other"})
+        self.assertEqual(trouble(found, "a::callee"), "")
 
 
 def write(path, text):
