@@ -53,15 +53,15 @@ pub fn same(given: u8) -> u8
     given
 }
 """
-# What each edit replaces, and how it must be judged: refused, in which batch (0: alone), or not.
+# What each edit replaces, and how it must be judged.
 EDITS = {
-    "callee_adds_two": ("    number + 1", "    number + 2", 0),
-    "callee_adds_none": ("    number + 1", "    number", 1),
-    "caller_by_other_words": ("next(next(number))", "next(number) + 1", None),
-    "caller_of_caller_adds_two": ("next(second_next(number))", "second_next(number)", 0),
-    "number_is_lost": ("    given", "    0", 1),
-    "constant_is_four": ("LIMIT: u8 = 3", "LIMIT: u8 = 4", 0),
-    "text_is_not_there": ("LIMIT: u9", "LIMIT: u8", None),
+    "callee_adds_two": ("    number + 1", "    number + 2", "in a batch"),
+    "callee_adds_none": ("    number + 1", "    number", "in a batch"),
+    "caller_by_other_words": ("next(next(number))", "next(number) + 1", "not refused"),
+    "caller_of_caller_adds_two": ("next(second_next(number))", "second_next(number)", "in a batch"),
+    "number_is_lost": ("    given", "    0", "in a batch"),
+    "constant_is_four": ("LIMIT: u8 = 3", "LIMIT: u8 = 4", "alone"),
+    "text_is_not_there": ("LIMIT: u9", "LIMIT: u8", "not refused"),
 }
 FUNCTIONS = {"callee": 8, "caller": 16, "other": 24, "one_of_ring": 32, "two_of_ring": 40}
 
@@ -84,7 +84,7 @@ def function(name, head):
 
 def said(*lines):
     functions = [function(*it) for it in FUNCTIONS.items()]
-    return Said("\n".join([*lines, "logic=not-proved", ""]), types.SimpleNamespace(name="tiny"), functions)
+    return Said("\n".join([*lines, "only=5 proved=4", ""]), types.SimpleNamespace(name="tiny"), functions)
 
 
 def trouble(found, *units):
@@ -170,8 +170,11 @@ class Trying(unittest.TestCase):
             trial = Blind(crate, functions, edits_of(crate, functions, ["wrong-bodies"]), kept, lines.append)
             for it in trial.try_all():
                 with self.subTest(it.edit.name, lines="\n".join(lines)):
-                    batch = EDITS[it.edit.name.removesuffix(".edit")][2]
-                    self.assertEqual((it.is_refused, it.batch), (batch is not None, batch or 0))
+                    how = ("in a batch" if it.batch else "alone") if it.is_refused else "not refused"
+                    self.assertEqual(how, EDITS[it.edit.name.removesuffix(".edit")][2])
+            # Two edits of a function, and a caller with its callee, stand in different batches.
+            batches = [it.batch for it in trial.results.values() if it.edit.function and it.edit.function.name != "same" and it.batch]
+            self.assertEqual(len(batches), len({*batches}))
 
 
 def main():

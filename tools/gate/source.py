@@ -28,9 +28,8 @@ class Function:
     cycle: str
     is_public: bool
     is_const: bool
-    is_test: bool
-    tokens: list
     signature: list
+    tokens: list
     # The path of the proof that it has alone, or with its cycle, below the crate.
     unit: str = ""
 
@@ -111,26 +110,44 @@ def module_of(file):
     return "" if path in ("lib", "main") else path.replace("/", "::")
 
 
+def function_at(words, place, file, owner, trait):
+    """The function whose keyword stands here, or nothing where it has no body."""
+    opened = body_at(words, place + 1)
+    if opened is None:
+        return None
+    closed = closing(words, opened)
+    before, head = attributes(words, place)
+    return Function(
+        file=file,
+        module=module_of(file),
+        owner=owner,
+        trait=trait,
+        name=words[place + 1][1],
+        head=head,
+        opens=words[opened][0],
+        closes=words[closed][0],
+        cycle=before[before.index("cycle") + 2] if "cycle" in before else "",
+        # (pub(crate) isn't public)
+        is_public="pub" in before and not before[before.index("pub") + 1 :][:1] == ["("],
+        is_const="const" in before,
+        signature=[it for _, it in words[place:opened]],
+        tokens=[it for _, it in words[opened:closed]],
+    )
+
+
 def functions_in(file, folder):
     """The functions of one source, an inner one before the one that it stands in."""
     words = words_of(os.path.join(folder, file))
-    found, blocks = [], []
+    found, blocks = [], [(len(words), "", "")]
     for place, (_, word) in enumerate(words):
-        while blocks and place > blocks[-1][0]:
+        while place > blocks[-1][0]:
             blocks.pop()
         if word == "impl" and (place == 0 or words[place - 1][1] in ("}", ";", "]", "unsafe")):
             blocks.append((closing(words, body_at(words, place)), *impl_at(words, place)))
-        opened = body_at(words, place + 1) if word == "fn" and re.match(r"\w", words[place + 1][1]) else None
-        if opened is None:
-            continue
-        end, (before, head) = closing(words, opened), attributes(words, place)
-        cycle = before[before.index("cycle") + 2] if "cycle" in before else ""
-        public = "pub" in before and before[before.index("pub") + 1 : before.index("pub") + 2] != ["("]
-        owner, trait = blocks[-1][1:] if blocks else ("", "")
-        where = (head, words[opened][0], words[end][0])
-        texts = [[it for _, it in words[start:stop]] for start, stop in ((opened, end), (place, opened))]
-        found.append(Function(file, module_of(file), owner, trait, words[place + 1][1], *where, cycle, public, "const" in before, "test" in before, *texts))
-    return sorted(found, key=lambda it: it.closes - it.opens)
+        # (the type of a function is no function)
+        if word == "fn" and re.match(r"\w", words[place + 1][1]):
+            found.append(function_at(words, place, file, *blocks[-1][1:]))
+    return sorted(filter(None, found), key=lambda it: it.closes - it.opens)
 
 
 def homes_of_types(folder, files):

@@ -1,19 +1,20 @@
 """Tries a crate's wrong bodies, many at once.
 
 A function is proved from the contracts of what it calls, never from their bodies, so the wrong bodies of several
-functions are tried by one check of a copy that has them all. What such a check may tell of an edit is held to this,
-so that no edit passes for refused because of another edit of its batch:
+functions are tried by one check, of a copy that has them all and of those functions alone. What such a check may tell
+of an edit is held to this, so that no edit passes for refused because of another edit of its batch:
 
-- An edit changes the body of one function, which isn't const. Any other is tried alone, and so is any second one of
-  a function or of functions that share one proof (a cycle): they stand in different batches.
+- An edit changes the body of one function, which isn't const. Any other is tried alone, and any second one of
+  a function, or of functions that share one proof (a cycle), stands in another batch.
 - An edit is refused where the check names a goal of that very function: at its lines, in its folder of proofs/, or in
   its own line. A proof file that names what the edit took away is no such goal.
 - A function that waits for another one, which has no proof in this check, isn't judged: it may use the other as a
   value, or a law of it. It is tried again in a batch without what it waits for.
 - Where a goal of a function fails that no edit changes, or a lemma, the batch isn't judged: some edit reaches past its
   function. Its halves are tried, down to single edits.
-- What isn't refused so is tried alone, over the kept work and then from nothing, and judged as rt judges a must-fail edit.
-- In the end the crate itself must be proved over the kept work, or nothing that was tried counts.
+- What isn't refused so is tried alone, by a whole check over the kept work and then from nothing, and judged as rt
+  judges a must-fail edit.
+- In the end the functions themselves must be proved over the kept work, or nothing that was tried counts.
 """
 
 import dataclasses
@@ -92,12 +93,23 @@ class Crate:
         for edit in self.edits:
             if edit not in self.results:
                 self.try_alone(edit)
-        if rt.checked(self.crate, {}, FLAGS, self.kept).returncode:
+        if self.edits and not self.is_sound():
             self.say(f"{self.crate.name}: NOT REFUSED, any of them: the crate itself is not proved")
             self.results = {it: Tried(it, False, "the crate itself is not proved") for it in self.edits}
         counts = f"{len(self.edits)} edits, {self.batches} batches, {self.alone} alone"
         self.say(f"{self.crate.name}: {counts}, {time.time() - begun:.0f} s")
         return list(self.results.values())
+
+    def checked(self, texts, functions):
+        """Checks these functions of a copy of the crate with these files in it."""
+        names = [word for it in functions for word in ("--only", it.plain_name())]
+        return rt.checked(self.crate, texts, [*FLAGS, *names], self.kept)
+
+    def is_sound(self):
+        """Whether what was tried is proved without an edit."""
+        if self.alone:
+            return rt.checked(self.crate, {}, FLAGS, self.kept).returncode == 0
+        return self.checked({}, dict.fromkeys(it.function for it in self.edits if it.function)).returncode == 0
 
     def judged(self, tried):
         self.results[tried.edit] = tried
@@ -116,21 +128,21 @@ class Crate:
         return batch
 
     def try_batch(self, batch):
-        """Tries edits by one check, and takes those that it judges, or that nothing but a trial alone can judge, from what is left."""
-        if len(batch) == 1:
-            self.pending.remove(batch[0])
-            return
+        """Tries edits by one check, and takes what needs no other batch from what is left."""
         self.batches += 1
         number, begun = self.batches, time.time()
         texts = texts_with(batch, self.crate)
-        ran = rt.checked(self.crate, texts, FLAGS, self.kept)
+        ran = self.checked(texts, [it.function for it in batch])
         said = Said(ran.stdout, self.crate, self.functions)
         trouble = trouble_in(ran, said, batch, texts)
-        self.say(f"{self.crate.name}: batch {number} of {len(batch)} edits took {time.time() - begun:.0f} s{trouble and f', not judged: {trouble}'}")
+        took = f"took {time.time() - begun:.0f} s{trouble and f', not judged: {trouble}'}"
+        self.say(f"{self.crate.name}: batch {number} of {len(batch)} edits {took}")
         if trouble:
             half = len(batch) // 2
-            self.try_batch(batch[:half])
-            self.try_batch(batch[half:])
+            for part in (batch[:half], batch[half:]) if half else ():
+                self.try_batch(part)
+            if not half:
+                self.pending.remove(batch[0])
             return
         self.learn(said)
         for edit in batch:
@@ -172,7 +184,7 @@ def trouble_in(ran, said, batch, texts):
     """Why a check of these edits tells nothing of them, or an empty text."""
     if rt.rtlib.STALE.search(ran.stdout):
         return "the kept work of a library could not be used"
-    if not said.lines[-1].startswith("logic="):
+    if not said.lines[-1].startswith("only="):
         return f"it did not reach the prover: {next(iter(said.lines), '')[:120]}"
     if bad := next((it for it in said.lines if rt.unread(it, texts)), ""):
         return f"the prover cannot read an edited text: {bad[:120]}"
