@@ -37,7 +37,9 @@ def read_edit(file, folder, functions):
     with open(file, encoding="utf-8") as text:
         guards = next((it[len("guards:") :].strip() for it in text if it.startswith("guards:")), "")
     texts, fault = rt.read_edit(file, folder)
-    changed, lines = [], {}
+    if not file.endswith(".edit"):
+        texts, fault = {}, "its name doesn't end in .edit"
+    changed = []
     for path, text in (texts or {}).items():
         with open(os.path.join(folder, path), encoding="utf-8") as own:
             pairs = enumerate(zip(own.read().split("\n"), text.split("\n")), 1)
@@ -60,7 +62,7 @@ def edits_of(crate, functions, folders=FOLDERS):
     for folder in folders:
         path = os.path.join(crate.folder, folder)
         names = sorted(os.listdir(path)) if os.path.isdir(path) else []
-        found += [read_edit(os.path.join(path, it), crate.folder, functions) for it in names if it.endswith(".edit")]
+        found += [read_edit(os.path.join(path, it), crate.folder, functions) for it in names if not it.endswith(".md")]
     return found
 
 

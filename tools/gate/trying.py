@@ -106,10 +106,11 @@ class Crate:
         return rt.checked(self.crate, texts, [*FLAGS, *names], self.kept)
 
     def is_sound(self):
-        """Whether what was tried is proved without an edit."""
-        if self.alone:
-            return rt.checked(self.crate, {}, FLAGS, self.kept).returncode == 0
-        return self.checked({}, dict.fromkeys(it.function for it in self.edits if it.function)).returncode == 0
+        """Whether what was tried is proved without an edit: the functions, and the whole crate where it was checked."""
+        functions = {it.edit.function for it in self.results.values() if it.batch}
+        is_proved = lambda these: self.checked({}, these).returncode == 0
+        # (a check of no function in particular is one of the whole crate)
+        return (not functions or is_proved(functions)) and (not self.alone or is_proved(()))
 
     def judged(self, tried):
         self.results[tried.edit] = tried
