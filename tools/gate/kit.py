@@ -1,0 +1,60 @@
+"""The kit's rt as a module, the crates of a repository, and the libraries that their checks load.
+
+It may need a change when the kit changes.
+"""
+
+import importlib.machinery
+import importlib.util
+import os
+import sys
+
+TOP = os.path.dirname(os.path.dirname(os.path.dirname(os.path.abspath(__file__))))
+
+
+def load_rt():
+    loader = importlib.machinery.SourceFileLoader("rt", "/opt/rattle/bin/rt")
+    module = importlib.util.module_from_spec(importlib.util.spec_from_loader("rt", loader))
+    sys.modules["rt"] = module
+    loader.exec_module(module)
+    return module
+
+
+rt = load_rt()
+
+
+def crates_of(top):
+    """The crates that a repository's crates.txt names, lowest first."""
+    # (its first call sets a signal's handler, which only the main thread may)
+    rt.rtlib.guarded()
+    return sorted(rt.rtlib.crates_below(top), key=lambda it: len(it.below()))
+
+
+def built_from_nothing(crate):
+    """Whether the crate's library stands as rt ci built it, of the sources as they stand.
+
+    rt ci leaves no stamp. A library over kept work says so, and one that is older than a source is of other sources.
+    """
+    form = os.path.join(crate.rlib, "format")
+    if os.path.exists(os.path.join(os.path.dirname(crate.rlib), "stamp")) or not os.path.isfile(form):
+        return False
+    with open(form, encoding="utf-8") as lines:
+        if "incremental\n" in lines:
+            return False
+    sources = [file for it in [crate, *crate.below()] for file in rt.rtlib.files_of(it.folder)]
+    return all(os.path.getmtime(file) < os.path.getmtime(form) for file in sources)
+
+
+def built_libraries(crates):
+    """Builds the libraries below these crates where they don't stand, and says whether all do now.
+
+    What rt ci built is taken whole or not at all, since statements fit only the libraries that they were built over.
+    """
+    libraries = list(dict.fromkeys(dep for crate in crates for dep in crate.below()))
+    if all(built_from_nothing(it) for it in libraries):
+        return True
+    tasks = {}
+    for library in sorted(libraries, key=lambda it: len(it.below())):
+        waits = [(dep.name, "library") for dep in library.below()]
+        build = lambda given, jobs, it=library: it.build_rlib(["--jobs", "1"], anew=False) == 0
+        tasks[library.name, "library"] = (waits, library.count(rb"\n"), rt.need(library), build)
+    return all(rt.in_lanes(tasks).values())

@@ -1,0 +1,118 @@
+"""What a check says of each function: which goals of its own failed, and what it waits for.
+
+A function's line ends in `proved`, or says on one line what is lacking:
+
+    fn kb_jsonc::text::plain: no proof: expected answers in ./proofs/text/plain/Answers.antt;
+    `search` did not prove `returns-clause-exact`; it calls `kb_jsonc::scan::make_plain`, which is not proved
+
+A goal that has a written answer which doesn't prove it is an error in the function's folder of proofs/, and
+a goal that nothing proves is a note at a line of the function.
+"""
+
+import dataclasses
+import re
+
+FUNCTION = re.compile(r"^fn (\S+): (.*)$")
+ITEM = re.compile(r"^(?:impl|enum|struct|trait|type) (\S+): (.*)$")
+ERROR = re.compile(r"^(?:\./)?(\S+?):\d+:\d+: error\S*: (?:`([^`]*)`: )?")
+GOAL = re.compile(r"^note: (?:\./)?(src/\S+?):(\d+):\d+: it is not proved that .*\(`([^`]*)`\)")
+# An error that only says that a proof names what an edit took away, or rests on a proof that does.
+NAMES = re.compile(r"has no field|is not in scope|has no `|was not admitted")
+SEARCHED = re.compile(r"^`search` did not prove (`.*`)$")
+WAITS = re.compile(r"^it (?:calls|passes the blocks?|waits for the proof of) (`.*`)(?:, which (?:is|are) not proved)?$")
+IN_CYCLE = re.compile(r"^in `[^`]*`, of this cycle of calls: ")
+LACKS = re.compile(r"^(?:not proved|no proof|expected answers in \S+)$")
+
+
+@dataclasses.dataclass
+class Verdict:
+    """What a check says of one function, or of the functions of one cycle."""
+
+    is_proved: bool = True
+    # The goals of its own that failed.
+    goals: list = dataclasses.field(default_factory=list)
+    # The functions and blocks without which it has no proof, and which have none themselves.
+    waits: set = dataclasses.field(default_factory=set)
+    # Whether a proof file of its own names what isn't there.
+    lacks_names: bool = False
+    # What stands in its line that nothing here knows how to read.
+    unread: str = ""
+
+
+def own_part(name):
+    """The function that a closure belongs to, or the name itself."""
+    return re.sub(r"(^|::)fn::(.*)::[^:]*$", r"\1\2", re.sub(r"\+Fn\w*::call\w*$", "", name))
+
+
+class Said:
+    """A check's output, read for the functions of a crate."""
+
+    def __init__(self, text, crate, functions):
+        self.crate = crate.name
+        self.functions = functions
+        self.units = {it.plain_name(): it.unit for it in functions}
+        self.found = {it.unit: Verdict() for it in functions}
+        self.named = set()
+        # The lines that tell of a failure and belong to no function.
+        self.stray = []
+        self.folders = {}
+        for it in functions:
+            path = ["proofs", *it.unit.split("::")]
+            self.folders["/".join(path) + "/"] = it.unit
+            # (the proof of a function that calls itself)
+            self.folders["/".join([*path[:-1], f"+{path[-1]}"]) + "/"] = it.unit
+        self.lines = text.rstrip("\n").split("\n")
+        for line in self.lines:
+            self.read(line)
+
+    def unit_of(self, name):
+        part = own_part(name.removeprefix(f"{self.crate}::"))
+        return self.units.get(part, part)
+
+    def read(self, line):
+        if found := FUNCTION.match(line):
+            self.read_function(self.unit_of(found[1]), found[2])
+        elif found := ITEM.match(line):
+            of_item = Verdict()
+            read_parts(found[2], of_item)
+            if of_item.unread or not (of_item.is_proved or of_item.waits):
+                self.stray.append(line)
+        elif found := ERROR.match(line):
+            self.read_error(line, found[1], found[2])
+        elif found := GOAL.match(line):
+            inside = [it for it in self.functions if it.file == found[1] and it.spans(int(found[2]))]
+            if inside:
+                self.found[inside[0].unit].goals.append(found[3])
+            else:
+                self.stray.append(line)
+
+    def read_function(self, unit, text):
+        self.named.add(unit)
+        verdict = self.found.setdefault(unit, Verdict())
+        read_parts(text, verdict)
+        verdict.waits = {self.unit_of(it) for it in verdict.waits} - {unit}
+
+    def read_error(self, line, file, goal):
+        unit = next((self.folders[it] for it in self.folders if file.startswith(it)), None)
+        if unit is None:
+            self.stray.append(line)
+        elif NAMES.search(line) or file.endswith("/Invariants.antt"):
+            self.found[unit].lacks_names = True
+        elif goal:
+            # (without a name it tells of what rests on an answer that failed)
+            self.found[unit].goals.append(goal)
+
+
+def read_parts(text, verdict):
+    """Adds what stands behind a name to a verdict."""
+    if text == "proved":
+        return
+    verdict.is_proved = False
+    for part in text.removeprefix("no proof: ").split("; "):
+        part = IN_CYCLE.sub("", part)
+        if found := SEARCHED.match(part):
+            verdict.goals += re.findall(r"`([^`]*)`", found[1])
+        elif found := WAITS.match(part):
+            verdict.waits |= {*re.findall(r"`([^`]*)`", found[1])}
+        elif not LACKS.match(part):
+            verdict.unread = part

@@ -1,0 +1,183 @@
+"""Tests of tools/wrong-bodies: what it reads of a check, and how it judges the edits of a small crate of its own."""
+
+import os
+import subprocess
+import tempfile
+import types
+import unittest
+
+from gate import kit
+from gate.edits import edits_of
+from gate.said import Said
+from gate.source import functions_of
+from gate.trying import Crate, trouble_in
+
+SOURCE = """\
+//! A crate on which wrong bodies are tried.
+#![tactic(auto)]
+
+ghost use Rattle.std.specs.Prelude.{◌≡◌, ◌<◌, ◌+◌};
+
+const LIMIT: u8 = 3;
+
+fn next(number: u8) -> u8
+    requires { number < 200 }
+    ensures { result ≡ number + 1 }
+{
+    number + 1
+}
+
+pub fn second_next(number: u8) -> u8
+    requires { number < 100 }
+    ensures { result ≡ number + 2 }
+{
+    next(next(number))
+}
+
+pub fn third_next(number: u8) -> u8
+    requires { number < 100 }
+    ensures { result ≡ number + 3 }
+{
+    next(second_next(number))
+}
+
+pub fn limit() -> u8
+    ensures { result ≡ 3 }
+{
+    LIMIT
+}
+
+pub fn same(given: u8) -> u8
+    ensures { result ≡ given }
+{
+    given
+}
+"""
+# What each edit replaces, and how it must be judged.
+EDITS = {
+    "callee_adds_two": ("    number + 1", "    number + 2", "in a batch"),
+    "callee_adds_none": ("    number + 1", "    number", "in a batch"),
+    "caller_by_other_words": ("next(next(number))", "next(number) + 1", "not refused"),
+    "caller_of_caller_adds_two": ("next(second_next(number))", "second_next(number)", "in a batch"),
+    "number_is_lost": ("    given", "    0", "in a batch"),
+    "constant_is_four": ("LIMIT: u8 = 3", "LIMIT: u8 = 4", "alone"),
+    "text_is_not_there": ("LIMIT: u9", "LIMIT: u8", "not refused"),
+}
+FUNCTIONS = {"callee": 8, "caller": 16, "other": 24, "one_of_ring": 32, "two_of_ring": 40}
+
+
+class Blind(Crate):
+    """A trial that doesn't see which function calls which, so that callers stand beside callees."""
+
+    def __init__(self, *given):
+        super().__init__(*given)
+        self.reach = {unit: set() for unit in self.reach}
+
+
+def function(name, head):
+    cycle = "ring" if name.endswith("ring") else ""
+    made = types.SimpleNamespace(file="src/a.rt", unit=f"a::+{cycle}" if cycle else f"a::{name}")
+    made.plain_name = lambda: f"a::{name}"
+    made.spans = lambda line: head <= line < head + 8
+    return made
+
+
+def said(*lines):
+    functions = [function(*it) for it in FUNCTIONS.items()]
+    return Said("\n".join([*lines, "only=5 proved=4", ""]), types.SimpleNamespace(name="tiny"), functions)
+
+
+def trouble(found, *units):
+    edits = [types.SimpleNamespace(function=types.SimpleNamespace(unit=it)) for it in units]
+    return trouble_in(types.SimpleNamespace(stdout="\n".join(found.lines)), found, edits, {})
+
+
+class Reading(unittest.TestCase):
+    def test_a_goal_in_the_line_is_the_functions_own(self):
+        found = said("fn tiny::a::callee: no proof: expected answers in ./proofs/a/callee/Answers.antt; `search` did not prove `returns`, `holds`")
+        self.assertEqual(found.found["a::callee"].goals, ["returns", "holds"])
+        self.assertFalse(found.found["a::callee"].waits or found.found["a::callee"].unread)
+        self.assertEqual(trouble(found, "a::callee"), "")
+
+    def test_a_caller_that_has_no_goal_of_its_own_waits(self):
+        found = said("fn tiny::a::caller: no proof: it calls `tiny::a::callee` and `tiny::a::other`, which are not proved")
+        self.assertEqual(found.found["a::caller"].waits, {"a::callee", "a::other"})
+        self.assertEqual(found.found["a::caller"].goals, [])
+
+    def test_a_caller_with_a_goal_of_its_own_waits_too(self):
+        line = "fn tiny::a::caller: not proved; it calls `tiny::a::callee`, which is not proved; it passes the block `tiny::a::Block`, which is not proved"
+        found = said("./proofs/a/caller/Answers.antt:3:5: error: `returns`: the two types differ", line)
+        self.assertEqual(found.found["a::caller"].waits, {"a::callee", "a::Block"})
+        self.assertEqual(found.found["a::caller"].goals, ["returns"])
+
+    def test_a_name_that_was_taken_away_is_no_goal(self):
+        found = said("./proofs/a/callee/Answers.antt:3:5: error: `returns`: record `R` has no field `other`", "fn tiny::a::callee: not proved")
+        self.assertTrue(found.found["a::callee"].lacks_names)
+        self.assertEqual(found.found["a::callee"].goals, [])
+
+    def test_what_rests_on_a_refused_proof_is_no_goal(self):
+        found = said("./proofs/a/callee/Answers.antt:3:5: error: `returns`: `lemma` was not admitted")
+        self.assertEqual(found.found["a::callee"].goals, [])
+
+    def test_a_lemma_that_fails_judges_nothing(self):
+        found = said("./proofs/Lemmas.antt:3:5: error: `lemma`: the two types differ", "fn tiny::a::callee: not proved")
+        self.assertTrue(trouble(found, "a::callee"))
+
+    def test_a_function_that_fails_and_no_edit_changes_judges_nothing(self):
+        found = said("note: src/a.rt:25:1: it is not proved that the index is in range (`index`)", "fn tiny::a::other: not proved")
+        self.assertTrue(trouble(found, "a::callee"))
+        self.assertEqual(trouble(found, "a::other"), "")
+
+    def test_a_line_that_nobody_knows_judges_nothing(self):
+        self.assertTrue(trouble(said("fn tiny::a::other: could not tell"), "a::callee"))
+        self.assertTrue(said("fn tiny::a::callee: could not tell").found["a::callee"].unread)
+
+    def test_closures_and_rings_are_one_with_their_functions(self):
+        found = said("fn tiny::a::fn::callee::all+FnMut::call_mut: no proof: `search` did not prove `returns`")
+        self.assertEqual(found.found["a::callee"].goals, ["returns"])
+        ring = "fn tiny::a::one_of_ring: not proved; it calls `tiny::a::two_of_ring`, which is not proved"
+        found = said("./proofs/a/+ring/Answers.antt:3:5: error: `returns`: the two types differ", ring)
+        self.assertEqual(found.found["a::+ring"].goals, ["returns"])
+        self.assertEqual(found.found["a::+ring"].waits, set())
+        found = said("fn tiny::a::one_of_ring: no proof: in `tiny::a::two_of_ring`, of this cycle of calls: it calls `tiny::a::other`, which is not proved")
+        self.assertEqual(found.found["a::+ring"].waits, {"a::other"})
+        self.assertEqual(trouble(found, "a::callee"), "")
+
+
+def write(path, text):
+    os.makedirs(os.path.dirname(path), exist_ok=True)
+    with open(path, "w", encoding="utf-8") as file:
+        file.write(text)
+
+
+def made_crate(top):
+    """A repository of one crate, with its edits."""
+    write(f"{top}/crates.txt", "tiny:\n")
+    write(f"{top}/crates/tiny/src/lib.rt", SOURCE)
+    for name, (old, new, _) in EDITS.items():
+        lines = ["guards: a test", "file: src/lib.rt", f"old: {old.rstrip()}", f"new: {new.rstrip()}", ""]
+        write(f"{top}/crates/tiny/wrong-bodies/{name}.edit", "\n".join(lines))
+    subprocess.run(["git", "init", "-q", top], check=True)
+    return kit.crates_of(top)[0]
+
+
+class Trying(unittest.TestCase):
+    def test_each_edit_is_judged_by_itself(self):
+        with tempfile.TemporaryDirectory() as top, tempfile.TemporaryDirectory() as kept:
+            crate = made_crate(top)
+            functions = functions_of(crate)
+            lines = []
+            trial = Blind(crate, functions, edits_of(crate, functions, ["wrong-bodies"]), kept, lines.append)
+            for it in trial.try_all():
+                with self.subTest(it.edit.name, lines="\n".join(lines)):
+                    how = ("in a batch" if it.batch else "alone") if it.is_refused else "not refused"
+                    self.assertEqual(how, EDITS[it.edit.name.removesuffix(".edit")][2])
+            # Two edits of a function, and a caller with its callee, stand in different batches.
+            batches = [it.batch for it in trial.results.values() if it.edit.function and it.edit.function.name != "same" and it.batch]
+            self.assertEqual(len(batches), len({*batches}))
+
+
+def main():
+    loaded = unittest.defaultTestLoader
+    suite = unittest.TestSuite(loaded.loadTestsFromTestCase(it) for it in (Reading, Trying))
+    return 0 if unittest.TextTestRunner(verbosity=1).run(suite).wasSuccessful() else 1

@@ -1,0 +1,195 @@
+"""The functions of a crate's sources: where each body stands, what it names, and how a check names it."""
+
+import dataclasses
+import os
+import re
+import subprocess
+
+from gate.kit import rt
+
+TOKEN = re.compile(r"^(\d+) \d+ \d+ Code \"(.*)\"$")
+
+
+@dataclasses.dataclass(eq=False)
+class Function:
+    """A function with a body. Lines are counted from 1."""
+
+    file: str
+    module: str
+    # The type of the impl block that it stands in, and what that implements, or nothing.
+    owner: str
+    trait: str
+    name: str
+    # The lines of its first attribute or word, of its opening brace and of its closing one.
+    head: int
+    opens: int
+    closes: int
+    # What its attribute cycle names, or nothing.
+    cycle: str
+    is_public: bool
+    is_const: bool
+    signature: list
+    tokens: list
+    # The path of the proof that it has alone, or with its cycle, below the crate.
+    unit: str = ""
+
+    def spans(self, line):
+        return self.head <= line <= self.closes
+
+    def has_in_body(self, line, old, new):
+        """Whether a line that becomes another changes no more than the body, and what the body is doesn't show elsewhere."""
+        is_behind = line == self.opens and old.endswith("{") and new.startswith(old)
+        return not self.is_const and (is_behind or self.opens < line <= self.closes)
+
+    def plain_name(self):
+        return "::".join(it for it in (self.module, self.owner + self.trait, self.name) if it)
+
+
+def words_of(file):
+    """The words of a source's code with their lines: no comment, literal, clause or ghost item."""
+    ran = subprocess.run([rt.rtlib.RATTLE, "fmt", "--tokens", file], capture_output=True, text=True, check=True)
+    return [(int(it[1]), it[2]) for it in map(TOKEN.match, ran.stdout.split("\n")) if it]
+
+
+def closing(words, at, opens="{", closes="}"):
+    """The place of the bracket that closes the one at this place."""
+    depth = 0
+    for place in range(at, len(words)):
+        depth += {opens: 1, closes: -1}.get(words[place][1], 0)
+        if not depth:
+            return place
+    return len(words) - 1
+
+
+def body_at(words, at):
+    """The place of the brace that opens the body of the function whose name stands here, or nothing."""
+    depth = 0
+    for place in range(at, len(words)):
+        word = words[place][1]
+        depth += {"(": 1, "[": 1, ")": -1, "]": -1}.get(word, 0)
+        if not depth and word in ("{", ";"):
+            return place if word == "{" else None
+    return None
+
+
+def squeezed(words, parameters):
+    """A type or a trait as a check spells it in a name: its words alone, without the impl's own parameters."""
+    paths = re.sub(r"(\w+)::(?=\w)", lambda it: it[1].capitalize(), "".join(words))
+    return "".join(it for it in re.findall(r"\w+", paths) if it not in parameters)
+
+
+def impl_at(words, at):
+    """The type and the trait of the impl block whose first word stands here."""
+    head = [it for _, it in words[at + 1 : body_at(words, at + 1)]]
+    parameters = []
+    if head[0] == "<":
+        end = closing([(0, it) for it in head], 0, "<", ">")
+        parameters = [it for it, after in zip(head[1:end], head[2:]) if re.match(r"\w", it) and after in ",:>"]
+        head = head[end + 1 :]
+    if "for" not in head:
+        return squeezed(head, parameters), ""
+    cut = head.index("for")
+    trait = head[:cut]
+    # Of a trait's own path only the last word stands in a name, of its parameters the whole.
+    first = trait.index("<") if "<" in trait else len(trait)
+    start = max((i + 1 for i in range(first) if trait[i] == ":"), default=0)
+    return squeezed(head[cut + 1 :], parameters), squeezed(trait[start:], parameters)
+
+
+def attributes(words, at):
+    """The words before this place that belong to the same item, and the line where it begins."""
+    start = at
+    # (of a ghost item only its first word is code)
+    while start and words[start - 1][1] not in ("{", "}", ";", "ghost"):
+        start -= 1
+    return [it for _, it in words[start:at]], words[start][0]
+
+
+def module_of(file):
+    path = file.removeprefix("src/").removesuffix(".rt")
+    return "" if path in ("lib", "main") else path.replace("/", "::")
+
+
+def function_at(words, place, file, owner, trait):
+    """The function whose keyword stands here, or nothing where it has no body."""
+    opened = body_at(words, place + 1)
+    if opened is None:
+        return None
+    closed = closing(words, opened)
+    before, head = attributes(words, place)
+    return Function(
+        file=file,
+        module=module_of(file),
+        owner=owner,
+        trait=trait,
+        name=words[place + 1][1],
+        head=head,
+        opens=words[opened][0],
+        closes=words[closed][0],
+        cycle=before[before.index("cycle") + 2] if "cycle" in before else "",
+        # (pub(crate) isn't public)
+        is_public="pub" in before and not before[before.index("pub") + 1 :][:1] == ["("],
+        is_const="const" in before,
+        signature=[it for _, it in words[place:opened]],
+        tokens=[it for _, it in words[opened:closed]],
+    )
+
+
+def functions_in(file, folder):
+    """The functions of one source, an inner one before the one that it stands in."""
+    words = words_of(os.path.join(folder, file))
+    found, blocks = [], [(len(words), "", "")]
+    for place, (_, word) in enumerate(words):
+        while place > blocks[-1][0]:
+            blocks.pop()
+        if word == "impl" and (place == 0 or words[place - 1][1] in ("}", ";", "]", "unsafe")):
+            blocks.append((closing(words, body_at(words, place)), *impl_at(words, place)))
+        # (the type of a function is no function)
+        if word == "fn" and re.match(r"\w", words[place + 1][1]):
+            found.append(function_at(words, place, file, *blocks[-1][1:]))
+    return sorted(filter(None, found), key=lambda it: it.closes - it.opens)
+
+
+def homes_of_types(folder, files):
+    """The module of each type of the crate, where a check looks for the type's own methods."""
+    homes = {}
+    for file in files:
+        with open(os.path.join(folder, file), encoding="utf-8") as text:
+            for name in re.findall(r"(?m)^\s*(?:pub(?:\([^)]*\))? )?(?:struct|enum|trait) (\w+)", text.read()):
+                homes[name] = module_of(file)
+    return homes
+
+
+def functions_of(crate):
+    """The functions of a crate, each with its unit."""
+    inside = [os.path.relpath(it, crate.folder) for it in rt.rtlib.files_of(crate.folder)]
+    files = [it for it in inside if it.startswith("src/") and it.endswith(".rt")]
+    homes = homes_of_types(crate.folder, files)
+    found = [it for file in files for it in functions_in(file, crate.folder)]
+    for it in found:
+        if it.owner and not it.trait:
+            it.module = homes.get(it.owner, it.module)
+        it.unit = f"{it.module}::+{it.cycle}" if it.cycle else it.plain_name()
+    return found
+
+
+def named_at(words, at, function, functions):
+    """The functions of this name that a body's word may mean, or none where only the check can tell."""
+    named = [it for it in functions if it.name == words[at]]
+    if words[at - 2 : at] == [":", ":"]:
+        of = function.owner if words[at - 3] == "Self" else words[at - 3]
+        return [it for it in named if of in (it.owner, it.module.rpartition("::")[2])]
+    if words[at - 1] != ".":
+        return [it for it in named if not it.owner]
+    own = [it for it in named if words[at - 2] == "self" and it.owner == function.owner]
+    return own or (named if len(named) == 1 and named[0].owner else [])
+
+
+def named_in(function, functions):
+    """The functions that a body names, as far as its words show: a ? names each From of what the signature names."""
+    found, words = set(), function.tokens
+    for at, word in enumerate(words):
+        if word == "?":
+            found |= {it for it in functions if it.name == "from" and it.trait and it.owner in function.signature}
+        found |= {*named_at(words, at, function, functions)}
+    return found - {function}
