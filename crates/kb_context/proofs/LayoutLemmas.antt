@@ -3,14 +3,16 @@ use Rattle.std.proofs.Common.{◌≡◌, ℕ, suc, ◌≤◌, Bool, true, false,
 use Rattle.std.specs.Str.{bytes_eq}
 use Rattle.std.proofs.lemmas.Bool.Decides.{nat_tests}
 use Rattle.std.proofs.lemmas.Option.{option_and_then_some}
-use Rattle.kb_context.specs.declared.layout.TheConstants.{SCOPE_LIMIT}
+use Rattle.kb_context.specs.Layout.{scope_limit}
 use Rattle.kb_context.specs.declared.layout.LayoutScope.{LayoutScope}
 use Rattle.kb_context.specs.declared.layout.Layout.{Layout}
-use Rattle.kb_context.specs.declared.scopes.TheConstants.{KEY_LIMIT}
+use Rattle.kb_context.specs.Scopes.{key_limit}
 use Rattle.kb_context.specs.declared.scopes.Scope.{Scope}
 use Rattle.kb_context.specs.declared.fault.ScopeFault.{ScopeFault}
-use Rattle.kb_context.specs.declared.fault.ScopeFault.TheVariants.{UnknownScope, BadLayout, TooManyKeys, NoMemory}
-use Rattle.kb_context.specs.ScopeFault.{IsRefusal}
+use Rattle.kb_context.specs.declared.fault.ScopeFault.TheVariants.{BadLayout, TooManyKeys}
+use Rattle.kb_context.specs.declared.failure.Failure.{Failure}
+use Rattle.kb_context.specs.declared.failure.Failure.TheVariants.{NoMemory, Fault}
+use Rattle.kb_context.specs.Failure.{IsRefusal}
 use Rattle.kb_context.specs.Scopes.{ScopesData, scope_names, place_in, place_of}
 use Rattle.kb_context.specs.Layout.{is_among, layout_names, parent_fits, fit, is_good, layout_key_count, layout_fault, scope_of, scopes_of}
 use Rattle.kb_context.specs.Draft.{parent_in, after_scope, built, IsBadList}
@@ -125,8 +127,8 @@ front_none a b e = ap (λ c. c && b) e
 all_by : (a b c : Bool) → a ≡ false → b ≡ true → c ≡ true → (not a && (b && c)) ≡ true
 all_by a b c e f g = rw (e, f, g) refl
 
-fault_by : (l : Layout) (b : Bool) → is_good l ≡ b → layout_fault l ≡ cond b (cond (nat_lt KEY_LIMIT (layout_key_count l.scopes)) (Some TooManyKeys) None) (Some BadLayout)
-fault_by l b e = ap (λ c. cond c (cond (nat_lt KEY_LIMIT (layout_key_count l.scopes)) (Some TooManyKeys) None) (Some BadLayout)) e
+fault_by : (l : Layout) (b : Bool) → is_good l ≡ b → layout_fault l ≡ cond b (cond (nat_lt key_limit (layout_key_count l.scopes)) (Some TooManyKeys) None) (Some BadLayout)
+fault_by l b e = ap (λ c. cond c (cond (nat_lt key_limit (layout_key_count l.scopes)) (Some TooManyKeys) None) (Some BadLayout)) e
 
 fits : (l : Layout) (o : Option (List Scope)) → built [] l.scopes ≡ o → fit [] l.scopes ≡ is_some o
 fits l o e = sym (is_some-built [] l.scopes) ∙ ap is_some e
@@ -140,14 +142,12 @@ bad_scopes l e = fault_by l false (none_by _ _ (front_none _ _ (fits l None e)))
 pub bad_focus : (l : Layout) (ss : List Scope) → built [] l.scopes ≡ Some ss → place_of l.focus ss ≡ None → layout_fault l ≡ Some BadLayout
 bad_focus l ss e f = fault_by l false (none_by _ _ (none_by _ _ (names_focus l ss None e f)))
 
-only_keys : (l : Layout) (ss : List Scope) (at : ℕ) → nat_lt SCOPE_LIMIT (length l.scopes) ≡ false → built [] l.scopes ≡ Some ss → place_of l.focus ss ≡ Some at → layout_fault l ≡ cond (nat_lt KEY_LIMIT (layout_key_count l.scopes)) (Some TooManyKeys) None
+only_keys : (l : Layout) (ss : List Scope) (at : ℕ) → nat_lt scope_limit (length l.scopes) ≡ false → built [] l.scopes ≡ Some ss → place_of l.focus ss ≡ Some at → layout_fault l ≡ cond (nat_lt key_limit (layout_key_count l.scopes)) (Some TooManyKeys) None
 only_keys l ss at few e f = fault_by l true (all_by _ _ _ few (fits l (Some ss) e) (names_focus l ss (Some at) e f))
 
-pub refused_scopes : (l : Layout) (fault : ScopeFault) → IsBadList l.scopes fault → IsRefusal (layout_fault l) fault
+pub refused_scopes : (l : Layout) (failure : Failure ScopeFault) → IsBadList l.scopes failure → IsRefusal (layout_fault l) failure
 refused_scopes l NoMemory h = tt
-refused_scopes l BadLayout h = bad_scopes l h
-refused_scopes l UnknownScope h = absurd h
-refused_scopes l TooManyKeys h = absurd h
+refused_scopes l (Fault f) h = bad_scopes l h.1 ∙ ap Some (sym h.0)
 
 -- ---- the same as the code finds it out
 
@@ -162,12 +162,12 @@ within_by : (b : Bool) (n k : ℕ) → Some k ≡ cond b None (Some n) → b ≡
 within_by true n k e = absurd (let no : Bool = true in cc)
 within_by false n k e = refl
 
-pub too_many : (l : Layout) (ss : List Scope) (at : ℕ) (ps : List LayoutScope) → length l.scopes ≤ SCOPE_LIMIT → built [] l.scopes ≡ Some ss → place_of l.focus ss ≡ Some at → ps ≡ l.scopes → None ≡ cond (nat_lt KEY_LIMIT (layout_key_count ps)) None (Some (layout_key_count ps)) → layout_fault l ≡ Some TooManyKeys
+pub too_many : (l : Layout) (ss : List Scope) (at : ℕ) (ps : List LayoutScope) → length l.scopes ≤ scope_limit → built [] l.scopes ≡ Some ss → place_of l.focus ss ≡ Some at → ps ≡ l.scopes → None ≡ cond (nat_lt key_limit (layout_key_count ps)) None (Some (layout_key_count ps)) → layout_fault l ≡ Some TooManyKeys
 too_many l ss at ps few e f same over =
     only_keys l ss at (lt_false _ _ few) e f
-    ∙ ap (λ b. cond b (Some TooManyKeys) None) (ap (λ (us : List LayoutScope). nat_lt KEY_LIMIT (layout_key_count us)) (sym same) ∙ over_by _ _ over)
+    ∙ ap (λ b. cond b (Some TooManyKeys) None) (ap (λ (us : List LayoutScope). nat_lt key_limit (layout_key_count us)) (sym same) ∙ over_by _ _ over)
 
-pub no_fault : (l : Layout) (ss : List Scope) (at : ℕ) (ps : List LayoutScope) (k : ℕ) → length l.scopes ≤ SCOPE_LIMIT → built [] l.scopes ≡ Some ss → place_of l.focus ss ≡ Some at → ps ≡ l.scopes → Some k ≡ cond (nat_lt KEY_LIMIT (layout_key_count ps)) None (Some (layout_key_count ps)) → layout_fault l ≡ None
+pub no_fault : (l : Layout) (ss : List Scope) (at : ℕ) (ps : List LayoutScope) (k : ℕ) → length l.scopes ≤ scope_limit → built [] l.scopes ≡ Some ss → place_of l.focus ss ≡ Some at → ps ≡ l.scopes → Some k ≡ cond (nat_lt key_limit (layout_key_count ps)) None (Some (layout_key_count ps)) → layout_fault l ≡ None
 no_fault l ss at ps k few e f same within =
     only_keys l ss at (lt_false _ _ few) e f
-    ∙ ap (λ b. cond b (Some TooManyKeys) None) (ap (λ (us : List LayoutScope). nat_lt KEY_LIMIT (layout_key_count us)) (sym same) ∙ within_by _ _ k within)
+    ∙ ap (λ b. cond b (Some TooManyKeys) None) (ap (λ (us : List LayoutScope). nat_lt key_limit (layout_key_count us)) (sym same) ∙ within_by _ _ k within)

@@ -9,7 +9,7 @@ use Rattle.std.proofs.lemmas.List.{length-map}
 use Rattle.std.proofs.lemmas.Map.Text.{is_eq-slice_cmp}
 use Rattle.std.proofs.lemmas.Slice.Eq.{bytes_eq-Decides}
 use Rattle.kb_context.specs.declared.scopes.Scope.{Scope}
-use Rattle.kb_context.specs.declared.scopes.TheConstants.{KEY_LIMIT}
+use Rattle.kb_context.specs.Scopes.{key_limit}
 use Rattle.kb_context.specs.declared.value.ContextValue.{ContextValue}
 use Rattle.kb_context.specs.Scopes.{Keys, Places, ScopesData, scope_names, parents, place_in, place_of, changed, key_count, set_fault_at, IsRooted, IsRootedList, IsWellFormed, with_value_at, without_value_at, ChangesOnly, ChangesOnlyIn}
 
@@ -85,7 +85,7 @@ len_le-key_count (suc i) (t ∷ ss) s e = let h : len s.keys ≤ key_count ss = 
 count_after : (k n a b c : ℕ) → n + b ≡ k + a → b ≤ k → c ≡ k → c - b + a ≡ n
 count_after k n a b c e h w = omega arith
 
-IsWellFormed-changed : (f : Keys → Keys) (i : ℕ) (ss : List Scope) (s : Scope) (places : Places) (focus keys : ℕ) → IsWellFormed ss places focus keys → slice_get ss i ≡ Some s → keys - len s.keys + len (f s.keys) ≤ KEY_LIMIT → IsWellFormed (changed f i ss) places focus (keys - len s.keys + len (f s.keys))
+IsWellFormed-changed : (f : Keys → Keys) (i : ℕ) (ss : List Scope) (s : Scope) (places : Places) (focus keys : ℕ) → IsWellFormed ss places focus keys → slice_get ss i ≡ Some s → keys - len s.keys + len (f s.keys) ≤ key_limit → IsWellFormed (changed f i ss) places focus (keys - len s.keys + len (f s.keys))
 IsWellFormed-changed f i ss s places focus keys w is few = record {
   inside = subst (λ n. focus < n) (sym (length-changed f i ss)) w.inside;
   rooted = subst IsRootedList (sym (parents-changed f i ss)) w.rooted;
@@ -116,13 +116,13 @@ pub few-remove : (m : Keys) (k : List ℕ) (limit count : ℕ) → count ≤ lim
 few-remove m k limit count c l = rw (len-remove nat_list_cmp_total m k) (less_by (contains_key m k) limit count (len m) c l)
 
 -- where there is room or the key stands, nothing is refused
-pub no_fault : (s : ScopesData) (i : ℕ) (k : List ℕ) (scope : Scope) (count : ℕ) → count ≡ key_count s.scopes → slice_get s.scopes i ≡ Some scope → (nat_lt count KEY_LIMIT || contains_key scope.keys k) ≡ true → set_fault_at s i k ≡ None
+pub no_fault : (s : ScopesData) (i : ℕ) (k : List ℕ) (scope : Scope) (count : ℕ) → count ≡ key_count s.scopes → slice_get s.scopes i ≡ Some scope → (nat_lt count key_limit || contains_key scope.keys k) ≡ true → set_fault_at s i k ≡ None
 no_fault s i k scope count e is h = rw (← e, is, h) refl
 
 -- ---- the scopes after a write, as the code has it
 
 -- they hold together
-pub keeps : (f : Keys → Keys) (i : ℕ) (ss : List Scope) (s : Scope) (places : Places) (focus keys : ℕ) (m : Keys) (before after : ℕ) → IsWellFormed ss places focus keys → slice_get ss i ≡ Some s → m ≡ f s.keys → before ≡ len s.keys → after ≡ len m → keys - len s.keys + len (f s.keys) ≤ KEY_LIMIT → IsWellFormed (slice_set ss i (record { name = s.name; parent = s.parent; keys = m })) places focus (keys - before + after)
+pub keeps : (f : Keys → Keys) (i : ℕ) (ss : List Scope) (s : Scope) (places : Places) (focus keys : ℕ) (m : Keys) (before after : ℕ) → IsWellFormed ss places focus keys → slice_get ss i ≡ Some s → m ≡ f s.keys → before ≡ len s.keys → after ≡ len m → keys - len s.keys + len (f s.keys) ≤ key_limit → IsWellFormed (slice_set ss i (record { name = s.name; parent = s.parent; keys = m })) places focus (keys - before + after)
 keeps f i ss s places focus keys m before after w is new was now few =
     let written : slice_set ss i (record { name = s.name; parent = s.parent; keys = m }) ≡ changed f i ss = ap (λ (n : Keys). slice_set ss i (record { name = s.name; parent = s.parent; keys = n })) new ∙ changed_set f i ss s is in
     let count : keys - len s.keys + len (f s.keys) ≡ keys - before + after = ap (λ n. keys - n + len (f s.keys)) (sym was) ∙ ap (λ n. keys - before + n) (ap len (sym new) ∙ sym now) in

@@ -3,7 +3,9 @@ use Rattle.std.specs.Prelude.{◌≡◌, ℕ, if◌then◌else◌, List, [], ◌
 use Rattle.kb_context.specs.declared.layout.LayoutScope.{LayoutScope}
 use Rattle.kb_context.specs.declared.scopes.Scope.{Scope}
 use Rattle.kb_context.specs.declared.fault.ScopeFault.{ScopeFault}
-use Rattle.kb_context.specs.declared.fault.ScopeFault.TheVariants.{UnknownScope, BadLayout, TooManyKeys, NoMemory}
+use Rattle.kb_context.specs.declared.fault.ScopeFault.TheVariants.{BadLayout}
+use Rattle.kb_context.specs.declared.failure.Failure.{Failure}
+use Rattle.kb_context.specs.declared.failure.Failure.TheVariants.{NoMemory, Fault}
 use Rattle.kb_context.specs.Scopes.{place_of}
 
 -- the place of a parent, if the parent fits: the first scope has none, and each other has one that is named before it
@@ -24,15 +26,11 @@ built done [] = Some done
 built done (s ∷ scopes) = option_and_then (λ more. built more scopes) (after_scope done s)
 
 -- a scope that doesn't fit is a bad layout
-abbrev pub IsBadScope : List Scope → LayoutScope → ScopeFault → Type 0
+abbrev pub IsBadScope : List Scope → LayoutScope → Failure ScopeFault → Type 0
 IsBadScope done s NoMemory = Unit {0}
-IsBadScope done s BadLayout = after_scope done s ≡ None
-IsBadScope done s UnknownScope = ⊥
-IsBadScope done s TooManyKeys = ⊥
+IsBadScope done s (Fault f) = (f ≡ BadLayout) × (after_scope done s ≡ None)
 
 -- as are scopes of which one doesn't fit
-abbrev pub IsBadList : List LayoutScope → ScopeFault → Type 0
+abbrev pub IsBadList : List LayoutScope → Failure ScopeFault → Type 0
 IsBadList scopes NoMemory = Unit {0}
-IsBadList scopes BadLayout = built [] scopes ≡ None
-IsBadList scopes UnknownScope = ⊥
-IsBadList scopes TooManyKeys = ⊥
+IsBadList scopes (Fault f) = (f ≡ BadLayout) × (built [] scopes ≡ None)

@@ -3,14 +3,16 @@ use Rattle.std.specs.Prelude.{ℕ, ◌+◌, Bool, true, false, not, ◌&&◌, if
 use Rattle.std.specs.List.{list_any}
 use Rattle.std.specs.Str.{bytes_eq}
 use Rattle.std.specs.FinMap.{len}
-use Rattle.kb_context.specs.declared.layout.TheConstants.{SCOPE_LIMIT}
 use Rattle.kb_context.specs.declared.layout.LayoutScope.{LayoutScope}
 use Rattle.kb_context.specs.declared.layout.Layout.{Layout}
-use Rattle.kb_context.specs.declared.scopes.TheConstants.{KEY_LIMIT}
 use Rattle.kb_context.specs.declared.scopes.Scope.{Scope}
 use Rattle.kb_context.specs.declared.fault.ScopeFault.{ScopeFault}
 use Rattle.kb_context.specs.declared.fault.ScopeFault.TheVariants.{BadLayout, TooManyKeys}
-use Rattle.kb_context.specs.Scopes.{ScopesData, place_in}
+use Rattle.kb_context.specs.Scopes.{ScopesData, place_in, key_limit}
+
+-- how many scopes a layout may have
+abbrev pub scope_limit : ℕ
+scope_limit = 1000
 
 -- whether a name is one of these
 abbrev pub is_among : List (List ℕ) → List ℕ → Bool
@@ -33,7 +35,7 @@ fit before (s ∷ scopes) =
 
 -- no more scopes than the limit, names and parents that fit, and a focus that is one of the scopes
 abbrev pub is_good : Layout → Bool
-is_good l = not (nat_lt SCOPE_LIMIT (length l.scopes)) && (fit [] l.scopes && is_among (layout_names l.scopes) l.focus)
+is_good l = not (nat_lt scope_limit (length l.scopes)) && (fit [] l.scopes && is_among (layout_names l.scopes) l.focus)
 
 -- how many keys the scopes of a layout have together
 abbrev pub layout_key_count : List LayoutScope → ℕ
@@ -43,7 +45,7 @@ layout_key_count (s ∷ scopes) = len s.keys + layout_key_count scopes
 -- a layout that isn't good, and then too many keys
 abbrev pub layout_fault : Layout → Option ScopeFault
 layout_fault l =
-    if is_good l then (if nat_lt KEY_LIMIT (layout_key_count l.scopes) then Some TooManyKeys else None) else Some BadLayout
+    if is_good l then (if nat_lt key_limit (layout_key_count l.scopes) then Some TooManyKeys else None) else Some BadLayout
 
 -- a scope whose parent is given by its place among the names
 abbrev pub scope_of : List (List ℕ) → LayoutScope → Scope

@@ -1,6 +1,9 @@
 pub mod Draft
+pub mod Failure
+pub mod Faults
 pub mod Layout
 pub mod Reading
+pub mod Refusal
 pub mod ScopeFault
 pub mod Scopes
 pub mod Text

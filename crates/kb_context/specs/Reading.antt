@@ -1,7 +1,5 @@
--- Reading that stops at its first fault, and what a function that reads answers.
-use Rattle.std.specs.Prelude.{◌≡◌, Option, Some, None, Result, Ok, Err, Bool, ⊤, if◌then◌else◌}
-use Rattle.kb_context.specs.declared.reading.ReadError.{ReadError}
-use Rattle.kb_context.specs.declared.reading.ReadError.TheVariants as errors
+-- Reading that stops at its first fault.
+use Rattle.std.specs.Prelude.{Option, Some, None, Result, Ok, Err, Bool, ⊤, if◌then◌else◌}
 
 infixl 10 ◌>>=◌
 abbrev pub ◌>>=◌ : {F A B : Type 0} → Result A F → (A → Result B F) → Result B F
@@ -12,15 +10,6 @@ infixl 10 ◌>>◌
 abbrev pub ◌>>◌ : {F A B : Type 0} → Result A F → Result B F → Result B F
 (Ok x) >> r = r
 (Err e) >> r = Err e
-
--- What a function answered, seen by view, is what reading gives, unless memory ran out.
-abbrev pub Fails : {F Y : Type 0} → ReadError F → Result Y F → Type 0
-Fails errors.NoMemory read = Unit {0}
-Fails (errors.Fault f) read = read ≡ Err f
-
-abbrev pub Gives : {F X Y : Type 0} → (X → Y) → Result X (ReadError F) → Result Y F → Type 0
-Gives view (Ok x) read = read ≡ Ok (view x)
-Gives view (Err e) read = Fails e read
 
 -- the value, or the fault where there is none
 abbrev pub or_fault : {F A : Type 0} → F → Option A → Result A F

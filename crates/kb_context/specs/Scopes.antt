@@ -6,7 +6,6 @@ use Rattle.std.specs.Str.{bytes_eq}
 use Rattle.std.specs.Ordering.{nat_cmp}
 use Rattle.std.specs.Cmp.Lexicographic.{slice_cmp}
 use Rattle.std.specs.FinMap.{FinMap, empty, get, insert, remove, len, from_entries, entries}
-use Rattle.kb_context.specs.declared.scopes.TheConstants.{KEY_LIMIT}
 use Rattle.kb_context.specs.declared.value.ContextValue.{ContextValue}
 use Rattle.kb_context.specs.declared.scopes.Scope.{Scope}
 use Rattle.kb_context.specs.declared.fault.ScopeFault.{ScopeFault}
@@ -123,6 +122,10 @@ ChangesOnlyIn old new name key value = IsSomeAnd (place_of name old.scopes) (λ 
 
 -- ---- what the calls refuse
 
+-- how many keys may stand in all scopes together
+abbrev pub key_limit : ℕ
+key_limit = 10000
+
 -- how many keys stand in all scopes together
 abbrev pub key_count : List Scope → ℕ
 key_count [] = 0
@@ -131,7 +134,7 @@ key_count (s ∷ scopes) = len s.keys + key_count scopes
 -- a key is set where there is room for one more, or the scope has it already
 abbrev pub set_fault_at : ScopesData → ℕ → List ℕ → Option ScopeFault
 set_fault_at s at key =
-    if nat_lt (key_count s.scopes) KEY_LIMIT || is_some (value_at s at key) then None else Some TooManyKeys
+    if nat_lt (key_count s.scopes) key_limit || is_some (value_at s at key) then None else Some TooManyKeys
 
 -- the same in the scope of a name, if there is one
 abbrev pub set_fault : ScopesData → List ℕ → List ℕ → Option ScopeFault
@@ -160,4 +163,4 @@ pub record IsWellFormed (scopes : List Scope) (places : Places) (focus keys : �
   pub rooted : IsRooted scopes
   pub placed : (name : List ℕ) → get places name ≡ place_of name scopes
   pub counted : keys ≡ key_count scopes
-  pub few : keys ≤ KEY_LIMIT
+  pub few : keys ≤ key_limit

@@ -2,6 +2,7 @@
 ghost use Rattle.std.specs.Prelude.{◌≡◌, IfOk, IfErr, [], Some};
 ghost use Rattle.kb_context.specs.Draft.{after_scope, built, IsBadScope, IsBadList};
 
+use crate::failure::Failure;
 use crate::fault::ScopeFault;
 use crate::layout::LayoutScope;
 use crate::scopes::Scope;
@@ -34,7 +35,7 @@ impl Model for Draft {
 
 impl Draft {
     /// The draft with one more scope. It is taken by value, so nothing is owed on a refusal.
-    fn with_scope(self, scope: LayoutScope) -> Result<Draft, ScopeFault>
+    fn with_scope(self, scope: LayoutScope) -> Result<Draft, Failure<ScopeFault>>
         ensures ok { IfOk result (λ draft. after_scope self scope ≡ Some draft) }
         ensures err { IfErr result (IsBadScope self scope) }
     {
@@ -44,15 +45,15 @@ impl Draft {
         } = self;
         let LayoutScope { name, parent, keys } = scope;
         if places.contains_key(name.as_str()) {
-            return Err(ScopeFault::BadLayout);
+            return Err(Failure::Fault(ScopeFault::BadLayout));
         }
         let parent = match parent {
             Some(parent) => match places.get(parent.as_str()) {
                 Some(&at) => Some(at),
-                None => return Err(ScopeFault::BadLayout),
+                None => return Err(Failure::Fault(ScopeFault::BadLayout)),
             },
             None if scopes.is_empty() => None,
-            None => return Err(ScopeFault::BadLayout),
+            None => return Err(Failure::Fault(ScopeFault::BadLayout)),
         };
         places.insert(name.copied()?, scopes.len())?;
         scopes.push(Scope { name, parent, keys })?;
@@ -60,7 +61,7 @@ impl Draft {
     }
 
     /// The scopes of a layout, each behind those before it.
-    pub(crate) fn of(alloc: Global, scopes: Vec<LayoutScope>) -> Result<Draft, ScopeFault>
+    pub(crate) fn of(alloc: Global, scopes: Vec<LayoutScope>) -> Result<Draft, Failure<ScopeFault>>
         ensures ok { IfOk result (λ draft. built [] scopes.items ≡ Some draft) }
         ensures err { IfErr result (IsBadList scopes.items) }
     {

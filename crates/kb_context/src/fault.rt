@@ -1,7 +1,6 @@
 //! Why calls on scopes are refused.
-ghost use Rattle.std.specs.Prelude.{◌≡◌, codes};
+ghost use Rattle.std.specs.Prelude.{◌≡◌};
 
-use std::alloc::{AllocError, AllocFailed};
 use thiserror::Error;
 
 /// Why a call on scopes was refused. The numbers are our decision.
@@ -16,56 +15,20 @@ pub enum ScopeFault {
     /// More keys than may stand in all scopes together.
     #[error("too many context keys")]
     TooManyKeys,
-    /// Memory was refused.
-    #[error("out of memory")]
-    NoMemory,
 }
 
 impl ScopeFault {
-    ghost use Rattle.kb_context.specs.ScopeFault.{number_of, name_of};
+    ghost use Rattle.kb_context.specs.ScopeFault.{number_of};
 
     /// The fault's number, by which traces and messages name it.
-    pub fn number(&self) -> u32
-        ensures { result ≡ number_of self.now }
+    pub fn number(self) -> u32
+        ensures { result ≡ number_of self }
     {
         match self {
             ScopeFault::UnknownScope => 20,
             ScopeFault::BadLayout => 21,
             ScopeFault::TooManyKeys => 22,
-            ScopeFault::NoMemory => 5,
         }
-    }
-
-    /// The fault's name, as traces and messages print it behind the number.
-    pub fn name(&self) -> &'static str
-        ensures { result.now ≡ name_of self.now }
-    {
-        match self {
-            ScopeFault::UnknownScope => "UnknownScope",
-            ScopeFault::BadLayout => "BadLayout",
-            ScopeFault::TooManyKeys => "TooManyKeys",
-            ScopeFault::NoMemory => "NoMemory",
-        }
-    }
-}
-
-impl From<AllocError> for ScopeFault {
-    ghost use Rattle.kb_context.specs.declared.fault.ScopeFault.{ScopeFault};
-
-    ghost from_gives = { λ _ fault. fault ≡ ScopeFault.NoMemory };
-
-    fn from(_error: AllocError) -> Self {
-        ScopeFault::NoMemory
-    }
-}
-
-impl<T: Drop> From<AllocFailed<T>> for ScopeFault {
-    ghost use Rattle.kb_context.specs.declared.fault.ScopeFault.{ScopeFault};
-
-    ghost from_gives = { λ _ fault. fault ≡ ScopeFault.NoMemory };
-
-    fn from(_error: AllocFailed<T>) -> Self {
-        ScopeFault::NoMemory
     }
 }
 
@@ -74,13 +37,3 @@ impl<T: Drop> From<AllocFailed<T>> for ScopeFault {
 #[derive(Clone, Copy, Debug, PartialEq, Eq, Error)]
 #[error("no scope has this name")]
 pub struct UnknownScope;
-
-impl From<UnknownScope> for ScopeFault {
-    ghost use Rattle.kb_context.specs.declared.fault.ScopeFault.{ScopeFault};
-
-    ghost from_gives = { λ _ fault. fault ≡ ScopeFault.UnknownScope };
-
-    fn from(_error: UnknownScope) -> Self {
-        ScopeFault::UnknownScope
-    }
-}

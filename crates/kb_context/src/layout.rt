@@ -1,6 +1,7 @@
 //! Layouts, from which scopes are made.
 ghost use Rattle.std.specs.Prelude.{◌≡◌, Some, None, if◌then◌else◌, nat_lt};
 ghost use Rattle.kb_context.specs.Layout.{layout_key_count};
+ghost use Rattle.kb_context.specs.Scopes.{key_limit};
 
 use crate::scopes::KEY_LIMIT;
 use crate::seq::Seq;
@@ -36,7 +37,7 @@ pub struct Layout {
 /// How many keys the scopes have together, if no more than may stand.
 pub(crate) fn count_keys(scopes: &[LayoutScope]) -> Option<usize>
     ensures { let count = layout_key_count scopes.now in
-        result ≡ (if nat_lt KEY_LIMIT count then None else Some count) }
+        result ≡ (if nat_lt key_limit count then None else Some count) }
 {
     let mut count = 0;
     for scope in scopes {

@@ -4,6 +4,7 @@ ghost use Rattle.std.specs.FinMap as map;
 ghost use Rattle.kb_context.specs.Scopes.{IsRooted, seen_from};
 
 use crate::draft::Draft;
+use crate::failure::Failure;
 use crate::fault::{ScopeFault, UnknownScope};
 use crate::layout::{Layout, SCOPE_LIMIT, count_keys};
 use crate::text::Text;
@@ -68,7 +69,7 @@ impl Model for Scopes {
 }
 
 impl Scopes {
-    ghost use Rattle.kb_context.specs.ScopeFault.{IsRefusal, IsRefusalOrMemory};
+    ghost use Rattle.kb_context.specs.Failure.{IsRefusal, IsRefusalOrMemory};
     ghost use Rattle.kb_context.specs.Layout.{layout_fault, scopes_of};
     ghost use Rattle.kb_context.specs.Scopes.{context, place_of, value_in, value_at, set_fault_at, set_fault, with_value_at, with_value, without_value, with_focus, ReachesRoot, ChangesOnly, ChangesOnlyIn};
 
@@ -78,7 +79,7 @@ impl Scopes {
     /// another has none or one that isn't named before it, a name stands twice, or the focus names
     /// no scope. Then `TooManyKeys` (22) where more than `KEY_LIMIT` keys stand in all scopes
     /// together. `NoMemory` (5). These rules are our decision.
-    pub fn new(alloc: Global, layout: Layout) -> Result<Scopes, ScopeFault>
+    pub fn new(alloc: Global, layout: Layout) -> Result<Scopes, Failure<ScopeFault>>
         ensures good { OnOk result (layout_fault layout ≡ None) }
         ensures ok { IfOk result (λ scopes. scopes ≡ scopes_of layout) }
         ensures err { IfErr result (IsRefusal (layout_fault layout)) }
@@ -86,15 +87,15 @@ impl Scopes {
         let Layout { scopes, focus } = layout;
         let scopes = scopes.into_vec();
         if scopes.len() > SCOPE_LIMIT {
-            return Err(ScopeFault::BadLayout);
+            return Err(Failure::Fault(ScopeFault::BadLayout));
         }
         let count = count_keys(&scopes);
         let Draft { scopes, places } = Draft::of(alloc, scopes)?;
         let Some(&focus) = places.get(focus.as_str()) else {
-            return Err(ScopeFault::BadLayout);
+            return Err(Failure::Fault(ScopeFault::BadLayout));
         };
         let Some(keys) = count else {
-            return Err(ScopeFault::TooManyKeys);
+            return Err(Failure::Fault(ScopeFault::TooManyKeys));
         };
         Ok(Scopes {
             scopes,
@@ -116,7 +117,7 @@ impl Scopes {
     }
 
     /// Gives a key a value in the scope at a place.
-    fn set_at(&mut self, at: usize, key: &str, value: ContextValue) -> Result<(), ScopeFault>
+    fn set_at(&mut self, at: usize, key: &str, value: ContextValue) -> Result<(), Failure<ScopeFault>>
         requires { at < length self.old.scopes }
         ensures allowed { OnOk result (set_fault_at self.old at key.now ≡ None) }
         ensures ok { OnOk result (self.new ≡ with_value_at self.old at key.now value) }
@@ -128,7 +129,7 @@ impl Scopes {
         let alloc = *self.scopes.allocator();
         let scope = &mut self.scopes[at];
         if self.keys >= KEY_LIMIT && !scope.keys.contains_key(key) {
-            return Err(ScopeFault::TooManyKeys);
+            return Err(Failure::Fault(ScopeFault::TooManyKeys));
         }
         let before = scope.keys.len();
         scope.keys.set(alloc, key, value)?;
@@ -141,7 +142,7 @@ impl Scopes {
     /// `UnknownScope` (20) where no scope has the name. `TooManyKeys` (22) where the key is new in
     /// the scope and `KEY_LIMIT` keys stand in all scopes together. `NoMemory` (5), only where the
     /// key is new and neither of these comes. The first two rules are our decision.
-    pub fn set(&mut self, scope: &str, key: &str, value: ContextValue) -> Result<(), ScopeFault>
+    pub fn set(&mut self, scope: &str, key: &str, value: ContextValue) -> Result<(), Failure<ScopeFault>>
         ensures allowed { OnOk result (set_fault self.old scope.now key.now ≡ None) }
         ensures ok { OnOk result (self.new ≡ with_value self.old scope.now key.now value) }
         ensures err { IfErr result (IsRefusalOrMemory (set_fault self.old scope.now key.now)) }
@@ -151,13 +152,13 @@ impl Scopes {
     {
         match self.places.get(scope) {
             Some(&at) => self.set_at(at, key, value),
-            None => Err(ScopeFault::UnknownScope),
+            None => Err(Failure::Fault(ScopeFault::UnknownScope)),
         }
     }
 
     /// Gives a key a value in the outermost scope, which is the first one: `TooManyKeys` (22) and
     /// `NoMemory` (5) as for `set`.
-    pub fn set_root(&mut self, key: &str, value: ContextValue) -> Result<(), ScopeFault>
+    pub fn set_root(&mut self, key: &str, value: ContextValue) -> Result<(), Failure<ScopeFault>>
         ensures allowed { OnOk result (set_fault_at self.old 0 key.now ≡ None) }
         ensures ok { OnOk result (self.new ≡ with_value_at self.old 0 key.now value) }
         ensures err { IfErr result (IsRefusalOrMemory (set_fault_at self.old 0 key.now)) }

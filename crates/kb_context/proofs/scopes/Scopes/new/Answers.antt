@@ -1,8 +1,8 @@
 use Rattle.std.proofs.Common.{◌≡◌, ◌≤◌, List, [], length, Some, None, cond, nat_lt, sym, subst, ap, ◌∙◌, zero-add, arith, rules}
 use Rattle.std.proofs.lemmas.Result.{err_from_is_err_and}
 use Rattle.kb_context.specs.declared.layout.LayoutScope.{LayoutScope}
-use Rattle.kb_context.specs.declared.scopes.TheConstants.{KEY_LIMIT}
-use Rattle.kb_context.specs.declared.layout.TheConstants.{SCOPE_LIMIT}
+use Rattle.kb_context.specs.Scopes.{key_limit}
+use Rattle.kb_context.specs.Layout.{scope_limit}
 use Rattle.kb_context.specs.Scopes.{place_of}
 use Rattle.kb_context.specs.Layout.{layout_key_count}
 use Rattle.kb_context.specs.Draft.{built, IsBadList}
@@ -16,7 +16,7 @@ use Rattle.kb_context.proofs.scopes.Scopes.new.Goals.{In_ok-scopes, In-Some}
 built_from : (c : In_ok-scopes) → built [] c.args.layout.scopes ≡ Some c.in_ok-scopes.field-0
 built_from c = ap (built []) (sym c.into_vec-scopes.ensures) ∙ c.in_ok-scopes.ensures.ok
 
-few : (c : In_ok-scopes) → length c.args.layout.scopes ≤ SCOPE_LIMIT
+few : (c : In_ok-scopes) → length c.args.layout.scopes ≤ scope_limit
 few c =
     let same : c.len.result ≡ length c.into_vec-scopes.result.items = search rules in
     let limit : c.len.result ≤ 1000 = c.if-len-gt-SCOPE_LIMIT.false in
@@ -45,7 +45,7 @@ returns-in_default-count-clause-err c =
 
 pub invariant_of-result : goal.invariant_of-result
 invariant_of-result c =
-    let h = counted KEY_LIMIT (layout_key_count c.into_vec-scopes.result.items) c.in-Some-count.keys (c.in-Some-count.ensures ∙ ap (λ (ps : List LayoutScope). cond (nat_lt KEY_LIMIT (layout_key_count ps)) None (Some (layout_key_count ps))) c.deref.ensures.value) in
+    let h = counted key_limit (layout_key_count c.into_vec-scopes.result.items) c.in-Some-count.keys (c.in-Some-count.ensures ∙ ap (λ (ps : List LayoutScope). cond (nat_lt key_limit (layout_key_count ps)) None (Some (layout_key_count ps))) c.deref.ensures.value) in
     record {
       inside = placed_within c.as_str.result.now c.scopes.inside.scopes.items c.scopes.inside.places _ (c.scopes.invariant.placed c.as_str.result.now) c.in-Some.ensures;
       rooted = c.scopes.invariant.rooted;

@@ -4,7 +4,7 @@ use Rattle.std.proofs.Math.Bool.{or-true}
 use Rattle.std.proofs.lemmas.Bool.{lt-ltb}
 use Rattle.std.proofs.lemmas.Option.{slice_get_read}
 use Rattle.kb_context.specs.Scopes.{ScopesData, set_fault_at, with_value_at}
-use Rattle.kb_context.specs.declared.scopes.TheConstants.{KEY_LIMIT}
+use Rattle.kb_context.specs.Scopes.{key_limit}
 use Rattle.kb_context.proofs.ScopesLemmas.{keeps, seen_after, len_le-key_count, few-insert, no_fault, set_changes}
 use Rattle.kb_context.proofs.scopes.Scopes.set_at.Goals as goal
 use Rattle.kb_context.proofs.scopes.Scopes.set_at.Goals.{In_ok-set, else-self-ge-KEY_LIMIT-via-then-self-ge-KEY_LIMIT+else-not-contains_key, else-self-ge-KEY_LIMIT-via-else-self-ge-KEY_LIMIT}
@@ -14,10 +14,10 @@ found : (c : In_ok-set) → slice_get c.self.inside.scopes.items c.args.at ≡ S
 found c = slice_get_read _ _ _ _ refl (subst (λ (s : ScopesData). c.args.at < length s.scopes) (sym c.self.view_is) c.requires) c.index_mut-scope.ensures.value
 
 -- there is room, or the key stands
-room : (c : In_ok-set) → (nat_lt c.self.inside.keys KEY_LIMIT || contains_key c.index_mut-scope.result.now.keys c.args.key.now) ≡ true
+room : (c : In_ok-set) → (nat_lt c.self.inside.keys key_limit || contains_key c.index_mut-scope.result.now.keys c.args.key.now) ≡ true
 room c = elim c.else-self-ge-KEY_LIMIT.branch [
   | else-self-ge-KEY_LIMIT-via-then-self-ge-KEY_LIMIT+else-not-contains_key w ↦
-      ap (λ b. nat_lt c.self.inside.keys KEY_LIMIT || b) (sym w.contains_key.ensures ∙ w.if-not-contains_key.false) ∙ or-true _
+      ap (λ b. nat_lt c.self.inside.keys key_limit || b) (sym w.contains_key.ensures ∙ w.if-not-contains_key.false) ∙ or-true _
   | else-self-ge-KEY_LIMIT-via-else-self-ge-KEY_LIMIT w ↦
       ap (λ b. b || contains_key c.index_mut-scope.result.now.keys c.args.key.now) (lt-ltb _ _ w.if-self-ge-KEY_LIMIT.false)
 ]
@@ -33,7 +33,7 @@ invariant_of-self-2 c =
     let d : In_ok-set = (goal.at.invariant_of-self-2 c).In_ok-set in
     keeps (λ m. insert m c.args.key.now c.args.value) c.args.at c.self.inside.scopes.items c.index_mut-scope.result.now c.self.inside.places c.self.inside.focus c.self.inside.keys
     c.set.new.self c.len-before.result c.len.result c.self.invariant (found d) c.in_ok-set.ensures.ok c.len-before.ensures.len c.len.ensures.len
-    (few-insert c.index_mut-scope.result.now.keys c.args.key.now c.args.value KEY_LIMIT c.self.inside.keys (room d) c.self.invariant.few (within d))
+    (few-insert c.index_mut-scope.result.now.keys c.args.key.now c.args.value key_limit c.self.inside.keys (room d) c.self.invariant.few (within d))
 
 -- what is seen afterwards
 seen : (c : In_ok-set) → ◌≡◌ {A = ScopesData} (record { scopes = slice_set c.self.inside.scopes.items c.args.at (record { name = c.index_mut-scope.result.now.name; parent = c.index_mut-scope.result.now.parent; keys = c.set.new.self }); focus = c.self.inside.focus }) (with_value_at c.args.self.now c.args.at c.args.key.now c.args.value)

@@ -1,6 +1,6 @@
 use Rattle.std.proofs.Common.{rules, ◌≡◌, ◌<◌, ◌≤◌, length, Some, slice_get, slice_set, sym, subst, ap, ◌∙◌, refl}
 use Rattle.std.specs.FinMap.{remove, len}
-use Rattle.kb_context.specs.declared.scopes.TheConstants.{KEY_LIMIT}
+use Rattle.kb_context.specs.Scopes.{key_limit}
 use Rattle.kb_context.specs.Scopes.{ScopesData, place_of, without_value_at}
 use Rattle.kb_context.proofs.ScopesLemmas.{placed_within, found_by, keeps, seen_after, len_le-key_count, few-remove, unset_changes, changes_in}
 use Rattle.kb_context.proofs.scopes.Scopes.unset.Goals as goal
@@ -37,7 +37,7 @@ invariant_of-self c =
     let d : After-remove = (goal.at.invariant_of-self c).After-remove in
     keeps (λ m. remove m c.args.key.now) c.in-Some.field-0.now c.self.inside.scopes.items c.index_mut-scope.result.now c.self.inside.places c.self.inside.focus c.self.inside.keys
     c.remove.new.self c.len-before.result c.len.result c.self.invariant (found d) c.remove.ensures c.len-before.ensures.len c.len.ensures.len
-    (few-remove c.index_mut-scope.result.now.keys c.args.key.now KEY_LIMIT c.self.inside.keys c.self.invariant.few (within d))
+    (few-remove c.index_mut-scope.result.now.keys c.args.key.now key_limit c.self.inside.keys c.self.invariant.few (within d))
 
 pub returns-clause-known : goal.returns-clause-known
 returns-clause-known c = rw (place (goal.at.returns-clause-known c).After-remove) refl

@@ -1,0 +1,66 @@
+//! Why something was refused, and the table of all faults.
+ghost use Rattle.std.specs.Prelude.{◌≡◌};
+ghost use Rattle.kb_context.specs.Faults.{fault_name};
+ghost use Rattle.kb_context.specs.Refusal.{refused_for};
+
+use crate::text::Text;
+
+/// Why something was refused, as its line says: the number of a fault, and what stands behind the
+/// fault's name. A refusal changes nothing but the trace.
+#[derive(Debug, Drop)]
+pub struct Refusal {
+    /// The fault's number in the table of all faults.
+    pub number: u32,
+    /// What the line says behind the name, as which command is meant, where it says more.
+    pub detail: Option<Text>,
+}
+
+impl Refusal {
+    /// The refusal for a fault whose number and name say all. It takes no memory.
+    pub fn of(number: u32) -> Refusal
+        ensures { result ≡ refused_for number }
+    {
+        Refusal {
+            number,
+            detail: None,
+        }
+    }
+
+    /// The fault's name, as lines print it behind the number. It takes no memory.
+    pub fn name(&self) -> &'static str
+        ensures { result.now ≡ fault_name self.now.number }
+    {
+        fault_name(self.number)
+    }
+}
+
+/// The name of a fault, by which lines name it behind its number, or the empty text for a number that
+/// no fault has. Numbers and names are our decision. It takes no memory.
+pub fn fault_name(number: u32) -> &'static str
+    ensures { result.now ≡ fault_name number }
+{
+    match number {
+        1 => "NotUtf8",
+        2 => "OpenComment",
+        3 => "OpenString",
+        4 => "Syntax",
+        5 => "NoMemory",
+        10 => "UnknownKey",
+        11 => "TooManySteps",
+        12 => "EmptyKey",
+        20 => "UnknownScope",
+        21 => "BadLayout",
+        22 => "TooManyKeys",
+        30 => "BadToken",
+        31 => "Unexpected",
+        32 => "TooDeep",
+        33 => "BadNumber",
+        40 => "MissingMember",
+        41 => "WrongShape",
+        97 => "Stopped",
+        100 => "TooLong",
+        101 => "ReadFailed",
+        102 => "WriteFailed",
+        _ => "",
+    }
+}
