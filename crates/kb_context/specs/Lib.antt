@@ -1,3 +1,4 @@
+pub mod Blank
 pub mod Draft
 pub mod Failure
 pub mod Faults

@@ -3,6 +3,7 @@
 //! error of a refused allocation, why a call gave nothing, and the one table of faults.
 #![tactic(auto)]
 
+pub mod blank;
 mod draft;
 pub mod failure;
 pub mod fault;
@@ -15,6 +16,7 @@ pub mod text;
 pub mod text_map;
 pub mod value;
 
+pub use blank::{is_blank, is_blank_text};
 pub use failure::Failure;
 pub use fault::{ScopeFault, UnknownScope};
 pub use layout::{Layout, LayoutScope, SCOPE_LIMIT};
