@@ -36,6 +36,7 @@ impl Refusal {
 
 /// The name of a fault, by which lines name it behind its number, or the empty text for a number that
 /// no fault has. Numbers and names are our decision. It takes no memory.
+#[tactic(auto, unfolding(crate::specs::Faults::fault_name))]
 pub fn fault_name(number: u32) -> &'static str
     ensures { result.now ≡ fault_name number }
 {
