@@ -1,4 +1,4 @@
--- The laws of the pieces.
+-- The laws of the pieces and of the plain text, for every text.
 use Rattle.std.proofs.Common.{◌≡◌, ℕ, zero, suc, cond, min, ◌+◌, ◌-◌, ◌<◌, ◌≤◌, ◌⊎◌, inl, inr, Bool, true, false, ◌&&◌, List, [], ◌∷◌, ◌++◌, length, get_or, take, drop, map, Option, Some, None, option_map, Result, Ok, Err, refl, sym, ap, ◌∙◌, subst, arith, eqb}
 use Rattle.std.specs.List.{flat_map}
 use Rattle.std.proofs.lemmas.Bool.{false≢true}
@@ -6,9 +6,9 @@ use Rattle.std.proofs.lemmas.Bool.Decides.{nat_tests}
 use Rattle.std.proofs.lemmas.List.{length-append, length-map, length-take, drop_min, take-append-drop}
 use Rattle.kb_jsonc.specs.declared.fault.JsoncFault.{JsoncFault}
 use Rattle.kb_jsonc.specs.declared.fault.JsoncFault.TheVariants.{OpenComment, OpenString}
-use Rattle.kb_jsonc.specs.Fault.{◌>>=◌}
+use Rattle.kb_context.specs.Reading.{◌>>=◌, or_fault}
 use Rattle.kb_jsonc.specs.Bytes.{is_blank, is_line_end, blanked}
-use Rattle.kb_jsonc.specs.Pieces.{Piece, quoted, comment, single, bytes_of, begins, string_len, block_len, line_len, piece_or, first_piece, pieces_past, pieces}
+use Rattle.kb_jsonc.specs.Pieces.{Piece, quoted, comment, single, bytes_of, begins, string_len, block_len, line_len, first_piece, pieces_past, pieces}
 use Rattle.kb_jsonc.specs.Text.{next_of, is_trailing, plain_of, plain_text}
 use Rattle.kb_jsonc.specs.PieceLaws.{PiecesAreWhole, LengthStays, OnlyBlanks, EndsFirst}
 
@@ -23,7 +23,7 @@ bind_ok : {A B : Type 0} (r : Result A JsoncFault) (f : A → Result B JsoncFaul
 bind_ok (Ok x) f y e = (x, refl, e)
 bind_ok (Err fault) f y e = cc
 
-piece_ok : (fault : JsoncFault) (o : Option ℕ) (g : ℕ → Piece) (p : Piece) → piece_or fault (option_map g o) ≡ Ok p → (n : ℕ) × (g n ≡ p)
+piece_ok : (fault : JsoncFault) (o : Option ℕ) (g : ℕ → Piece) (p : Piece) → or_fault fault (option_map g o) ≡ Ok p → (n : ℕ) × (g n ≡ p)
 piece_ok fault (Some n) g p e = (n, cc)
 piece_ok fault None g p e = cc
 

@@ -6,13 +6,18 @@ use Rattle.std.specs.List.{list_all}
 use Rattle.std.proofs.lemmas.Bool.Decides.{nat_tests}
 use Rattle.std.proofs.lemmas.Str.{IsUtf8-from_is_utf8, is_utf8-from_IsUtf8, IsUtf8-append, IsUtf8-encode, IsUtf8-past_char}
 use Rattle.serde_json.specs.Data.{Data, array, no_items}
+use Rattle.serde_json.specs.Errors.{IsMemory}
 use Rattle.serde_json.specs.Read.{read as read_text}
+use Rattle.serde_json.specs.declared.error.Error.{Error}
 use Rattle.kb_jsonc.specs.declared.fault.JsoncFault.{JsoncFault}
-use Rattle.kb_jsonc.specs.declared.fault.JsoncFault.TheVariants.{NotUtf8, OpenComment, OpenString, Syntax, NoMemory}
-use Rattle.kb_jsonc.specs.Fault.{◌>>=◌, Fails}
+use Rattle.kb_jsonc.specs.declared.fault.JsoncFault.TheVariants.{NotUtf8, Syntax}
+use Rattle.kb_context.specs.declared.failure.Failure.{Failure}
+use Rattle.kb_context.specs.declared.failure.Failure.TheVariants.{NoMemory, Fault}
+use Rattle.kb_context.specs.Failure.{Fails}
+use Rattle.kb_context.specs.Reading.{◌>>=◌, or_fault}
 use Rattle.kb_jsonc.specs.Bytes.{is_blank}
 use Rattle.kb_jsonc.specs.Text.{plain_text}
-use Rattle.kb_jsonc.specs.Reader.{without_mark, data_or_syntax, plain_value, value_of}
+use Rattle.kb_jsonc.specs.Reader.{without_mark, plain_value, value_of, TellsError}
 
 told : (t : Bool) → (t ≡ true) ⊎ (t ≡ false)
 told true = inl refl
@@ -60,15 +65,12 @@ unfolding value_of
 value_of_text bytes u = rw (is_utf8-from_IsUtf8 bytes (utf8_unmarked bytes u)) refl
 
 -- a fault of the plain text is one of the whole
-bind_fails : (fault : JsoncFault) (r : Result (List ℕ) JsoncFault) (f : List ℕ → Result Data JsoncFault) → Fails fault r → Fails fault (r >>= f)
-bind_fails NotUtf8 r f e = ap (λ x. x >>= f) e
-bind_fails OpenComment r f e = ap (λ x. x >>= f) e
-bind_fails OpenString r f e = ap (λ x. x >>= f) e
-bind_fails Syntax r f e = ap (λ x. x >>= f) e
+bind_fails : (failure : Failure JsoncFault) (r : Result (List ℕ) JsoncFault) (f : List ℕ → Result Data JsoncFault) → Fails failure r → Fails failure (r >>= f)
 bind_fails NoMemory r f e = tt
+bind_fails (Fault fault) r f e = ap (λ x. x >>= f) e
 
-pub value_fault : (bytes : List ℕ) (fault : JsoncFault) → IsUtf8 (without_mark bytes) → Fails fault (plain_text (without_mark bytes)) → Fails fault (value_of bytes)
-value_fault bytes fault u e = rw (value_of_text bytes u) (bind_fails fault (plain_text (without_mark bytes)) plain_value e)
+pub value_fault : (bytes : List ℕ) (failure : Failure JsoncFault) → IsUtf8 (without_mark bytes) → Fails failure (plain_text (without_mark bytes)) → Fails failure (value_of bytes)
+value_fault bytes failure u e = rw (value_of_text bytes u) (bind_fails failure (plain_text (without_mark bytes)) plain_value e)
 
 pub value_whole : (bytes text : List ℕ) → IsUtf8 (without_mark bytes) → plain_text (without_mark bytes) ≡ Ok text → value_of bytes ≡ plain_value text
 value_whole bytes text u e = value_of_text bytes u ∙ ap (λ r. r >>= plain_value) e
@@ -79,8 +81,14 @@ blank_value text e = rw e refl
 
 pub read_value : (text : List ℕ) (d : Data) → list_all is_blank text ≡ false → read_text text ≡ Some d → plain_value text ≡ Ok d
 unfolding plain_value
-read_value text d e r = rw e (ap data_or_syntax r)
+read_value text d e r = rw e (ap (or_fault Syntax) r)
 
 pub no_value : (text : List ℕ) → list_all is_blank text ≡ false → read_text text ≡ None → plain_value text ≡ Err Syntax
 unfolding plain_value
-no_value text e r = rw e (ap data_or_syntax r)
+no_value text e r = rw e (ap (or_fault Syntax) r)
+
+-- an error that isn't refused memory is the text's
+pub failed_value : (text : List ℕ) (error : Error) (failure : Failure JsoncFault) → list_all is_blank text ≡ false → ((IsMemory error → ⊥) → read_text text ≡ None) → TellsError error failure
+    → Fails failure (plain_value text)
+failed_value text error NoMemory blank none tells = tt
+failed_value text error (Fault fault) blank none tells = no_value text blank (none tells.0) ∙ ap Err (sym tells.1)

@@ -5,7 +5,7 @@ use Rattle.std.proofs.lemmas.Bool.{false≢true}
 use Rattle.std.proofs.lemmas.Bool.Decides.{nat_tests}
 use Rattle.std.proofs.lemmas.List.{set-append_left, set_at}
 use Rattle.kb_jsonc.specs.declared.fault.JsoncFault.{JsoncFault}
-use Rattle.kb_jsonc.specs.Fault.{◌>>=◌}
+use Rattle.kb_context.specs.Reading.{◌>>=◌}
 use Rattle.kb_jsonc.specs.Scan.{settled, whole_of, continued}
 use Rattle.kb_jsonc.specs.Bytes.{space, blanked, is_blank, closes, ends_value}
 use Rattle.kb_jsonc.specs.Pieces.{Piece, quoted, comment, single, bytes_of, first_piece, pieces_past, pieces}

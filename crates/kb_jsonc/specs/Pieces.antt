@@ -4,7 +4,7 @@ use Rattle.std.specs.List.{prefix_len}
 use Rattle.std.specs.Str.{IsUtf8}
 use Rattle.kb_jsonc.specs.declared.fault.JsoncFault.{JsoncFault}
 use Rattle.kb_jsonc.specs.declared.fault.JsoncFault.TheVariants.{OpenComment, OpenString}
-use Rattle.kb_jsonc.specs.Fault.{◌>>=◌}
+use Rattle.kb_context.specs.Reading.{◌>>=◌, or_fault}
 use Rattle.kb_jsonc.specs.Bytes.{quote, backslash, slash, star, is_line_end}
 
 -- a string with its quotes, a comment with its marks, or any other byte
@@ -38,16 +38,12 @@ abbrev pub begins : ℕ → List ℕ → Bool
 begins b [] = false
 begins b (c ∷ bs) = c == b
 
-abbrev pub piece_or : JsoncFault → Option Piece → Result Piece JsoncFault
-piece_or fault (Some piece) = Ok piece
-piece_or fault None = Err fault
-
 -- the piece that stands first in b ∷ bs
 unfoldable pub first_piece : ℕ → List ℕ → Result Piece JsoncFault
 first_piece b bs =
-    if b == quote then piece_or OpenString (option_map (λ n. quoted (b ∷ take n bs)) (string_len bs))
+    if b == quote then or_fault OpenString (option_map (λ n. quoted (b ∷ take n bs)) (string_len bs))
     else if b == slash && begins slash bs then Ok (comment (b ∷ take (line_len bs) bs))
-    else if b == slash && begins star bs then piece_or OpenComment (option_map (λ n. comment (b ∷ take (n + 1) bs)) (block_len (drop 1 bs)))
+    else if b == slash && begins star bs then or_fault OpenComment (option_map (λ n. comment (b ∷ take (n + 1) bs)) (block_len (drop 1 bs)))
     else Ok (single b)
 
 -- the piece that stands first in a text that isn't empty

@@ -1,7 +1,7 @@
 -- The plain text of a text: its comments are made blank, and then its trailing commas, all at once.
 use Rattle.std.specs.Prelude.{ℕ, ◌==◌, ◌&&◌, Bool, if◌then◌else◌, List, [], ◌∷◌, ◌++◌, map, Option, Some, None, Result, Ok}
 use Rattle.kb_jsonc.specs.declared.fault.JsoncFault.{JsoncFault}
-use Rattle.kb_jsonc.specs.Fault.{◌>>=◌}
+use Rattle.kb_context.specs.Reading.{◌>>=◌}
 use Rattle.kb_jsonc.specs.Bytes.{quote, comma, space, is_blank, blanked, closes, ends_value}
 use Rattle.kb_jsonc.specs.Pieces.{Piece, quoted, comment, single, pieces}
 

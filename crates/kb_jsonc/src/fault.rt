@@ -1,15 +1,12 @@
-//! Why a file could not be read.
-ghost use Rattle.std.specs.Prelude.{◌≡◌};
-ghost use Rattle.kb_jsonc.specs.declared.fault.JsoncFault.TheVariants.{NoMemory};
-
-use std::alloc::AllocError;
+//! What is wrong with a text of JSON with comments.
+use kb_context::Failure;
 use thiserror::Error;
 
 /// Why a file of JSON with comments could not be read.
 ///
 /// The faults stand in the order in which they are looked for, so a file with several has the first
-/// of them. The order, the numbers and the names are our decision.
-#[derive(Clone, Copy, Debug, Drop, PartialEq, Eq, Error)]
+/// of them. The order and the numbers are our decision.
+#[derive(Clone, Copy, Debug, PartialEq, Eq, Error)]
 pub enum JsoncFault {
     /// The bytes are no UTF-8 text.
     #[error("the file is no UTF-8 text")]
@@ -24,45 +21,33 @@ pub enum JsoncFault {
     /// levels.
     #[error("the file is no JSON text")]
     Syntax,
-    /// Memory ran out.
-    #[error("out of memory")]
-    NoMemory,
-}
-
-impl From<AllocError> for JsoncFault {
-    ghost from_gives = { λ _ fault. fault ≡ NoMemory };
-
-    fn from(_refused: AllocError) -> Self {
-        Self::NoMemory
-    }
 }
 
 impl JsoncFault {
-    ghost use Rattle.kb_jsonc.specs.Fault.{number_of, name_of};
+    ghost use Rattle.std.specs.Prelude.{◌≡◌};
+    ghost use Rattle.kb_jsonc.specs.Fault.{number_of};
 
-    /// The number of the fault, from 1 to 5 in the order of the variants. Our decision.
-    pub fn number(&self) -> u32
-        ensures { result ≡ number_of self.now }
+    /// The fault's number, from 1 to 4 in the order of the variants, by which traces and messages
+    /// name it.
+    pub fn number(self) -> u32
+        ensures { result ≡ number_of self }
     {
         match self {
             JsoncFault::NotUtf8 => 1,
             JsoncFault::OpenComment => 2,
             JsoncFault::OpenString => 3,
             JsoncFault::Syntax => 4,
-            JsoncFault::NoMemory => 5,
         }
     }
+}
 
-    /// The name of the fault, which is its variant's. Our decision.
-    pub fn name(&self) -> &'static str
-        ensures { result.now ≡ name_of self.now }
-    {
-        match self {
-            JsoncFault::NotUtf8 => "NotUtf8",
-            JsoncFault::OpenComment => "OpenComment",
-            JsoncFault::OpenString => "OpenString",
-            JsoncFault::Syntax => "Syntax",
-            JsoncFault::NoMemory => "NoMemory",
-        }
+impl From<JsoncFault> for Failure<JsoncFault> {
+    ghost use Rattle.std.specs.Prelude.{◌≡◌};
+    ghost use Rattle.kb_context.specs.declared.failure.Failure.TheVariants.{Fault};
+
+    ghost from_gives = { λ fault failure. failure ≡ Fault fault };
+
+    fn from(fault: JsoncFault) -> Failure<JsoncFault> {
+        Failure::Fault(fault)
     }
 }

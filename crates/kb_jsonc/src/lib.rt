@@ -6,15 +6,14 @@
 //! in `src/scan.rt` that is proved to do the same.
 #![tactic(auto)]
 
-mod bytes;
+pub mod bytes;
 mod fault;
-mod piece_laws;
 mod pieces;
 mod reader;
 mod scan;
 mod text;
 
+pub use bytes::{is_blank, is_blank_text};
 pub use fault::JsoncFault;
-pub use piece_laws::laws;
 pub use reader::read;
 pub use text::plain;

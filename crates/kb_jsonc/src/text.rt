@@ -1,10 +1,11 @@
 //! The plain text of JSON with comments.
 ghost use Rattle.std.specs.Prelude.{◌≡◌, length, string_bytes, string_len, IfOk};
-ghost use Rattle.kb_jsonc.specs.Fault.{Gives};
+ghost use Rattle.kb_context.specs.Failure.{Gives};
 ghost use Rattle.kb_jsonc.specs.Text.{plain_text};
 
 use crate::fault::JsoncFault;
 use crate::scan::make_plain;
+use kb_context::Failure;
 use std::alloc::Global;
 
 /// The text with its comments and its trailing commas made blank, which is JSON where nothing else
@@ -21,8 +22,8 @@ use std::alloc::Global;
 /// # Errors
 ///
 /// `OpenComment` (2) or `OpenString` (3) where a block comment or a string has no end, whichever
-/// stands first. `NoMemory` (5) where there is none for the one copy of the text.
-pub fn plain(alloc: Global, text: &str) -> Result<String, JsoncFault>
+/// stands first. `NoMemory` (5) where memory was refused for the one copy of the text.
+pub fn plain(alloc: Global, text: &str) -> Result<String, Failure<JsoncFault>>
     ensures exact { Gives string_bytes result (plain_text text.now) }
     ensures length { IfOk result (λ plain. string_len plain ≡ length text.now) }
 {

@@ -6,9 +6,8 @@ use Rattle.std.specs.List.{slice_split, All}
 use Rattle.std.proofs.lemmas.Bool.{not-true}
 use Rattle.std.proofs.lemmas.List.Splits.{slice_split_at, slice_split_none}
 use Rattle.kb_keys.specs.declared.keystroke.Keystroke.{Keystroke}
-use Rattle.kb_keys.specs.declared.chord.TheConstants.{LIMIT}
 use Rattle.kb_keys.specs.Keystroke.{keystroke_of, split_of, spelling, KnownKeys}
-use Rattle.kb_keys.specs.Chord.{steps_of, with_step, strokes_of, chord_of, chord_spelling, spelling_after}
+use Rattle.kb_keys.specs.Chord.{chord_limit, steps_of, with_step, strokes_of, chord_of, chord_spelling, spelling_after}
 use Rattle.kb_keys.proofs.KeystrokeReadsBack.{spelling-IsCanonical, no_space}
 use Rattle.kb_keys.proofs.ChordLemmas.{kept}
 
@@ -73,13 +72,13 @@ all_read (s ∷ strokes) h = rw ((spelling-IsCanonical s h.0).read, all_read str
 steps_of-joined : (s : Keystroke) (strokes : List Keystroke) → KnownKeys (s ∷ strokes) → steps_of (chord_spelling (s ∷ strokes)) ≡ map spelling (s ∷ strokes)
 steps_of-joined s strokes h = rw (split_joined s strokes h) (all_kept (s ∷ strokes) h)
 
-chord_of-joined : (s : Keystroke) (strokes : List Keystroke) → KnownKeys (s ∷ strokes) → length (s ∷ strokes) ≤ LIMIT → chord_of (chord_spelling (s ∷ strokes)) ≡ Ok (s ∷ strokes)
+chord_of-joined : (s : Keystroke) (strokes : List Keystroke) → KnownKeys (s ∷ strokes) → length (s ∷ strokes) ≤ chord_limit → chord_of (chord_spelling (s ∷ strokes)) ≡ Ok (s ∷ strokes)
 chord_of-joined s strokes h fits =
     let some : (length (map spelling (s ∷ strokes)) == 0) ≡ false = search (rules, tests) in
-    let n : length (map spelling (s ∷ strokes)) ≤ LIMIT = omega (arith, length-map (s ∷ strokes) spelling) in
-    let few : nat_lt LIMIT (length (map spelling (s ∷ strokes))) ≡ false = search (rules, tests) in
+    let n : length (map spelling (s ∷ strokes)) ≤ chord_limit = omega (arith, length-map (s ∷ strokes) spelling) in
+    let few : nat_lt chord_limit (length (map spelling (s ∷ strokes))) ≡ false = search (rules, tests) in
     rw (steps_of-joined s strokes h, some, few) (all_read (s ∷ strokes) h)
 
-pub chord_of-spelling : (strokes : List Keystroke) → KnownKeys strokes → length strokes ≤ LIMIT → 0 < length strokes → chord_of (chord_spelling strokes) ≡ Ok strokes
+pub chord_of-spelling : (strokes : List Keystroke) → KnownKeys strokes → length strokes ≤ chord_limit → 0 < length strokes → chord_of (chord_spelling strokes) ≡ Ok strokes
 chord_of-spelling [] h fits some = absurd (omega arith)
 chord_of-spelling (s ∷ strokes) h fits some = chord_of-joined s strokes h fits

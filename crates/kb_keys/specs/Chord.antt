@@ -1,11 +1,14 @@
 -- What a chord text means, and the canonical text of a chord.
 use Rattle.std.specs.Prelude.{ℕ, List, [], ◌∷◌, ◌++◌, Bool, cond, ◌==◌, not, map, filter, nat_lt, length, Result, Ok, Err}
 use Rattle.std.specs.List.{slice_split, starts_with, join_with_byte}
-use Rattle.kb_keys.specs.declared.chord.TheConstants.{LIMIT}
 use Rattle.kb_keys.specs.declared.key_fault.KeyFault.{KeyFault}
 use Rattle.kb_keys.specs.declared.key_fault.KeyFault.TheVariants.{TooManySteps, EmptyKey}
 use Rattle.kb_keys.specs.declared.keystroke.Keystroke.{Keystroke}
 use Rattle.kb_keys.specs.Keystroke.{keystroke_of, spelling, same_stroke}
+
+-- how many keystrokes a chord may have
+abbrev pub chord_limit : ℕ
+chord_limit = 2
 
 -- the texts between spaces, without the empty ones
 abbrev pub steps_of : List ℕ → List (List ℕ)
@@ -39,7 +42,7 @@ strokes_of (step ∷ steps) = if_read (keystroke_of step) (strokes_of steps)
 abbrev pub chord_from : List (List ℕ) → Strokes
 chord_from steps =
     cond (length steps == 0) (Err EmptyKey)
-    (cond (nat_lt LIMIT (length steps)) (Err TooManySteps)
+    (cond (nat_lt chord_limit (length steps)) (Err TooManySteps)
     (strokes_of steps))
 
 -- the keystrokes that a text means, or the fault

@@ -3,11 +3,10 @@ use Rattle.std.specs.Prelude.{ℕ, ◌+◌, ◌<◌, List, [], ◌∷◌, ◌++�
 use Rattle.std.specs.List.{slice_split}
 use Rattle.kb_keys.specs.declared.key_fault.KeyFault.{KeyFault}
 use Rattle.kb_keys.specs.declared.key_fault.KeyFault.TheVariants.{UnknownKey, EmptyKey}
-use Rattle.kb_keys.specs.declared.key_name.TheConstants.{KEYS}
 use Rattle.kb_keys.specs.declared.keystroke.Keystroke.{Keystroke}
 use Rattle.kb_keys.specs.declared.modifier.Modifier.{Modifier}
 use Rattle.kb_keys.specs.declared.modifiers.Modifiers.{Modifiers}
-use Rattle.kb_keys.specs.KeyName.{key_named, name_of}
+use Rattle.kb_keys.specs.KeyName.{key_count, key_named, name_of}
 use Rattle.kb_keys.specs.Modifier.{modifier_named, is_sign}
 use Rattle.kb_keys.specs.Modifiers.{no_modifiers, with_modifier, spelled, same_modifiers}
 
@@ -82,4 +81,4 @@ same_stroke a b = same_modifiers a.mods b.mods && (a.key == b.key)
 -- each key is one of the table
 abbrev pub KnownKeys : List Keystroke → Type 0
 KnownKeys [] = Unit {0}
-KnownKeys (s ∷ strokes) = (s.key < KEYS) × KnownKeys strokes
+KnownKeys (s ∷ strokes) = (s.key < key_count) × KnownKeys strokes

@@ -2,7 +2,7 @@
 ghost use Rattle.std.specs.Prelude.{◌≡◌, ◌<◌, ◌≤◌, ◌+◌, ◌↔◌, length, List, [], ◌∷◌, ◌++◌, IfOk, OnOk, Ok, string_bytes, option_to_list, IsTrue, IsSome};
 ghost use Rattle.std.specs.Str.{IsUtf8};
 ghost use Rattle.kb_keys.specs.Keystroke.{KnownKeys};
-ghost use Rattle.kb_keys.specs.Chord.{chord_of, steps_of, with_step, chord_spelling, spelling_after, begins_with};
+ghost use Rattle.kb_keys.specs.Chord.{chord_limit, chord_of, steps_of, with_step, chord_spelling, spelling_after, begins_with};
 
 use crate::key_fault::KeyFault;
 use crate::keystroke::Keystroke;
@@ -25,15 +25,15 @@ pub struct Chord {
 impl Model for Chord {
     ghost use Rattle.std.specs.Prelude.{◌≡◌, ◌≤◌, List, length};
     ghost use Rattle.kb_keys.specs.declared.keystroke.Keystroke.{Keystroke};
-    ghost use Rattle.kb_keys.specs.declared.chord.TheConstants.{LIMIT};
+    ghost use Rattle.kb_keys.specs.Chord.{chord_limit};
 
     ghost Value = { List Keystroke };
 
     ghost view = { λ c. c.strokes.items };
 
-    ghost invariant = { λ c. (length c.strokes.items ≤ LIMIT) × (c.strokes.capacity ≡ LIMIT) };
+    ghost invariant = { λ c. (length c.strokes.items ≤ chord_limit) × (c.strokes.capacity ≡ chord_limit) };
 
-    ghost inverse = { λ strokes. record { strokes = record { items = strokes; capacity = LIMIT } } };
+    ghost inverse = { λ strokes. record { strokes = record { items = strokes; capacity = chord_limit } } };
 
     ghost use Rattle.std.proofs.Common.{ap, sym};
 
@@ -100,7 +100,7 @@ impl Chord {
     /// How many keystrokes the chord has.
     pub fn len(&self) -> usize
         ensures value { result ≡ length self.now }
-        ensures fits { result ≤ LIMIT }
+        ensures fits { result ≤ chord_limit }
     {
         self.strokes.len()
     }
@@ -115,14 +115,14 @@ impl Chord {
     /// The keystrokes, in order.
     pub fn as_slice(&self) -> &[Keystroke]
         ensures strokes { result.now ≡ self.now }
-        ensures fits { length self.now ≤ LIMIT }
+        ensures fits { length self.now ≤ chord_limit }
     {
         self.strokes.as_slice()
     }
 
     /// Adds a keystroke at the end, which takes no memory.
     pub fn push(&mut self, stroke: Keystroke)
-        requires { length self.old < LIMIT }
+        requires { length self.old < chord_limit }
         ensures { self.new ≡ self.old ++ stroke ∷ [] }
     {
         self.strokes.push_reserved(stroke);

@@ -1,11 +1,10 @@
 //! Why a text is no keystroke or no chord.
 ghost use Rattle.std.specs.Prelude.{◌≡◌};
-ghost use Rattle.kb_keys.specs.KeyFault.{number_of, name_of_fault};
+ghost use Rattle.kb_keys.specs.KeyFault.{number_of};
 
 use thiserror::Error;
 
-/// Why a text is no keystroke or no chord. The numbers and names are printed in warnings (our
-/// decision).
+/// Why a text is no keystroke or no chord. The numbers are our decision.
 #[derive(Clone, Copy, Debug, PartialEq, Eq, Error)]
 pub enum KeyFault {
     /// What follows the modifiers is no key's name.
@@ -20,21 +19,10 @@ pub enum KeyFault {
 }
 
 impl KeyFault {
-    /// The number that a warning prints: 10 to 12.
+    /// The fault's number, by which warnings name it: 10 to 12.
     pub fn number(self) -> u32
         ensures { result ≡ number_of self }
     {
         self as u32
-    }
-
-    /// The name that a warning prints: the variant's.
-    pub fn name(self) -> &'static str
-        ensures { result.now ≡ name_of_fault self }
-    {
-        match self {
-            KeyFault::UnknownKey => "UnknownKey",
-            KeyFault::TooManySteps => "TooManySteps",
-            KeyFault::EmptyKey => "EmptyKey",
-        }
     }
 }

@@ -1,6 +1,6 @@
 //! The names of the keys.
 ghost use Rattle.std.specs.Prelude.{◌≡◌, ◌<◌, ◌≤◌, length, Some};
-ghost use Rattle.kb_keys.specs.KeyName.{name_of, key_named, lowered};
+ghost use Rattle.kb_keys.specs.KeyName.{key_count, longest_name, name_of, key_named, lowered};
 
 use std::marker::Model;
 
@@ -129,13 +129,13 @@ pub struct KeyName {
 
 impl Model for KeyName {
     ghost use Rattle.std.specs.Prelude.{ℕ, ◌<◌};
-    ghost use Rattle.kb_keys.specs.declared.key_name.TheConstants.{KEYS};
+    ghost use Rattle.kb_keys.specs.KeyName.{key_count};
 
     ghost Value = { ℕ };
 
     ghost view = { λ k. k.index };
 
-    ghost invariant = { λ k. k.index < KEYS };
+    ghost invariant = { λ k. k.index < key_count };
 
     ghost inverse = { λ n. record { index = n } };
 }
@@ -155,10 +155,10 @@ impl KeyName {
     /// The name, in lower case.
     pub fn as_str(self) -> &'static str
         ensures name { result.now ≡ name_of self }
-        ensures known { self < KEYS }
+        ensures known { self < key_count }
         ensures read { key_named result.now ≡ Some self }
         ensures lower { lowered result.now ≡ result.now }
-        ensures short { length result.now ≤ LONGEST_NAME }
+        ensures short { length result.now ≤ longest_name }
     {
         let names = NAMES.as_slice();
         names[self.index as usize]

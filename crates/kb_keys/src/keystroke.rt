@@ -1,10 +1,11 @@
 //! A key with its modifiers.
 ghost use Rattle.std.specs.Prelude.{◌≡◌, ◌<◌, ◌≤◌, ◌+◌, [], ◌++◌, length, string_bytes, string_len, Ok, IfOk, OnOk, OnErr, if◌then◌else◌};
 ghost use Rattle.std.specs.String.{string_capacity};
+ghost use Rattle.kb_keys.specs.KeyName.{key_count};
 ghost use Rattle.kb_keys.specs.Keystroke.{keystroke_of, spelling, split_of, ReadsFromLeft};
 
 use crate::key_fault::KeyFault;
-use crate::key_name::{KEYS, KeyName, LONGEST_NAME};
+use crate::key_name::{KeyName, LONGEST_NAME};
 use crate::modifier::Modifier;
 use crate::modifiers::Modifiers;
 use kb_context::NoMemory;
@@ -64,7 +65,7 @@ impl Keystroke {
         ensures ok { OnOk result (string_bytes line.new ≡ string_bytes line.old ++ spelling self) }
         ensures err { OnErr result (string_bytes line.new ≡ string_bytes line.old) }
         ensures reads_back { keystroke_of (spelling self) ≡ Ok self }
-        ensures known { self.key < KEYS }
+        ensures known { self.key < key_count }
     {
         line.reserve(LONGEST)?;
         self.write_reserved(line);
@@ -75,7 +76,7 @@ impl Keystroke {
     fn write_reserved(self, line: &mut String)
         requires { string_len line.old + LONGEST ≤ string_capacity line.old }
         ensures spelling { string_bytes line.new ≡ string_bytes line.old ++ spelling self }
-        ensures known { self.key < KEYS }
+        ensures known { self.key < key_count }
     {
         let name = self.key.as_str();
         push_if(line, self.mods.ctrl, "ctrl+");

@@ -7,9 +7,10 @@ use Rattle.std.specs.Map.{keys_of, remove_entry}
 use Rattle.std.specs.BTreeMap.{is_at}
 use Rattle.std.specs.Ordering.{nat_cmp, match_ordering}
 use Rattle.serde_json.proofs.Views.{Entry, member_later}
+use Rattle.serde_json.specs.Data.{Members, member}
 use Rattle.serde_json.specs.Find.{get_member}
 use Rattle.serde_json.specs.View.{view, members_view}
-use Rattle.kb_manifest.specs.Parts.{names_of}
+use Rattle.kb_manifest.specs.Parts.{names_of, without_member}
 
 pub names_seen : (es : List Entry) → names_of (members_view es) ≡ map string_bytes (keys_of es)
 names_seen [] = refl
@@ -38,3 +39,13 @@ pub others_stay : (name other : List ℕ) (es : List Entry) → bytes_eq other n
     → get_member other (members_view (without name es)) ≡ get_member other (members_view es)
 others_stay name other [] differ = refl
 others_stay name other (e ∷ es) differ = one_out name other e es _ differ (others_stay name other es differ) refl
+
+one_left : (name : List ℕ) (e : Entry) (es : List Entry) (found : Bool) → members_view (without name es) ≡ without_member name (members_view es)
+    → members_view (cond found es (e ∷ without name es)) ≡ cond found (members_view es) (member (string_bytes e.0) (view e.1) (without_member name (members_view es)))
+one_left name e es true rest = refl
+one_left name e es false rest = ap (λ (ms : Members). member (string_bytes e.0) (view e.1) ms) rest
+
+-- what is left is the members without that one
+pub rest_left : (name : List ℕ) (es : List Entry) → members_view (without name es) ≡ without_member name (members_view es)
+rest_left name [] = refl
+rest_left name (e ∷ es) = rw (← is_eq-slice_cmp name (string_bytes e.0)) (one_left name e es _ (rest_left name es))

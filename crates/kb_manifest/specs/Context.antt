@@ -5,8 +5,8 @@ use Rattle.serde_json.specs.Find.{as_i64, as_str}
 use Rattle.kb_context.specs.declared.value.ContextValue.{ContextValue}
 use Rattle.kb_context.specs.declared.value.ContextValue.TheVariants.{Truth, Number, Text, Texts, Names}
 use Rattle.kb_context.specs.Reading.{or_fault}
-use Rattle.kb_manifest.specs.declared.fault.ShapeFault.{ShapeFault}
-use Rattle.kb_manifest.specs.declared.fault.ShapeFault.TheVariants.{WrongShape}
+use Rattle.kb_manifest.specs.declared.fault.FileFault.{FileFault}
+use Rattle.kb_manifest.specs.declared.fault.FileFault.TheVariants.{WrongShape}
 use Rattle.kb_manifest.specs.Parts.{each, listed, names_of}
 
 -- a boolean, a whole number within i64, a text, a list of texts, or the names of an object's members
@@ -18,5 +18,5 @@ value_of (string s) = Some (Text s)
 value_of (array ds) = option_map Texts (each as_str (listed ds))
 value_of (object ms) = Some (Names (names_of ms))
 
-abbrev pub context_of : Data → Result ContextValue ShapeFault
+abbrev pub context_of : Data → Result ContextValue FileFault
 context_of d = or_fault WrongShape (value_of d)

@@ -9,8 +9,8 @@ use Rattle.kb_context.specs.declared.layout.LayoutScope.{LayoutScope}
 use Rattle.kb_context.specs.declared.value.ContextValue.{ContextValue}
 use Rattle.kb_context.specs.Reading.{or_fault}
 use Rattle.kb_context.specs.Scopes.{Keys}
-use Rattle.kb_manifest.specs.declared.fault.ShapeFault.{ShapeFault}
-use Rattle.kb_manifest.specs.declared.fault.ShapeFault.TheVariants.{MissingMember, WrongShape}
+use Rattle.kb_manifest.specs.declared.fault.FileFault.{FileFault}
+use Rattle.kb_manifest.specs.declared.fault.FileFault.TheVariants.{MissingMember, WrongShape}
 use Rattle.kb_manifest.specs.Context.{value_of}
 use Rattle.kb_manifest.specs.Parts.{◌>>=◌, each, optional, elements_of, pairs_of}
 
@@ -61,5 +61,5 @@ record_of d = do
   Some (record { scopes = scopes; focus = focus })
 
 -- a member that is absent is the first fault, wherever it stands, and then any wrong shape
-abbrev pub layout_of : Data → Result Layout ShapeFault
+abbrev pub layout_of : Data → Result Layout FileFault
 layout_of d = if lacks_member d then Err MissingMember else or_fault WrongShape (record_of d)

@@ -1,4 +1,4 @@
 pub mod Context
+pub mod FileFault
 pub mod Layout
 pub mod Parts
-pub mod ShapeFault

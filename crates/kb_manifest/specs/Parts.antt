@@ -1,5 +1,5 @@
 -- The parts of a JSON value, and reading that gives something or nothing.
-use Rattle.std.specs.Prelude.{ℕ, List, [], ◌∷◌, map, Option, Some, None, option_map, option_and_then}
+use Rattle.std.specs.Prelude.{ℕ, List, [], ◌∷◌, map, Option, Some, None, option_map, option_and_then, bytes_eq, if◌then◌else◌}
 use Rattle.serde_json.specs.Data.{Data, Items, no_items, item, Members, no_members, member}
 use Rattle.serde_json.specs.Find.{as_array}
 
@@ -33,3 +33,9 @@ pairs_of (member name d ms) = (name, d) ∷ pairs_of ms
 
 abbrev pub names_of : Members → List (List ℕ)
 names_of ms = map (λ m. m.0) (pairs_of ms)
+
+-- the members without the one of a name; an object has each name once
+abbrev pub without_member : List ℕ → Members → Members
+without_member name no_members = no_members
+without_member name (member other d ms) =
+    if bytes_eq name other then ms else member other d (without_member name ms)

@@ -2,14 +2,15 @@
 ghost use Rattle.std.specs.Prelude.{◌≡◌, IfOk};
 ghost use Rattle.serde_json.specs.Find.{as_str};
 ghost use Rattle.serde_json.specs.View.{view, items_view, members_view};
-ghost use Rattle.kb_context.specs.Reading.{Gives, or_fault};
-ghost use Rattle.kb_manifest.specs.declared.fault.ShapeFault.TheVariants.{WrongShape};
+ghost use Rattle.kb_context.specs.Failure.{Gives};
+ghost use Rattle.kb_context.specs.Reading.{or_fault};
+ghost use Rattle.kb_manifest.specs.declared.fault.FileFault.TheVariants.{WrongShape};
 ghost use Rattle.kb_manifest.specs.Parts.{each, listed, names_of};
 ghost use Rattle.kb_manifest.specs.Context.{context_of};
 
-use crate::fault::{ShapeError, ShapeFault};
+use crate::fault::FileFault;
 use crate::parts::text_in;
-use kb_context::{ContextValue, NoMemory, Seq, Text};
+use kb_context::{ContextValue, Failure, NoMemory, Seq, Text};
 use serde_json::{Map, Value};
 use std::alloc::Global;
 
@@ -19,14 +20,14 @@ use std::alloc::Global;
 ///
 /// `WrongShape` (41) for `null`, any other number, and a list with an element that is no text.
 /// `NoMemory` where memory was refused.
-pub fn read_context(alloc: Global, value: Value) -> Result<ContextValue, ShapeError>
+pub fn read_context(alloc: Global, value: Value) -> Result<ContextValue, Failure<FileFault>>
     ensures { Gives (λ value. value) result (context_of (view value)) }
 {
     match value {
-        Value::Null => Err(ShapeError::Fault(ShapeFault::WrongShape)),
+        Value::Null => Err(Failure::Fault(FileFault::WrongShape)),
         Value::Bool(truth) => Ok(ContextValue::Truth(truth)),
         Value::Number(number) => {
-            let number = number.as_i64().ok_or(ShapeFault::WrongShape)?;
+            let number = number.as_i64().ok_or(FileFault::WrongShape)?;
             Ok(ContextValue::Number(number))
         }
         Value::String(text) => Ok(ContextValue::Text(Text::from_string(text))),
@@ -36,12 +37,13 @@ pub fn read_context(alloc: Global, value: Value) -> Result<ContextValue, ShapeEr
 }
 
 /// The texts that the elements of a list are.
-fn read_texts(alloc: Global, elements: Vec<Value>) -> Result<Seq<Text>, ShapeError>
-    ensures { Gives (λ texts. texts) result (or_fault WrongShape (each as_str (listed (items_view elements.items)))) }
+fn read_texts(alloc: Global, elements: Vec<Value>) -> Result<Seq<Text>, Failure<FileFault>>
+    ensures { Gives (λ texts. texts) result
+        (or_fault WrongShape (each as_str (listed (items_view elements.items)))) }
 {
     let mut texts = Seq::new(alloc);
     for element in elements {
-        texts.push(text_in(element).ok_or(ShapeFault::WrongShape)?)?;
+        texts.push(text_in(element).ok_or(FileFault::WrongShape)?)?;
     }
     Ok(texts)
 }

@@ -1,10 +1,10 @@
-//! Why a JSON value is no layout or no context value.
-use kb_context::ReadError;
+//! What is wrong with a JSON value that is no layout or no context value.
+use kb_context::Failure;
 use thiserror::Error;
 
-/// Why a JSON value was not read as what it should be. The numbers are our decision.
+/// Why a JSON value was not read as what a file should hold. The numbers are our decision.
 #[derive(Clone, Copy, Debug, PartialEq, Eq, Error)]
-pub enum ShapeFault {
+pub enum FileFault {
     /// A member that must be there is absent.
     #[error("a member is missing")]
     MissingMember,
@@ -13,41 +13,28 @@ pub enum ShapeFault {
     WrongShape,
 }
 
-/// Why a JSON value was not read: it has a fault, or memory was refused.
-pub type ShapeError = ReadError<ShapeFault>;
-
-impl ShapeFault {
+impl FileFault {
     ghost use Rattle.std.specs.Prelude.{◌≡◌};
-    ghost use Rattle.kb_manifest.specs.ShapeFault.{number_of, name_of};
+    ghost use Rattle.kb_manifest.specs.FileFault.{number_of};
 
     /// The fault's number, by which traces and messages name it.
-    pub fn number(&self) -> u32
-        ensures { result ≡ number_of self.now }
+    pub fn number(self) -> u32
+        ensures { result ≡ number_of self }
     {
         match self {
-            ShapeFault::MissingMember => 40,
-            ShapeFault::WrongShape => 41,
-        }
-    }
-
-    /// The fault's name, as traces and messages print it behind the number.
-    pub fn name(&self) -> &'static str
-        ensures { result.now ≡ name_of self.now }
-    {
-        match self {
-            ShapeFault::MissingMember => "MissingMember",
-            ShapeFault::WrongShape => "WrongShape",
+            FileFault::MissingMember => 40,
+            FileFault::WrongShape => 41,
         }
     }
 }
 
-impl From<ShapeFault> for ReadError<ShapeFault> {
+impl From<FileFault> for Failure<FileFault> {
     ghost use Rattle.std.specs.Prelude.{◌≡◌};
-    ghost use Rattle.kb_context.specs.declared.reading.ReadError.TheVariants.{Fault};
+    ghost use Rattle.kb_context.specs.declared.failure.Failure.TheVariants.{Fault};
 
-    ghost from_gives = { λ fault error. error ≡ Fault fault };
+    ghost from_gives = { λ fault failure. failure ≡ Fault fault };
 
-    fn from(fault: ShapeFault) -> ShapeError {
-        ReadError::Fault(fault)
+    fn from(fault: FileFault) -> Failure<FileFault> {
+        Failure::Fault(fault)
     }
 }

@@ -4,15 +4,17 @@ ghost use Rattle.std.specs.List.{list_any};
 ghost use Rattle.std.specs.FinMap.{empty};
 ghost use Rattle.serde_json.specs.Data.{object};
 ghost use Rattle.serde_json.specs.View.{view, items_view, members_view};
-ghost use Rattle.kb_context.specs.Reading.{Gives, or_fault};
-ghost use Rattle.kb_manifest.specs.declared.fault.ShapeFault.TheVariants.{WrongShape};
+ghost use Rattle.kb_context.specs.Failure.{Gives};
+ghost use Rattle.kb_context.specs.Reading.{or_fault};
+ghost use Rattle.kb_manifest.specs.declared.fault.FileFault.TheVariants.{WrongShape};
 ghost use Rattle.kb_manifest.specs.Parts.{each, optional, listed};
-ghost use Rattle.kb_manifest.specs.Layout.{lacks, lacks_member, some_text, keys_of, scope_of, first_name, record_of, layout_of};
+ghost use Rattle.kb_manifest.specs.Layout.{lacks, lacks_member, some_text, keys_of, scope_of};
+ghost use Rattle.kb_manifest.specs.Layout.{first_name, record_of, layout_of};
 
 use crate::context::read_context;
-use crate::fault::{ShapeError, ShapeFault};
+use crate::fault::FileFault;
 use crate::parts::{elements_in, members_in, take_member, text_in};
-use kb_context::{ContextValue, Layout, LayoutScope, NoMemory, Seq, Text, TextMap};
+use kb_context::{ContextValue, Failure, Layout, LayoutScope, NoMemory, Seq, Text, TextMap};
 use serde_json::{Map, Value};
 use std::alloc::Global;
 
@@ -27,11 +29,11 @@ use std::alloc::Global;
 /// object or no list lacks nothing. Then `WrongShape` (41) where the layout, a scope or `keys` is no
 /// object, `scopes` no list, a `name`, a `parent` or the `focus` no text, or a key's value no context
 /// value: `null` is there, and is none of these. `NoMemory` where memory was refused.
-pub fn read_layout(alloc: Global, value: Value) -> Result<Layout, ShapeError>
+pub fn read_layout(alloc: Global, value: Value) -> Result<Layout, Failure<FileFault>>
     ensures { Gives (λ layout. layout) result (layout_of (view value)) }
 {
     if lacks_member(&value) {
-        return Err(ShapeError::Fault(ShapeFault::MissingMember));
+        return Err(Failure::Fault(FileFault::MissingMember));
     }
     read_record(alloc, value)
 }
@@ -71,16 +73,16 @@ fn lacks(value: &Value, name: &str) -> bool
 
 /// The layout that a value is, if each part has its shape.
 #[tactic(auto, unfolding(crate::specs::Layout::record_of))]
-fn read_record(alloc: Global, value: Value) -> Result<Layout, ShapeError>
+fn read_record(alloc: Global, value: Value) -> Result<Layout, Failure<FileFault>>
     ensures { Gives (λ layout. layout) result (or_fault WrongShape (record_of (view value))) }
 {
-    let mut members = members_in(value).ok_or(ShapeFault::WrongShape)?;
-    let scopes = take_member(&mut members, "scopes").ok_or(ShapeFault::WrongShape)?;
+    let mut members = members_in(value).ok_or(FileFault::WrongShape)?;
+    let scopes = take_member(&mut members, "scopes").ok_or(FileFault::WrongShape)?;
     let focus = take_member(&mut members, "focus");
-    let elements = elements_in(scopes).ok_or(ShapeFault::WrongShape)?;
+    let elements = elements_in(scopes).ok_or(FileFault::WrongShape)?;
     let scopes = read_scopes(alloc, elements)?;
     let focus = match focus {
-        Some(focus) => text_in(focus).ok_or(ShapeFault::WrongShape)?,
+        Some(focus) => text_in(focus).ok_or(FileFault::WrongShape)?,
         None => first_name(alloc, scopes.as_slice())?,
     };
     Ok(Layout { scopes, focus })
@@ -97,8 +99,9 @@ fn first_name(alloc: Global, scopes: &[LayoutScope]) -> Result<Text, NoMemory>
 }
 
 /// The scopes that the elements of a list are.
-fn read_scopes(alloc: Global, elements: Vec<Value>) -> Result<Seq<LayoutScope>, ShapeError>
-    ensures { Gives (λ scopes. scopes) result (or_fault WrongShape (each scope_of (listed (items_view elements.items)))) }
+fn read_scopes(alloc: Global, elements: Vec<Value>) -> Result<Seq<LayoutScope>, Failure<FileFault>>
+    ensures { Gives (λ scopes. scopes) result
+        (or_fault WrongShape (each scope_of (listed (items_view elements.items)))) }
 {
     let mut scopes = Seq::new(alloc);
     for element in elements {
@@ -109,32 +112,33 @@ fn read_scopes(alloc: Global, elements: Vec<Value>) -> Result<Seq<LayoutScope>, 
 
 /// The scope that an element is.
 #[tactic(auto, unfolding(crate::specs::Layout::scope_of))]
-fn read_scope(alloc: Global, element: Value) -> Result<LayoutScope, ShapeError>
+fn read_scope(alloc: Global, element: Value) -> Result<LayoutScope, Failure<FileFault>>
     ensures { Gives (λ scope. scope) result (or_fault WrongShape (scope_of (view element))) }
 {
-    let mut members = members_in(element).ok_or(ShapeFault::WrongShape)?;
-    let name = take_member(&mut members, "name").ok_or(ShapeFault::WrongShape)?;
+    let mut members = members_in(element).ok_or(FileFault::WrongShape)?;
+    let name = take_member(&mut members, "name").ok_or(FileFault::WrongShape)?;
     let parent = take_member(&mut members, "parent");
     let keys = take_member(&mut members, "keys");
-    let name = text_in(name).ok_or(ShapeFault::WrongShape)?;
+    let name = text_in(name).ok_or(FileFault::WrongShape)?;
     let parent = read_parent(parent)?;
     let keys = read_keys(alloc, keys)?;
     Ok(LayoutScope { name, parent, keys })
 }
 
 /// The name of the scope around a scope, if its member is there.
-fn read_parent(parent: Option<Value>) -> Result<Option<Text>, ShapeFault>
+fn read_parent(parent: Option<Value>) -> Result<Option<Text>, FileFault>
     ensures { result ≡ or_fault WrongShape (optional None some_text (option_map view parent)) }
 {
     match parent {
-        Some(parent) => Ok(Some(text_in(parent).ok_or(ShapeFault::WrongShape)?)),
+        Some(parent) => Ok(Some(text_in(parent).ok_or(FileFault::WrongShape)?)),
         None => Ok(None),
     }
 }
 
 /// The keys of a scope, none where the member is absent.
-fn read_keys(alloc: Global, keys: Option<Value>) -> Result<TextMap<ContextValue>, ShapeError>
-    ensures { Gives (λ keys. keys) result (or_fault WrongShape (optional empty keys_of (option_map view keys))) }
+fn read_keys(alloc: Global, keys: Option<Value>) -> Result<TextMap<ContextValue>, Failure<FileFault>>
+    ensures { Gives (λ keys. keys) result
+        (or_fault WrongShape (optional empty keys_of (option_map view keys))) }
 {
     match keys {
         Some(keys) => read_object(alloc, keys),
@@ -143,12 +147,12 @@ fn read_keys(alloc: Global, keys: Option<Value>) -> Result<TextMap<ContextValue>
 }
 
 /// The keys that an object has, each with its value.
-fn read_object(alloc: Global, object: Value) -> Result<TextMap<ContextValue>, ShapeError>
+fn read_object(alloc: Global, object: Value) -> Result<TextMap<ContextValue>, Failure<FileFault>>
     ensures { Gives (λ keys. keys) result (or_fault WrongShape (keys_of (view object))) }
 {
     match object {
         Value::Object(members) => read_members(alloc, members),
-        _ => Err(ShapeError::Fault(ShapeFault::WrongShape)),
+        _ => Err(Failure::Fault(FileFault::WrongShape)),
     }
 }
 
@@ -156,8 +160,9 @@ fn read_object(alloc: Global, object: Value) -> Result<TextMap<ContextValue>, Sh
 fn read_members(
     alloc: Global,
     members: Map<String, Value>,
-) -> Result<TextMap<ContextValue>, ShapeError>
-    ensures { Gives (λ keys. keys) result (or_fault WrongShape (keys_of (object (members_view members.entries)))) }
+) -> Result<TextMap<ContextValue>, Failure<FileFault>>
+    ensures { Gives (λ keys. keys) result
+        (or_fault WrongShape (keys_of (object (members_view members.entries)))) }
 {
     let mut keys = TextMap::new(alloc);
     for (name, member) in members {

@@ -5,8 +5,9 @@
 pub mod context;
 pub mod fault;
 pub mod layout;
-mod parts;
+pub mod parts;
 
 pub use context::read_context;
-pub use fault::{ShapeError, ShapeFault};
+pub use fault::FileFault;
 pub use layout::read_layout;
+pub use parts::{elements_in, members_in, take_member, text_in};

@@ -2,13 +2,13 @@
 ghost use Rattle.std.specs.Prelude.{◌≡◌, ℕ, List, false, bytes_eq, option_map};
 ghost use Rattle.serde_json.specs.Find.{get_member, as_str, as_object};
 ghost use Rattle.serde_json.specs.View.{view, items_view, members_view};
-ghost use Rattle.kb_manifest.specs.Parts.{listed, elements_of};
+ghost use Rattle.kb_manifest.specs.Parts.{listed, elements_of, without_member};
 
 use kb_context::Text;
 use serde_json::{Map, Value};
 
-/// The text that a value is.
-pub(crate) fn text_in(value: Value) -> Option<Text>
+/// The text that a value is, moved out of it, or `None` where it is something else. It takes no memory.
+pub fn text_in(value: Value) -> Option<Text>
     ensures { result ≡ as_str (view value) }
 {
     match value {
@@ -17,8 +17,9 @@ pub(crate) fn text_in(value: Value) -> Option<Text>
     }
 }
 
-/// The elements of the list that a value is.
-pub(crate) fn elements_in(value: Value) -> Option<Vec<Value>>
+/// The elements of the list that a value is, moved out of it in order, or `None` where it is something
+/// else. It takes no memory.
+pub fn elements_in(value: Value) -> Option<Vec<Value>>
     ensures { option_map (λ list. listed (items_view list.items)) result ≡ elements_of (view value) }
 {
     match value {
@@ -27,8 +28,9 @@ pub(crate) fn elements_in(value: Value) -> Option<Vec<Value>>
     }
 }
 
-/// The members of the object that a value is.
-pub(crate) fn members_in(value: Value) -> Option<Map<String, Value>>
+/// The members of the object that a value is, moved out of it, or `None` where it is something else. It
+/// takes no memory.
+pub fn members_in(value: Value) -> Option<Map<String, Value>>
     ensures { option_map (λ members. members_view members.entries) result ≡ as_object (view value) }
 {
     match value {
@@ -37,11 +39,15 @@ pub(crate) fn members_in(value: Value) -> Option<Map<String, Value>>
     }
 }
 
-/// A member, taken out of an object, if it is there.
-pub(crate) fn take_member(members: &mut Map<String, Value>, name: &str) -> Option<Value>
+/// A member, taken out of an object, or `None` where the object lacks it. The others stay. It takes no
+/// memory.
+pub fn take_member(members: &mut Map<String, Value>, name: &str) -> Option<Value>
     ensures member { option_map view result ≡ get_member name.now (members_view members.old.entries) }
+    ensures rest { members_view members.new.entries
+        ≡ without_member name.now (members_view members.old.entries) }
     ensures others { (other : List ℕ) → bytes_eq other name.now ≡ false
-        → get_member other (members_view members.new.entries) ≡ get_member other (members_view members.old.entries) }
+        → get_member other (members_view members.new.entries)
+        ≡ get_member other (members_view members.old.entries) }
 {
     members.remove(name)
 }

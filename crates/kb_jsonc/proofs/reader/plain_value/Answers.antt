@@ -1,10 +1,9 @@
 use Rattle.std.proofs.Common.{List, Ok, ap, sym, ◌∙◌}
-use Rattle.std.proofs.lemmas.Bool.{false≢true}
 use Rattle.serde_json.specs.Data.{array}
 use Rattle.serde_json.specs.View.{items_view}
 use Rattle.serde_json.specs.declared.value.Value.{Value}
 use Rattle.serde_json.proofs.Views.{view-Array}
-use Rattle.kb_jsonc.proofs.ReaderLemmas.{blank_value, read_value, no_value}
+use Rattle.kb_jsonc.proofs.ReaderLemmas.{blank_value, read_value, failed_value}
 use Rattle.kb_jsonc.proofs.reader.plain_value.Goals as goal
 
 pub returns-then-is_blank_text-clause-exact : goal.returns-then-is_blank_text-clause-exact
@@ -13,5 +12,5 @@ returns-then-is_blank_text-clause-exact c = blank_value c.args.text.now (sym c.i
 pub returns-in-Ok-clause-exact : goal.returns-in-Ok-clause-exact
 returns-in-Ok-clause-exact c = read_value c.args.text.now _ (sym c.if-is_blank_text.ensures) c.in-Ok.ensures.ok
 
-pub returns-in-Err-2-clause-exact : goal.returns-in-Err-2-clause-exact
-returns-in-Err-2-clause-exact c = no_value c.args.text.now (sym c.if-is_blank_text.ensures) (c.in-Err.ensures.err (λ memory. absurd (false≢true (c.if-is_memory.ensures.1 memory))))
+pub returns-in-Err-clause-exact : goal.returns-in-Err-clause-exact
+returns-in-Err-clause-exact c = failed_value c.args.text.now _ _ (sym c.if-is_blank_text.ensures) c.in-Err.ensures.err c.syntax_failure.ensures
