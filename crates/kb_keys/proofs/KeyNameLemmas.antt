@@ -1,12 +1,9 @@
 -- Lemmas on the table of names, each by one computation over it.
-use Rattle.std.proofs.Common.{◌≡◌, ℕ, ◌<◌, ◌≤◌, List, [], Bor, Bool, true, false, ◌&&◌, Option, None, Some, zero, suc, refl, sym, ap, ◌∙◌, arith, tests, length, map, get_or, nat_eq, bytes_eq, position, not}
+use Rattle.std.proofs.Common.{◌≡◌, ℕ, ◌<◌, ◌≤◌, List, [], Bor, Bool, true, false, ◌&&◌, Option, None, Some, zero, suc, refl, sym, ap, ◌∙◌, arith, tests, length, map, get_or, nat_eq, bytes_eq}
 use Rattle.std.proofs.Math.ListN.{get_or-map}
-use Rattle.std.proofs.lemmas.List.{length-map}
 use Rattle.std.proofs.lemmas.Slice.Eq.{bytes_eq-Decides}
-use Rattle.std.specs.List.{prefix_len}
 use Rattle.std.specs.Prelude.{nat_le}
 use borrow.Author.Count.{below_more}
-use Rattle.kb_keys.specs.declared.key_name.TheConstants.{NAMES}
 use Rattle.kb_keys.specs.KeyName.{longest_name, names, name_of, key_named, lowered}
 
 -- the test holds of each number below n
@@ -58,26 +55,7 @@ name_of-IsGoodName k h =
       read = is_at-true k (key_named (name_of k)) rest.1;
     }
 
--- the code's table is this one
-pub names_are : map (λ (name : Bor (List ℕ)). name.now) NAMES ≡ names
-unfolding names
-names_are = refl
-
 -- a read of a table of texts is a read of the texts
 pub name_read : (table : List (Bor (List ℕ))) (i : ℕ) → map (λ name. name.now) table ≡ names → (get_or table i (record { ref_ptr = (0, 0); now = [] })).now ≡ name_of i
 name_read table i same =
     sym (get_or-map (λ (name : Bor (List ℕ)). name.now) table i (record { ref_ptr = (0, 0); now = [] })) ∙ ap (λ (all : List (List ℕ)). get_or all i []) same
-
-prefix_read : (p : List ℕ → Bool) (table : List (Bor (List ℕ)))
-    → prefix_len (λ (name : Bor (List ℕ)). not (p name.now)) table ≡ prefix_len (λ (name : List ℕ). not (p name)) (map (λ (name : Bor (List ℕ)). name.now) table)
-prefix_read p [] = refl
-prefix_read p (name ∷ table) = rw (prefix_read p table) refl
-
-position_read : (p : List ℕ → Bool) (table : List (Bor (List ℕ)))
-    → position (λ (name : Bor (List ℕ)). p name.now) table ≡ position p (map (λ (name : Bor (List ℕ)). name.now) table)
-position_read p table = rw (prefix_read p table, length-map table (λ (name : Bor (List ℕ)). name.now)) refl
-
--- a search of the code's table is one of the names
-pub named_read : (text : List ℕ) → position (λ (name : Bor (List ℕ)). bytes_eq (lowered name.now) (lowered text)) NAMES ≡ key_named text
-unfolding key_named
-named_read text = position_read (λ name. bytes_eq (lowered name) (lowered text)) NAMES ∙ ap (position (λ name. bytes_eq (lowered name) (lowered text))) names_are
