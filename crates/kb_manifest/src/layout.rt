@@ -136,7 +136,10 @@ fn read_parent(parent: Option<Value>) -> Result<Option<Text>, FileFault>
 }
 
 /// The keys of a scope, none where the member is absent.
-fn read_keys(alloc: Global, keys: Option<Value>) -> Result<TextMap<ContextValue>, Failure<FileFault>>
+fn read_keys(
+    alloc: Global,
+    keys: Option<Value>,
+) -> Result<TextMap<ContextValue>, Failure<FileFault>>
     ensures { Gives (λ keys. keys) result
         (or_fault WrongShape (optional empty keys_of (option_map view keys))) }
 {
