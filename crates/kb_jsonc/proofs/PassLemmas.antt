@@ -12,7 +12,8 @@ use borrow.Rule.Slice.PartMut.{put_mid}
 use Rattle.kb_jsonc.specs.declared.fault.JsoncFault.{JsoncFault}
 use Rattle.kb_jsonc.specs.declared.fault.JsoncFault.TheVariants.{OpenString}
 use Rattle.kb_jsonc.specs.declared.scan.Scan.{Scan}
-use Rattle.kb_jsonc.specs.Bytes.{space, comma, blanked, is_blank, closes, ends_value}
+use Rattle.kb_context.specs.Blank.{is_blank}
+use Rattle.kb_jsonc.specs.Bytes.{space, comma, blanked, closes, ends_value}
 use Rattle.kb_jsonc.specs.Pieces.{Piece, quoted, comment, single, bytes_of, string_len, first_of, OpensComment}
 use Rattle.kb_jsonc.specs.Text.{plain_text}
 use Rattle.kb_jsonc.specs.Scan.{continued, whole_of, settled, outcome, StandsIn, GoesOn, IsOrdinary}

@@ -7,7 +7,8 @@ use Rattle.std.proofs.lemmas.List.{length-append, length-map, length-take, drop_
 use Rattle.kb_jsonc.specs.declared.fault.JsoncFault.{JsoncFault}
 use Rattle.kb_jsonc.specs.declared.fault.JsoncFault.TheVariants.{OpenComment, OpenString}
 use Rattle.kb_context.specs.Reading.{◌>>=◌, or_fault}
-use Rattle.kb_jsonc.specs.Bytes.{is_blank, is_line_end, blanked}
+use Rattle.kb_context.specs.Blank.{is_blank}
+use Rattle.kb_jsonc.specs.Bytes.{is_line_end, blanked}
 use Rattle.kb_jsonc.specs.Pieces.{Piece, quoted, comment, single, bytes_of, begins, string_len, block_len, line_len, first_piece, pieces_past, pieces}
 use Rattle.kb_jsonc.specs.Text.{next_of, is_trailing, plain_of, plain_text}
 use Rattle.kb_jsonc.specs.PieceLaws.{PiecesAreWhole, LengthStays, OnlyBlanks, EndsFirst}

@@ -15,7 +15,7 @@ use Rattle.kb_context.specs.declared.failure.Failure.{Failure}
 use Rattle.kb_context.specs.declared.failure.Failure.TheVariants.{NoMemory, Fault}
 use Rattle.kb_context.specs.Failure.{Fails}
 use Rattle.kb_context.specs.Reading.{◌>>=◌, or_fault}
-use Rattle.kb_jsonc.specs.Bytes.{is_blank}
+use Rattle.kb_context.specs.Blank.{is_blank}
 use Rattle.kb_jsonc.specs.Text.{plain_text}
 use Rattle.kb_jsonc.specs.Reader.{without_mark, plain_value, value_of, TellsError}
 

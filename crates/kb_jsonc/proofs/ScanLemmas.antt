@@ -7,7 +7,8 @@ use Rattle.std.proofs.lemmas.List.{set-append_left, set_at}
 use Rattle.kb_jsonc.specs.declared.fault.JsoncFault.{JsoncFault}
 use Rattle.kb_context.specs.Reading.{◌>>=◌}
 use Rattle.kb_jsonc.specs.Scan.{settled, whole_of, continued}
-use Rattle.kb_jsonc.specs.Bytes.{space, blanked, is_blank, closes, ends_value}
+use Rattle.kb_context.specs.Blank.{is_blank}
+use Rattle.kb_jsonc.specs.Bytes.{space, blanked, closes, ends_value}
 use Rattle.kb_jsonc.specs.Pieces.{Piece, quoted, comment, single, bytes_of, first_piece, pieces_past, pieces}
 use Rattle.kb_jsonc.specs.Text.{next_of, plain_of}
 

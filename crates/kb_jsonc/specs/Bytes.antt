@@ -23,10 +23,6 @@ space = 32
 abbrev pub is_line_end : ℕ → Bool
 is_line_end b = b == 13 || b == 10
 
--- the white space of JSON: space, tab, CR and LF
-abbrev pub is_blank : ℕ → Bool
-is_blank b = b == 32 || b == 9 || is_line_end b
-
 -- what a byte of a comment becomes: line ends stay
 abbrev pub blanked : ℕ → ℕ
 blanked b = if is_line_end b then b else space

@@ -11,7 +11,7 @@ use Rattle.kb_context.specs.declared.failure.Failure.TheVariants.{NoMemory, Faul
 use Rattle.kb_jsonc.specs.declared.fault.JsoncFault.{JsoncFault}
 use Rattle.kb_jsonc.specs.declared.fault.JsoncFault.TheVariants.{NotUtf8, Syntax}
 use Rattle.kb_context.specs.Reading.{◌>>=◌, or_fault}
-use Rattle.kb_jsonc.specs.Bytes.{is_blank}
+use Rattle.kb_context.specs.Blank.{is_blank}
 use Rattle.kb_jsonc.specs.Text.{plain_text}
 
 -- without the byte order mark, if there is one

@@ -4,7 +4,8 @@ use Rattle.std.specs.Str.{IsUtf8}
 use Rattle.kb_jsonc.specs.declared.fault.JsoncFault.{JsoncFault}
 use Rattle.kb_jsonc.specs.declared.scan.Scan.{Scan}
 use Rattle.kb_context.specs.Reading.{◌>>=◌}
-use Rattle.kb_jsonc.specs.Bytes.{space, comma, is_blank, closes, ends_value}
+use Rattle.kb_context.specs.Blank.{is_blank}
+use Rattle.kb_jsonc.specs.Bytes.{space, comma, closes, ends_value}
 use Rattle.kb_jsonc.specs.Pieces.{Piece, single, pieces, first_of}
 use Rattle.kb_jsonc.specs.Text.{next_of, plain_of}
 

@@ -2,7 +2,8 @@
 use Rattle.std.specs.Prelude.{ℕ, ◌==◌, ◌&&◌, Bool, if◌then◌else◌, List, [], ◌∷◌, ◌++◌, map, Option, Some, None, Result, Ok}
 use Rattle.kb_jsonc.specs.declared.fault.JsoncFault.{JsoncFault}
 use Rattle.kb_context.specs.Reading.{◌>>=◌}
-use Rattle.kb_jsonc.specs.Bytes.{quote, comma, space, is_blank, blanked, closes, ends_value}
+use Rattle.kb_context.specs.Blank.{is_blank}
+use Rattle.kb_jsonc.specs.Bytes.{quote, comma, space, blanked, closes, ends_value}
 use Rattle.kb_jsonc.specs.Pieces.{Piece, quoted, comment, single, pieces}
 
 -- the next byte that isn't blank, where comments are blank

@@ -6,14 +6,13 @@
 //! in `src/scan.rt` that is proved to do the same.
 #![tactic(auto)]
 
-pub mod bytes;
+mod bytes;
 mod fault;
 mod pieces;
 mod reader;
 mod scan;
 mod text;
 
-pub use bytes::{is_blank, is_blank_text};
 pub use fault::JsoncFault;
 pub use reader::read;
 pub use text::plain;

@@ -6,10 +6,9 @@ ghost use Rattle.serde_json.specs.View.{view};
 ghost use Rattle.kb_context.specs.Failure.{Gives};
 ghost use Rattle.kb_jsonc.specs.Reader.{value_of, plain_value, without_mark, TellsError};
 
-use crate::bytes::is_blank_text;
 use crate::fault::JsoncFault;
 use crate::text::plain;
-use kb_context::Failure;
+use kb_context::{Failure, is_blank_text};
 use serde_json::{Error, Value};
 use std::alloc::Global;
 

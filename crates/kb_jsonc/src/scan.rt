@@ -5,14 +5,16 @@
 //! once, and those of a comment a second time to make them blank: the time is linear.
 ghost use Rattle.std.specs.Prelude.{◌≡◌, ◌<◌, length, slice_index, drop, Ok, Err, IfOk, IfErr, OnOk, true, false};
 ghost use Rattle.std.specs.Str.{IsUtf8};
-ghost use Rattle.kb_jsonc.specs.Bytes.{quote, slash, comma, is_blank, closes};
+ghost use Rattle.kb_context.specs.Blank.{is_blank};
+ghost use Rattle.kb_jsonc.specs.Bytes.{quote, slash, comma, closes};
 ghost use Rattle.kb_jsonc.specs.Pieces.{single, first_of};
 ghost use Rattle.kb_jsonc.specs.Text.{plain_text};
 ghost use Rattle.kb_jsonc.specs.Scan.{StandsIn, GoesOn, IsOrdinary, outcome};
 
-use crate::bytes::{blank, ends_value, is_blank};
+use crate::bytes::{blank, ends_value};
 use crate::fault::JsoncFault;
 use crate::pieces::{comment_len, string_len};
+use kb_context::is_blank;
 
 /// How far the pass has come.
 #[derive(Clone, Copy, Debug)]

@@ -13,4 +13,4 @@ pub returns-in-Ok-clause-exact : goal.returns-in-Ok-clause-exact
 returns-in-Ok-clause-exact c = read_value c.args.text.now _ (sym c.if-is_blank_text.ensures) c.in-Ok.ensures.ok
 
 pub returns-in-Err-clause-exact : goal.returns-in-Err-clause-exact
-returns-in-Err-clause-exact c = failed_value c.args.text.now _ _ (sym c.if-is_blank_text.ensures) c.in-Err.ensures.err c.syntax_failure.ensures
+returns-in-Err-clause-exact c = failed_value c.args.text.now c.in-Err.error c.syntax_failure.result (sym c.if-is_blank_text.ensures) c.in-Err.ensures.err c.syntax_failure.ensures
