@@ -1,5 +1,7 @@
 """Tests of tools/wrong-bodies: what it reads of a check, and how it judges the edits of a small crate of its own."""
 
+import contextlib
+import io
 import os
 import tempfile
 import types
@@ -9,7 +11,7 @@ from gate import kit
 from gate.edits import edits_of
 from gate.said import Said
 from gate.source import functions_of
-from gate.trying import Crate, trouble_in
+from gate.trying import Crate, trouble_in, try_as_proved
 
 SOURCE = """\
 //! A crate on which wrong bodies are tried.
@@ -62,7 +64,7 @@ class Blind(Crate):
 
     def __init__(self, *given):
         super().__init__(*given)
-        self.reach = {unit: set() for unit in self.reach}
+        self.calls = {unit: set() for unit in self.calls}
 
 
 def function(name, head):
@@ -151,6 +153,17 @@ def made_crate(top):
     return kit.crates_of(top)[0]
 
 
+class Following(unittest.TestCase):
+    def test_a_crate_that_is_not_proved_has_no_edit_refused(self):
+        with tempfile.TemporaryDirectory() as top:
+            lines = ["rt: tiny NOT PROVED\n", "0 passed, 1 failed\n"]
+            said = io.StringIO()
+            with contextlib.redirect_stdout(said):
+                self.assertFalse(try_as_proved([made_crate(top)], lines))
+            self.assertTrue(said.getvalue().startswith("".join(lines)))
+            self.assertTrue(said.getvalue().endswith(f"0 refused, {len(EDITS)} not\n"))
+
+
 class Trying(unittest.TestCase):
     def test_each_edit_is_judged_by_itself(self):
         with tempfile.TemporaryDirectory() as top, tempfile.TemporaryDirectory() as kept:
@@ -169,5 +182,5 @@ class Trying(unittest.TestCase):
 
 def main():
     loaded = unittest.defaultTestLoader
-    suite = unittest.TestSuite(loaded.loadTestsFromTestCase(it) for it in (Reading, Trying))
+    suite = unittest.TestSuite(loaded.loadTestsFromTestCase(it) for it in (Reading, Following, Trying))
     return 0 if unittest.TextTestRunner(verbosity=1).run(suite).wasSuccessful() else 1

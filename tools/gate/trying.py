@@ -8,17 +8,21 @@ of an edit is held to this, so that no edit passes for refused because of anothe
   a function, or of functions that share one proof (a cycle), stands in another batch.
 - An edit is refused where the check names a goal of that very function: at its lines, in its folder of proofs/, or in
   its own line. A proof file that names what the edit took away is no such goal.
-- A function that waits for another one, which has no proof in this check, isn't judged: it may use the other as a
-  value, or a law of it. It is tried again in a batch without what it waits for.
+- A function isn't judged beside an edit of one that it calls, so callers and callees part. One between them that no
+  edit changes only waits for what it calls, and its contract stands as it was. A function without a failing goal that
+  waits for what failed is tried again, in a batch without anything that it reaches.
 - Where a goal of a function fails that no edit changes, or a lemma, the batch isn't judged: some edit reaches past its
   function. Its halves are tried, down to single edits.
 - What isn't refused so is tried alone, by a whole check over the kept work and then from nothing, and judged as rt
   judges a must-fail edit.
-- In the end the functions themselves must be proved over the kept work, or nothing that was tried counts.
+- The functions themselves must be proved, or nothing that was tried counts: rt ci has just said so of the crate, or they
+  are checked in the end without an edit.
 """
 
+import concurrent.futures
 import dataclasses
 import os
+import re
 import shutil
 import tempfile
 import threading
@@ -30,6 +34,7 @@ from gate.said import Said
 from gate.source import functions_of, named_in
 
 FLAGS = ["--jobs", "1"]
+PROVED = re.compile(r"^rt: (\w+) proved$")
 printing = threading.Lock()
 
 
@@ -49,12 +54,12 @@ class Tried:
     says_little: bool = False
 
 
-def reaches(functions):
-    """For each unit those that it calls, directly or not, as far as the source shows."""
+def calls_of(functions):
+    """For each unit those that it calls, as far as the source shows."""
     calls = {it.unit: set() for it in functions}
     for it in functions:
         calls[it.unit] |= {other.unit for other in named_in(it, functions)} - {it.unit}
-    return closed(calls)
+    return calls
 
 
 def closed(calls):
@@ -73,10 +78,12 @@ def closed(calls):
 class Crate:
     """A crate under trial."""
 
-    def __init__(self, crate, functions, edits, kept, say):
+    def __init__(self, crate, functions, edits, kept, say, is_proved=False):
         self.crate, self.functions, self.kept, self.say = crate, functions, kept, say
-        self.edits = edits
-        self.reach = reaches(functions)
+        self.edits, self.is_proved = edits, is_proved
+        self.calls = calls_of(functions)
+        # Edits of functions without a failing goal that waited for what failed.
+        self.waited = set()
         self.results = {}
         self.batches = 0
         self.alone = 0
@@ -93,7 +100,7 @@ class Crate:
         for edit in self.edits:
             if edit not in self.results:
                 self.try_alone(edit)
-        if self.edits and not self.is_sound():
+        if self.edits and not self.is_proved and not self.is_sound():
             self.say(f"{self.crate.name}: NOT REFUSED, any of them: the crate itself is not proved")
             self.results = {it: Tried(it, False, "the crate itself is not proved") for it in self.edits}
         counts = f"{len(self.edits)} edits, {self.batches} batches, {self.alone} alone"
@@ -116,17 +123,18 @@ class Crate:
         self.results[tried.edit] = tried
         self.say(f"{self.crate.name}/{tried.edit.name}: {tried.text}")
 
-    def are_apart(self, one, other):
-        one, other = one.function.unit, other.function.unit
-        return one != other and one not in self.reach[other] and other not in self.reach[one]
-
     def next_batch(self):
-        """Edits of functions that don't call one another, those that call the least first."""
-        batch = []
-        for edit in sorted(self.pending, key=lambda it: len(self.reach[it.function.unit])):
-            if all(self.are_apart(edit, it) for it in batch):
+        """Edits of functions that don't call one another, callers first: what they call is then proved and kept."""
+        batch, reach = [], closed(self.calls)
+        for edit in sorted(self.pending, key=lambda it: -len(reach[it.function.unit])):
+            if all(self.are_apart(edit, it, reach) for it in batch):
                 batch.append(edit)
         return batch
+
+    def are_apart(self, one, other, reach):
+        calls = reach if self.waited & {one, other} else self.calls
+        one, other = one.function.unit, other.function.unit
+        return one != other and one not in calls[other] and other not in calls[one]
 
     def try_batch(self, batch):
         """Tries edits by one check, and takes what needs no other batch from what is left."""
@@ -151,20 +159,22 @@ class Crate:
 
     def learn(self, said):
         """Adds what the check says of which function calls which."""
-        calls = {unit: set(known) for unit, known in self.reach.items()}
         for unit, verdict in said.found.items():
             # (a block that isn't proved has a function that isn't)
-            of_blocks = {it for name in verdict.waits for it in calls if it.startswith(f"{name}::")}
-            calls.setdefault(unit, set()).update(verdict.waits | of_blocks)
-        self.reach = closed(calls)
+            of_blocks = {it for name in verdict.waits for it in [*self.calls] if it.startswith(f"{name}::")}
+            self.calls.setdefault(unit, set()).update(verdict.waits | of_blocks)
 
     def judge(self, edit, said, number, batch):
         unit = edit.function.unit
         verdict = said.found[unit]
-        if verdict.waits and any(it.function.unit in self.reach[unit] for it in batch):
+        if any(it.function.unit in self.calls[unit] for it in batch):
+            return
+        is_named = unit in said.named and verdict.goals and not verdict.unread
+        if not is_named and verdict.waits and edit not in self.waited:
+            self.waited.add(edit)
             return
         self.pending.remove(edit)
-        if unit in said.named and not verdict.is_proved and verdict.goals and not (verdict.waits or verdict.unread):
+        if is_named and not verdict.is_proved:
             less = " (a proof file also names what the edit took away)" if verdict.lacks_names else ""
             self.judged(Tried(edit, True, f"refused in batch {number}: `{verdict.goals[0]}` of {unit}{less}", number))
 
@@ -198,7 +208,16 @@ def trouble_in(ran, said, batch, texts):
     return ""
 
 
-def try_crate(crate, functions, edits, is_kept):
+def with_edits(crates):
+    """The crates that have wrong bodies, each with its functions and edits."""
+    for crate in crates:
+        functions = functions_of(crate)
+        edits = edits_of(crate, functions, ["wrong-bodies"])
+        if edits:
+            yield crate, functions, edits
+
+
+def try_crate(crate, functions, edits, is_kept=False, is_proved=False):
     """Tries a crate's edits over a folder of kept work."""
     with tempfile.TemporaryDirectory(prefix="wrong-bodies-") as folder:
         if is_kept:
@@ -206,23 +225,43 @@ def try_crate(crate, functions, edits, is_kept):
             if os.path.isdir(checked) and not os.path.isdir(folder):
                 shutil.copytree(checked, folder)
             os.makedirs(folder, exist_ok=True)
-        return Crate(crate, functions, edits, folder, say).try_all()
+        return Crate(crate, functions, edits, folder, say, is_proved).try_all()
 
 
 def try_crates(crates, is_kept=False):
     """Tries the wrong bodies of these crates side by side, and says whether all are refused."""
     tasks, chosen = {}, []
-    for crate in crates:
-        functions = functions_of(crate)
-        edits = edits_of(crate, functions, ["wrong-bodies"])
-        if edits:
-            chosen.append(crate)
-            call = lambda given, jobs, it=(crate, functions, edits): try_crate(*it, is_kept)
-            tasks[crate.name, "edits"] = ([], len(edits) * crate.count(rb"\n"), rt.need(crate), call)
+    for crate, functions, edits in with_edits(crates):
+        chosen.append(crate)
+        call = lambda given, jobs, it=(crate, functions, edits): try_crate(*it, is_kept)
+        tasks[crate.name, "edits"] = ([], len(edits) * crate.count(rb"\n"), rt.need(crate), call)
     if not built_libraries(chosen):
         say("a library was not built")
         return False
-    found = [it for results in rt.in_lanes(tasks).values() for it in results]
+    return told(it for results in rt.in_lanes(tasks).values() for it in results)
+
+
+def try_as_proved(crates, lines):
+    """Tries the wrong bodies of each crate once these lines of rt ci, which it passes on, say that the crate is proved."""
+    os.nice(10)
+    waiting = {it[0].name: it for it in with_edits(crates)}
+    running, proved = [], set()
+    with concurrent.futures.ThreadPoolExecutor(rt.processors()) as pool:
+        for line in lines:
+            say(line.rstrip("\n"))
+            proved.update(PROVED.findall(line))
+            for name, (crate, functions, edits) in [*waiting.items()]:
+                if {name, *(it.name for it in crate.below())} <= proved:
+                    del waiting[name]
+                    running.append(pool.submit(try_crate, crate, functions, edits, is_proved=True))
+    found = [it for results in running for it in results.result()]
+    lost = [Tried(it, False, "the crate is not proved") for _, _, edits in waiting.values() for it in edits]
+    return told([*found, *lost])
+
+
+def told(found):
+    """Says how edits were judged, where that isn't as it should be, and whether all are refused."""
+    found = [*found]
     for it in found:
         if not it.is_refused or it.says_little:
             say(f"{'says little' if it.is_refused else 'NOT REFUSED'}: {it.edit.path}: {it.text}")
