@@ -1,64 +1,81 @@
--- The rule that an element of a rule file is, or its first fault.
-use Rattle.std.specs.Prelude.{ℕ, not, Bool, List, [], Option, None, Some, Result, Ok, Err, is_some, if◌then◌else◌, codes, nat_eq}
+-- The rule that an element of a rule file is, or the number of its first fault.
+use Rattle.std.specs.Prelude.{ℕ, not, Bool, List, [], Option, None, Some, Result, Ok, Err, if◌then◌else◌, codes, nat_eq}
 use Rattle.std.specs.List.{list_all, starts_with}
-use Rattle.kb_context.specs.Reading.{◌>>=◌, ◌>>◌, or_fault, or_default, unless, guard}
-use Rattle.kb_keys.specs.declared.key_fault.KeyFault.{KeyFault}
+use Rattle.kb_context.specs.Blank.{is_blank}
+use Rattle.kb_context.specs.Reading.{◌>>=◌, or_fault, or_default, unless}
+use Rattle.kb_context.specs.declared.failure.Failure.{Failure}
+use Rattle.kb_context.specs.declared.failure.Failure.TheVariants.{NoMemory, Fault}
+use Rattle.kb_keys.specs.KeyFault as key
 use Rattle.kb_keys.specs.declared.keystroke.Keystroke.{Keystroke}
 use Rattle.kb_keys.specs.Chord.{chord_of}
+use Rattle.kb_when.specs.WhenFault as when
 use Rattle.kb_when.specs.declared.fault.WhenFault.{WhenFault}
 use Rattle.kb_when.specs.Clause.{Clause}
-use Rattle.kb_when.specs.Characters.{is_blank}
 use Rattle.kb_when.specs.ClauseText.{clause_in}
-use Rattle.serde_json.specs.Data.{Data}
-use Rattle.serde_json.specs.Find.{get, as_object, as_str}
-use Rattle.kb_rules.specs.declared.entry_fault.EntryFault.{EntryFault}
-use Rattle.kb_rules.specs.declared.entry_fault.EntryFault.TheVariants.{Key, When, MissingMember, WrongShape}
+use Rattle.serde_json.specs.Data.{Data, Members}
+use Rattle.serde_json.specs.Find.{get_member, as_object, as_str}
 use Rattle.kb_rules.specs.declared.rule.Rule.{Rule}
 use Rattle.kb_rules.specs.Whole.{is_whole}
 
+-- the same reading, with its fault by the fault's number
+abbrev pub by_number : {F X : Type 0} → (F → ℕ) → Result X F → Result X ℕ
+by_number number_of (Ok x) = Ok x
+by_number number_of (Err fault) = Err (number_of fault)
+
+-- the same of a failure
+abbrev pub failure_by_number : Failure WhenFault → Failure ℕ
+failure_by_number NoMemory = NoMemory
+failure_by_number (Fault fault) = Fault (when.number_of fault)
+
+-- ---- the members, each of which may be absent: 40 where one has to be there, 41 where it has another shape
+
 -- the text that a value is
-abbrev pub text_of : Data → Result (List ℕ) EntryFault
-text_of d = or_fault WrongShape (as_str d)
+abbrev pub text_of : Data → Result (List ℕ) ℕ
+text_of d = or_fault 41 (as_str d)
 
 -- the text of a member that must be there
-abbrev pub required_text : List ℕ → Data → Result (List ℕ) EntryFault
-required_text name d = or_fault MissingMember (get name d) >>= text_of
+abbrev pub required_text : Option Data → Result (List ℕ) ℕ
+required_text member = or_fault 40 member >>= text_of
 
 -- the text of a member, or the empty text where it is absent
-abbrev pub optional_text : List ℕ → Data → Result (List ℕ) EntryFault
-optional_text name d = or_default [] text_of (get name d)
+abbrev pub optional_text : Option Data → Result (List ℕ) ℕ
+optional_text member = or_default [] text_of member
 
 -- the command begins with `-`
 abbrev pub is_removal : List ℕ → Bool
 is_removal command = starts_with nat_eq command (codes "-")
 
--- a fault of the key text is one of the element
-abbrev pub of_key : Result (List Keystroke) KeyFault → Result (List Keystroke) EntryFault
-of_key (Ok chord) = Ok chord
-of_key (Err fault) = Err (Key fault)
+-- a command that is no removal
+unfoldable pub command_of : Option Data → Result (List ℕ) ℕ
+command_of member = required_text member >>= λ command. unless 41 (not (is_removal command)) command
 
--- a fault of the clause is one of the element
-abbrev pub of_clause : Result Clause WhenFault → Result (Option Clause) EntryFault
-of_clause (Ok clause) = Ok (Some clause)
-of_clause (Err fault) = Err (When fault)
+unfoldable pub keystrokes_of : Option Data → Result (List Keystroke) ℕ
+keystrokes_of member = required_text member >>= λ text. by_number key.number_of (chord_of text)
 
 -- a text that is empty, or white space alone, is no clause
-unfoldable pub when_of : List ℕ → Result (Option Clause) EntryFault
-when_of text = if list_all is_blank text then Ok None else of_clause (clause_in text)
+unfoldable pub when_of : List ℕ → Result (Option Clause) ℕ
+when_of text =
+    if list_all is_blank text then Ok None
+    else by_number when.number_of (clause_in text) >>= λ clause. Ok (Some clause)
+
+unfoldable pub condition_of : Option Data → Result (Option Clause) ℕ
+condition_of member = optional_text member >>= when_of
 
 -- the arguments, if there are any: each number is whole within i64
-abbrev pub args_of : Data → Result (Option Data) EntryFault
-args_of d = or_default None (λ args. unless WrongShape (is_whole args) (Some args)) (get (codes "args") d)
+unfoldable pub args_of : Option Data → Result (Option Data) ℕ
+args_of member = or_default None (λ args. unless 41 (is_whole args) (Some args)) member
 
--- the rule that the element at a place is, or its first fault
-unfoldable pub entry_of : ℕ → Data → Result Rule EntryFault
-entry_of place d = do
-  guard WrongShape (is_some (as_object d))
-  command ← required_text (codes "command") d
-  guard WrongShape (not (is_removal command))
-  key ← required_text (codes "key") d
-  chord ← of_key (chord_of key)
-  text ← optional_text (codes "when") d
-  when ← when_of text
-  args ← args_of d
+-- ---- the whole element
+
+-- the rule that the members at a place are; the faults come in this order
+unfoldable pub rule_of : ℕ → Members → Result Rule ℕ
+rule_of place members = do
+  command ← command_of (get_member (codes "command") members)
+  chord ← keystrokes_of (get_member (codes "key") members)
+  when ← condition_of (get_member (codes "when") members)
+  args ← args_of (get_member (codes "args") members)
   Ok (record { chord = chord; command = command; when = when; args = args; place = place })
+
+-- the rule that the element at a place is, or the number of its first fault
+abbrev pub entry_of : ℕ → Data → Result Rule ℕ
+entry_of place d = or_fault 41 (as_object d) >>= rule_of place

@@ -1,42 +1,55 @@
 //! The reading of one element of a rule file.
-ghost use Rattle.std.specs.Prelude.{◌≡◌, Some, option_map, is_some, not, IfOk};
+ghost use Rattle.std.specs.Prelude.{◌≡◌, Some, option_map, is_some, not, IfOk, codes};
 ghost use Rattle.std.specs.List.{list_all};
-ghost use Rattle.kb_context.specs.Reading.{Gives, seen};
-ghost use Rattle.kb_when.specs.Characters.{is_blank};
+ghost use Rattle.kb_context.specs.Blank.{is_blank};
+ghost use Rattle.kb_context.specs.Failure.{Gives};
+ghost use Rattle.kb_keys.specs.KeyFault as key;
+ghost use Rattle.kb_keys.specs.Chord.{chord_of};
+ghost use Rattle.kb_when.specs.WhenFault as when;
 ghost use Rattle.kb_when.specs.ClauseText.{clause_in};
-ghost use Rattle.serde_json.specs.Data.{object};
-ghost use Rattle.serde_json.specs.Find.{get};
 ghost use Rattle.serde_json.specs.View.{view, members_view};
-ghost use Rattle.kb_rules.specs.Entry.{text_of, required_text, optional_text, is_removal, of_clause, when_of, args_of, entry_of};
+ghost use Rattle.kb_rules.specs.Entry.{by_number, failure_by_number, is_removal, text_of, required_text, optional_text};
+ghost use Rattle.kb_rules.specs.Entry.{command_of, keystrokes_of, when_of, condition_of, args_of, rule_of, entry_of};
 
-use crate::entry_fault::{EntryError, EntryFault};
 use crate::json::Json;
 use crate::rule::Rule;
 use crate::whole::has_whole_numbers;
-use kb_context::Text;
+use kb_context::{Failure, Text, is_blank_text};
 use kb_keys::Chord;
-use kb_when::{Clause, WhenFault, is_blank_text};
+use kb_manifest::{FileFault, members_in, take_member, text_in};
+use kb_when::{Clause, WhenFault};
 use serde_json::{Map, Value};
 use std::alloc::Global;
 
-/// The rule that an element is, with the place that it stands at, or the element's first fault. The
-/// arguments are moved out of the element.
-#[tactic(auto, unfolding(crate::specs::Entry::entry_of))]
-pub(crate) fn read_entry(alloc: Global, entry: Value, place: usize) -> Result<Rule, EntryError>
+/// The rule that an element is, with the place that it stands at, or the number of the element's first
+/// fault. Its texts and arguments are moved out of it.
+pub(crate) fn read_entry(alloc: Global, entry: Value, place: usize) -> Result<Rule, Failure<u32>>
     ensures { Gives (λ rule. rule) result (entry_of place (view entry)) }
 {
-    if !entry.is_object() {
-        return Err(EntryError::Fault(EntryFault::WrongShape));
+    match members_in(entry) {
+        Some(members) => read_rule(alloc, members, place),
+        None => Err(Failure::Fault(FileFault::WrongShape.number())),
     }
-    let command = required_text(&entry, "command")?;
-    if is_removal(command) {
-        return Err(EntryError::Fault(EntryFault::WrongShape));
-    }
-    let key = required_text(&entry, "key")?;
-    let chord = Chord::parse(alloc, key).map_err(EntryFault::Key)?;
-    let when = read_when(alloc, optional_text(&entry, "when")?)?;
-    let command = Text::from_str(alloc, command)?;
-    let args = take_args(entry)?;
+}
+
+/// The rule that members are.
+#[tactic(auto, unfolding(crate::specs::Entry::rule_of))]
+fn read_rule(
+    alloc: Global,
+    members: Map<String, Value>,
+    place: usize,
+) -> Result<Rule, Failure<u32>>
+    ensures { Gives (λ rule. rule) result (rule_of place (members_view members.entries)) }
+{
+    let mut members = members;
+    let command = take_member(&mut members, "command");
+    let key = take_member(&mut members, "key");
+    let when = take_member(&mut members, "when");
+    let args = take_member(&mut members, "args");
+    let command = read_command(command).map_err(Failure::Fault)?;
+    let chord = read_keystrokes(alloc, key).map_err(Failure::Fault)?;
+    let when = read_condition(alloc, when)?;
+    let args = read_args(args).map_err(Failure::Fault)?;
     Ok(Rule {
         chord,
         command,
@@ -47,27 +60,32 @@ pub(crate) fn read_entry(alloc: Global, entry: Value, place: usize) -> Result<Ru
 }
 
 /// The text that a value is.
-fn text_of(value: &Value) -> Result<&str, EntryFault>
-    ensures { seen (λ text. text.now) result ≡ text_of (view value.now) }
+fn text_of(value: Value) -> Result<Text, u32>
+    ensures { result ≡ text_of (view value) }
 {
-    value.as_str().ok_or(EntryFault::WrongShape)
+    text_in(value).ok_or(FileFault::WrongShape.number())
 }
 
 /// The text of a member that must be there.
-fn required_text<'v>(entry: &'v Value, name: &str) -> Result<&'v str, EntryFault>
-    ensures { seen (λ text. text.now) result ≡ required_text name.now (view entry.now) }
+fn required_text(member: Option<Value>) -> Result<Text, u32>
+    ensures { result ≡ required_text (option_map view member) }
 {
-    text_of(entry.get(name).ok_or(EntryFault::MissingMember)?)
+    match member {
+        Some(value) => text_of(value),
+        None => Err(FileFault::MissingMember.number()),
+    }
 }
 
-/// The text of a member, or the empty text where there is no such member.
-fn optional_text<'v>(entry: &'v Value, name: &str) -> Result<&'v str, EntryFault>
-    ensures { seen (λ text. text.now) result ≡ optional_text name.now (view entry.now) }
+/// The command, which is no removal.
+#[tactic(auto, unfolding(crate::specs::Entry::command_of))]
+fn read_command(member: Option<Value>) -> Result<Text, u32>
+    ensures { result ≡ command_of (option_map view member) }
 {
-    match entry.get(name) {
-        Some(member) => text_of(member),
-        None => Ok(""),
+    let command = required_text(member)?;
+    if is_removal(command.as_str()) {
+        return Err(FileFault::WrongShape.number());
     }
+    Ok(command)
 }
 
 /// Whether a command is one to be taken away (VS Code's documentation: it begins with `-`).
@@ -77,9 +95,42 @@ fn is_removal(command: &str) -> bool
     command.as_bytes().starts_with(b"-")
 }
 
+/// The keystrokes.
+#[tactic(auto, unfolding(crate::specs::Entry::keystrokes_of))]
+fn read_keystrokes(alloc: Global, member: Option<Value>) -> Result<Chord, u32>
+    ensures { result ≡ keystrokes_of (option_map view member) }
+{
+    let text = required_text(member)?;
+    read_chord(alloc, text.as_str())
+}
+
+/// The keystrokes of a text.
+fn read_chord(alloc: Global, text: &str) -> Result<Chord, u32>
+    ensures { result ≡ by_number key.number_of (chord_of text.now) }
+{
+    match Chord::parse(alloc, text) {
+        Ok(chord) => Ok(chord),
+        Err(fault) => Err(fault.number()),
+    }
+}
+
+/// The clause that is the condition, if there is one.
+#[tactic(auto, unfolding(crate::specs::Entry::condition_of))]
+fn read_condition(alloc: Global, member: Option<Value>) -> Result<Option<Clause>, Failure<u32>>
+    ensures { Gives (λ when. when) result (condition_of (option_map view member)) }
+{
+    match member {
+        Some(value) => {
+            let text = text_of(value).map_err(Failure::Fault)?;
+            read_when(alloc, text.as_str())
+        }
+        None => Ok(None),
+    }
+}
+
 /// The clause of a `when` text, if it says something.
 #[tactic(auto, unfolding(crate::specs::Entry::when_of))]
-fn read_when(alloc: Global, text: &str) -> Result<Option<Clause>, EntryError>
+fn read_when(alloc: Global, text: &str) -> Result<Option<Clause>, Failure<u32>>
     ensures read { Gives (λ when. when) result (when_of text.now) }
 
     // What `read` cites: a text that says something is never a rule without a clause.
@@ -92,42 +143,32 @@ fn read_when(alloc: Global, text: &str) -> Result<Option<Clause>, EntryError>
 }
 
 /// The clause of a text.
-fn read_clause(alloc: Global, text: &str) -> Result<Clause, EntryError>
-    ensures { Gives Some result (of_clause (clause_in text.now)) }
+fn read_clause(alloc: Global, text: &str) -> Result<Clause, Failure<u32>>
+    ensures { Gives (λ clause. clause) result (by_number when.number_of (clause_in text.now)) }
 {
-    match Clause::parse(alloc, text) {
-        Ok(clause) => Ok(clause),
-        Err(WhenFault::NoMemory) => Err(EntryError::NoMemory),
-        Err(fault) => Err(EntryError::Fault(EntryFault::When(fault))),
+    Clause::parse(alloc, text).map_err(failure_by_number)
+}
+
+/// The failure to read a clause, with its fault by the fault's number.
+fn failure_by_number(failure: Failure<WhenFault>) -> Failure<u32>
+    ensures { result ≡ failure_by_number failure }
+{
+    match failure {
+        Failure::NoMemory => Failure::NoMemory,
+        Failure::Fault(fault) => Failure::Fault(fault.number()),
     }
 }
 
-/// The arguments of an element, moved out of it, if it has any: whole within i64 in each number.
-fn take_args(entry: Value) -> Result<Option<Json>, EntryFault>
-    ensures { result ≡ args_of (view entry) }
+/// The arguments, if there are any: whole within i64 in each number.
+#[tactic(auto, unfolding(crate::specs::Entry::args_of))]
+fn read_args(member: Option<Value>) -> Result<Option<Json>, u32>
+    ensures { result ≡ args_of (option_map view member) }
 {
-    let Some(args) = take_member(entry, "args") else {
+    let Some(args) = member else {
         return Ok(None);
     };
     if !has_whole_numbers(&args) {
-        return Err(EntryFault::WrongShape);
+        return Err(FileFault::WrongShape.number());
     }
     Ok(Some(Json::from_value(args)))
-}
-
-/// A member of an object, moved out of it, if it is there.
-fn take_member(entry: Value, name: &str) -> Option<Value>
-    ensures { option_map view result ≡ get name.now (view entry) }
-{
-    match entry {
-        Value::Object(members) => removed(members, name),
-        _ => None,
-    }
-}
-
-fn removed(members: Map<String, Value>, name: &str) -> Option<Value>
-    ensures { option_map view result ≡ get name.now (object (members_view members.entries)) }
-{
-    let mut members = members;
-    members.remove(name)
 }

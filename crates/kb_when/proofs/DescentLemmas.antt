@@ -7,13 +7,15 @@ use Rattle.kb_when.specs.declared.tree.Tree.{Tree}
 use Rattle.kb_when.specs.declared.token.Token.{Token}
 use Rattle.kb_when.specs.declared.token.Token.TheVariants.{Or, And, Not, Open, Close}
 use Rattle.kb_when.specs.declared.fault.WhenFault.{WhenFault}
-use Rattle.kb_when.specs.declared.fault.WhenFault.TheVariants.{BadToken, Unexpected, TooDeep, BadNumber, NoMemory}
-use Rattle.kb_when.specs.WhenFault.{IsRefusal}
+use Rattle.kb_when.specs.declared.fault.WhenFault.TheVariants.{Unexpected}
+use Rattle.kb_context.specs.declared.failure.Failure.{Failure}
+use Rattle.kb_context.specs.declared.failure.Failure.TheVariants as failures
+use Rattle.kb_context.specs.Failure.{Fails}
 use Rattle.kb_when.specs.Clause.{Clause, Clauses, no_clauses, clause, not_of, all_of, any_of}
 use Rattle.kb_when.specs.Tree.{clause_of, clauses_of}
 use Rattle.kb_when.specs.Grammar.{any_joined, all_joined}
 use Rattle.kb_when.specs.Reading.{at_operand, behind_operand, Opened, bang, paren, Built, append, snoc, operand, read_from, clause_of_tokens}
-use Rattle.kb_when.specs.Parser.{ReadsOperand, ReadsConjunction, ReadsDisjunction, IsBare, NoAnd, NoOr, Fails, FailsOuter, behind_close, all_read}
+use Rattle.kb_when.specs.Parser.{ReadsOperand, ReadsConjunction, ReadsDisjunction, IsBare, NoAnd, NoOr, FailsOperand, FailsDisjunction, behind_close, all_read}
 
 -- ---- lists of clauses
 
@@ -54,7 +56,8 @@ reads_negated n ts rest t u h e r = subst (λ (x : Clause). ReadsOperand n (Not 
   shorter = let lt = r.shorter in omega arith;
 })
 
-pub fails_negated : (n : ℕ) (ts : List Token) (f : WhenFault) → n < 64 → Fails (n + 1) ts f → Fails n (Not ∷ ts) f
+pub fails_negated : (n : ℕ) (ts : List Token) (f : Failure WhenFault) → n < 64 → FailsOperand (n + 1) ts f
+    → FailsOperand n (Not ∷ ts) f
 fails_negated n ts f h r = λ b m. rw (is_below b.opened n h m) (r (record { ors = b.ors; ands = b.ands; opened = bang ∷ b.opened }) (rw (m, add-one) refl))
 
 pub reads_enclosed : (n : ℕ) (ts more rest : List Token) (t : Clause) → n < 64 → Ok rest ≡ behind_close more → ReadsDisjunction (n + 1) ts t more → ReadsOperand n (Open ∷ ts) t rest
@@ -66,7 +69,8 @@ reads_enclosed n ts (Close ∷ us) rest t h e r =
 reads_enclosed n ts [] rest t h e r = cc
 reads_enclosed n ts (_ ∷ us) rest t h e r = cc
 
-pub fails_enclosed : (n : ℕ) (ts : List Token) (f : WhenFault) → n < 64 → FailsOuter (n + 1) ts f → Fails n (Open ∷ ts) f
+pub fails_enclosed : (n : ℕ) (ts : List Token) (f : Failure WhenFault) → n < 64 → FailsDisjunction (n + 1) ts f
+    → FailsOperand n (Open ∷ ts) f
 fails_enclosed n ts f h r = λ b m. rw (is_below b.opened n h m) (r no_clauses (paren b.ors b.ands ∷ b.opened) (rw (m, add-one) refl) tt)
 
 -- one fault, of whatever was asked for
@@ -84,21 +88,15 @@ not_closed b (Or ∷ us) f os an st o p q e = absurd q
 not_closed b (Close ∷ us) f os an st o p q e = cc
 not_closed b (_ ∷ us) f os an st o p q e = same_fault Unexpected f (sym e)
 
-pub refuses : (f : WhenFault) {x : Result Clause WhenFault} → x ≡ Err f → IsRefusal x f
-refuses NoMemory e = tt
-refuses BadToken e = e
-refuses Unexpected e = e
-refuses TooDeep e = e
-refuses BadNumber e = e
+-- a failure is one of what the reading goes on with
+pub goes_to : (f : Failure WhenFault) {x y : Result Clause WhenFault} → x ≡ y → Fails f y → Fails f x
+goes_to f e h = subst (λ (z : Result Clause WhenFault). Fails f z) (sym e) h
 
--- a fault is one of what the reading goes on with
-pub goes_to : (f : WhenFault) {x y : Result Clause WhenFault} → x ≡ y → IsRefusal y f → IsRefusal x f
-goes_to f e h = subst (λ (z : Result Clause WhenFault). IsRefusal z f) (sym e) h
-
-pub fails_closed : (n : ℕ) (ts more : List Token) (t : Clause) (f : WhenFault) → n < 64 → Err f ≡ behind_close more → ReadsDisjunction (n + 1) ts t more → Fails n (Open ∷ ts) f
-fails_closed n ts more t f h e r = λ b m. rw (is_below b.opened n h m) (refuses f
+pub fails_closed : (n : ℕ) (ts more : List Token) (t : Clause) (f : WhenFault) → n < 64
+    → Err f ≡ behind_close more → ReadsDisjunction (n + 1) ts t more → FailsOperand n (Open ∷ ts) (failures.Fault f)
+fails_closed n ts more t f h e r = λ b m. rw (is_below b.opened n h m)
     (r.goes_on no_clauses (paren b.ors b.ands ∷ b.opened) (rw (m, add-one) refl) tt
-    ∙ not_closed _ more f b.ors b.ands b.opened refl r.no_and r.no_or e))
+    ∙ not_closed _ more f b.ors b.ands b.opened refl r.no_and r.no_or e)
 
 -- ---- operands one after another
 
@@ -233,7 +231,10 @@ left_over b (Or ∷ ts) o p q h = absurd q
 left_over b (Close ∷ ts) o p q h = rw o refl
 left_over b (_ ∷ ts) o p q h = refl
 
-pub fails_left : (ts rest : List Token) (t : Clause) (f : WhenFault) → ReadsDisjunction 0 ts t rest → Err f ≡ all_read rest → IsRefusal (clause_of_tokens ts) f
+pub fails_left : (ts rest : List Token) (t : Clause) (f : WhenFault) → ReadsDisjunction 0 ts t rest
+    → Err f ≡ all_read rest → Fails (failures.Fault f) (clause_of_tokens ts)
 fails_left ts [] t f r e = cc
 fails_left ts (u ∷ rest) t f r e =
-    refuses f (r.goes_on no_clauses [] refl tt ∙ left_over (record { ors = append no_clauses r.before; ands = r.last; opened = [] }) (u ∷ rest) refl r.no_and r.no_or (λ n. cc) ∙ same_fault Unexpected f (sym e))
+    r.goes_on no_clauses [] refl tt
+    ∙ left_over (record { ors = append no_clauses r.before; ands = r.last; opened = [] }) (u ∷ rest) refl r.no_and r.no_or (λ n. cc)
+    ∙ same_fault Unexpected f (sym e)

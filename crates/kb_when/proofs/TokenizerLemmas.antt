@@ -7,7 +7,6 @@ use Rattle.kb_when.specs.Tokenizer.{Read, lex, next_token, next_word, is_like, t
 use Rattle.kb_when.specs.declared.fault.WhenFault.{WhenFault}
 use Rattle.kb_when.specs.declared.fault.WhenFault.TheVariants.{BadToken}
 use Rattle.kb_context.specs.Reading.{or_fault}
-use Rattle.kb_when.specs.WhenFault.{IsRefusal}
 
 abbrev pub joined : List Token → Option (List Token) → Option (List Token)
 joined ts o = option_map (λ us. ts ++ us) o
@@ -46,9 +45,10 @@ pub a_piece : {A : Type 0} (o : Option A) (x : A) → given x ≡ or_fault BadTo
 a_piece (Some y) x e = cc
 a_piece None x e = cc
 
-pub no_piece : {A B : Type 0} (there : Option A) (here : Option B) (f : WhenFault) → failed A f ≡ or_fault BadToken there → (there ≡ None → here ≡ None) → IsRefusal (or_fault BadToken here) f
+pub no_piece : {A B : Type 0} (there : Option A) (here : Option B) (f : WhenFault)
+    → failed A f ≡ or_fault BadToken there → (there ≡ None → here ≡ None) → or_fault BadToken here ≡ failed B f
 no_piece {A} {B} None here f e g =
-    subst (λ (o : Option B). IsRefusal (or_fault BadToken o) f) (sym (g refl)) (let p : BadToken ≡ f = cc in subst (IsRefusal (failed B BadToken)) p refl)
+    let p : BadToken ≡ f = cc in ap (or_fault BadToken) (g refl) ∙ ap (failed B) p
 no_piece (Some x) here f e g = cc
 
 joined_once : (ts : List Token) (t : Token) (o : Option (List Token)) → joined ts (option_map (λ us. t ∷ us) o) ≡ joined (ts ++ t ∷ []) o

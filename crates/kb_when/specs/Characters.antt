@@ -2,12 +2,9 @@
 use Rattle.std.specs.Prelude.{ℕ, List, [], ◌∷◌, Bool, false, ◌&&◌, ◌||◌, not, if◌then◌else◌, nat_eq, nat_le, Option, Some, None, codes}
 use Rattle.std.specs.List.{flat_map, list_any}
 use Rattle.std.specs.Char.{encode_utf8}
+use Rattle.kb_context.specs.Blank.{is_blank}
 use Rattle.kb_when.specs.declared.characters.Until.{Until}
 use Rattle.kb_when.specs.declared.characters.Until.TheVariants.{WordEnd, Quote, NoLetter}
-
--- space, tab, carriage return, line feed
-abbrev pub is_blank : ℕ → Bool
-is_blank c = nat_eq c 32 || (nat_eq c 9 || (nat_eq c 13 || nat_eq c 10))
 
 abbrev pub begins_blank : List ℕ → Bool
 begins_blank [] = false

@@ -9,7 +9,8 @@ use Rattle.kb_when.specs.declared.token.Token.{Token}
 use Rattle.kb_when.specs.declared.token.Token.TheVariants.{Or, And, Not, Open, Close}
 use Rattle.kb_when.specs.declared.fault.WhenFault.{WhenFault}
 use Rattle.kb_when.specs.declared.fault.WhenFault.TheVariants.{Unexpected}
-use Rattle.kb_when.specs.WhenFault.{IsRefusal}
+use Rattle.kb_context.specs.declared.failure.Failure.{Failure}
+use Rattle.kb_context.specs.Failure.{Fails}
 use Rattle.kb_when.specs.Clause.{Clause, always, never, key, equals, compare, member, not_of, Clauses, no_clauses}
 use Rattle.kb_when.specs.Grammar.{any_joined, all_joined}
 use Rattle.kb_when.specs.Reading.{State, at_operand, behind_operand, Opened, bang, paren, Built, append, snoc, operand, read_from}
@@ -88,17 +89,19 @@ pub record ReadsDisjunction (depth : ℕ) (ts : List Token) (t : Clause) (rest :
   pub no_and : NoAnd rest
   pub no_or : NoOr rest
 
--- wherever so many are open, the reading ends at the fault
-abbrev pub Fails : ℕ → List Token → WhenFault → Type 0
-Fails depth ts f = (b : Built) → length b.opened ≡ depth → IsRefusal (read_from at_operand b ts) f
+-- wherever so many are open, the reading fails so
+abbrev pub FailsOperand : ℕ → List Token → Failure WhenFault → Type 0
+FailsOperand depth ts failure = (b : Built) → length b.opened ≡ depth → Fails failure (read_from at_operand b ts)
 
 -- the same, where no "!" waits
-abbrev pub FailsBare : ℕ → List Token → WhenFault → Type 0
-FailsBare depth ts f = (b : Built) → length b.opened ≡ depth → IsBare b.opened → IsRefusal (read_from at_operand b ts) f
+abbrev pub FailsConjunction : ℕ → List Token → Failure WhenFault → Type 0
+FailsConjunction depth ts failure =
+    (b : Built) → length b.opened ≡ depth → IsBare b.opened → Fails failure (read_from at_operand b ts)
 
 -- the same, where no operand of "&&" stands before
-abbrev pub FailsOuter : ℕ → List Token → WhenFault → Type 0
-FailsOuter depth ts f = (os : Clauses) (st : List Opened) → length st ≡ depth → IsBare st → IsRefusal (read_from at_operand (record { ors = os; ands = no_clauses; opened = st }) ts) f
+abbrev pub FailsDisjunction : ℕ → List Token → Failure WhenFault → Type 0
+FailsDisjunction depth ts failure = (os : Clauses) (st : List Opened) → length st ≡ depth → IsBare st
+    → Fails failure (read_from at_operand (record { ors = os; ands = no_clauses; opened = st }) ts)
 
 -- what an operand begins with: a "!" or a "(", and fewer than 64 are open; or a whole atom
 abbrev pub Begins : ℕ → List Token → Start → List Token → Type 0

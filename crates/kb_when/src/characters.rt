@@ -1,7 +1,8 @@
 //! Classes and runs of characters.
 ghost use Rattle.std.specs.Prelude.{◌≡◌, ◌+◌, ◌≤◌, IfOk, IfSome, length, option_map};
-ghost use Rattle.std.specs.List.{list_all};
-ghost use Rattle.kb_when.specs.Characters.{is_blank, begins_blank, ends_word, ends_at, skipped, front, behind, bytes_of, behind_sign};
+ghost use Rattle.kb_context.specs.Blank.{is_blank};
+ghost use Rattle.kb_when.specs.Characters.{begins_blank, ends_word, ends_at, skipped};
+ghost use Rattle.kb_when.specs.Characters.{front, behind, bytes_of, behind_sign};
 
 use kb_context::{NoMemory, Text};
 use std::alloc::Global;
@@ -11,15 +12,6 @@ pub(crate) fn is_blank(character: char) -> bool
     ensures { result ≡ is_blank character }
 {
     character == ' ' || character == '\t' || character == '\r' || character == '\n'
-}
-
-/// Whether a text says nothing: it is empty, or white space alone (our decision).
-pub fn is_blank_text(text: &str) -> bool
-    ensures { result ≡ list_all is_blank text.now }
-{
-    text.as_bytes()
-        .iter()
-        .all(|byte| is_blank(char::from(*byte)))
 }
 
 /// Whether white space stands first.

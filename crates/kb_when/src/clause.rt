@@ -1,11 +1,11 @@
 //! Clauses.
-ghost use Rattle.std.specs.Prelude.{◌≡◌, ◌↔◌, IsTrue, IsOk, IfOk, IfErr, Ok};
+ghost use Rattle.std.specs.Prelude.{◌≡◌, ◌↔◌, IsTrue, IsOk, IfOk};
 
 use crate::fault::WhenFault;
 use crate::parser::parse_tokens;
 use crate::tokenizer::tokenize;
 use crate::tree::Tree;
-use kb_context::{NoMemory, Scopes};
+use kb_context::{Failure, NoMemory, Scopes};
 use std::alloc::Global;
 use std::marker::Model;
 
@@ -32,26 +32,25 @@ impl Model for Clause {
 
 impl Clause {
     ghost use Rattle.kb_context.specs.Scopes.{context};
-    ghost use Rattle.kb_when.specs.WhenFault.{IsRefusal};
+    ghost use Rattle.kb_context.specs.Failure.{Gives};
     ghost use Rattle.kb_when.specs.Tokenizer.{CountSuffices};
     ghost use Rattle.kb_when.specs.ClauseText.{StandsFor, clause_in, ReadsByGrammar};
     ghost use Rattle.kb_when.specs.Value.{value};
 
     /// The clause of a text.
     ///
-    /// `BadToken` (30) where a token can't be read. Then, as reading the tokens from the left meets it first:
-    /// `TooDeep` (32) where more than 64 `(` and `!` stand around an operand,
-    /// `BadNumber` (33) where a word or a quoted text that is no number follows a comparison, and
-    /// `Unexpected` (31) for any other token or end. `NoMemory` (5). The operators are those of
-    /// VS Code's documentation of "when clause contexts"; `=~` is `Unexpected` so far. Tokens,
-    /// precedence and faults are our decision.
+    /// `BadToken` (30) where a token can't be read. Then, as reading the tokens from the left meets
+    /// it first: `TooDeep` (32) where more than 64 `(` and `!` stand around an operand, `BadNumber`
+    /// (33) where a word or a quoted text that is no number follows a comparison, and `Unexpected`
+    /// (31) for any other token or end. Or want of memory. The operators are those of VS Code's
+    /// documentation of "when clause contexts"; `=~` is `Unexpected` so far. Tokens, precedence and
+    /// faults are our decision.
     #[tactic(auto, unfolding(crate::specs::ClauseText::clause_in))]
-    pub fn parse(alloc: Global, text: &str) -> Result<Clause, WhenFault>
+    pub fn parse(alloc: Global, text: &str) -> Result<Clause, Failure<WhenFault>>
+        ensures read { Gives (λ clause. clause) result (clause_in text.now) }
         ensures stands { IfOk result (StandsFor text.now) }
         ensures only { IfOk result (λ clause.
             (other : _) → StandsFor text.now other → other ≡ clause) }
-        ensures read { IfOk result (λ clause. clause_in text.now ≡ Ok clause) }
-        ensures fault { IfErr result (IsRefusal (clause_in text.now)) }
 
         // For all texts the reading is that of the grammar.
         ensures grammar { ReadsByGrammar text.now }

@@ -15,6 +15,5 @@ mod tree;
 mod value;
 mod words;
 
-pub use characters::is_blank_text;
 pub use clause::Clause;
 pub use fault::WhenFault;

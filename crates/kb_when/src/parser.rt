@@ -1,12 +1,14 @@
 //! Clauses from tokens, by descent with one token ahead. Each function says how the reading of the
 //! tokens goes on behind those that it read. What decides a fault takes no memory.
-ghost use Rattle.std.specs.Prelude.{◌≡◌, ◌≤◌, ◌<◌, ◌∷◌, [], IfOk, IfErr, Ok, map, length};
+ghost use Rattle.std.specs.Prelude.{◌≡◌, ◌≤◌, ◌<◌, ◌∷◌, [], IfOk, IfErr, map, length};
 ghost use Rattle.kb_when.specs.Tree.{clause_of, clauses_of};
+ghost use Rattle.kb_context.specs.Failure.{Gives};
 ghost use Rattle.kb_context.specs.Reading.{seen};
 ghost use Rattle.kb_when.specs.Grammar.{any_joined, all_joined};
-ghost use Rattle.kb_when.specs.WhenFault.{IsRefusal};
 ghost use Rattle.kb_when.specs.Reading.{at_operand, clause_of_tokens};
-ghost use Rattle.kb_when.specs.Parser.{Begins, behind_close, ReadsOperand, ReadsConjunction, ReadsDisjunction, Fails, FailsAt, FailsBare, FailsOuter, FailsToBegin, all_read, clause_of_condition};
+ghost use Rattle.kb_when.specs.Parser.{Begins, FailsToBegin, FailsAt, behind_close, all_read};
+ghost use Rattle.kb_when.specs.Parser.{ReadsOperand, ReadsConjunction, ReadsDisjunction};
+ghost use Rattle.kb_when.specs.Parser.{FailsOperand, FailsConjunction, FailsDisjunction, clause_of_condition};
 ghost use Rattle.kb_when.specs.declared.token.Token.TheVariants.{Not, Open, Word};
 
 use crate::atom::{Atom, Condition, key_tail, next, plain};
@@ -14,7 +16,7 @@ use crate::fault::WhenFault;
 use crate::token::Token;
 use crate::tree::Tree;
 use crate::words::{is_reserved, is_word};
-use kb_context::Text;
+use kb_context::{Failure, Text};
 use std::alloc::Global;
 
 /// How many `(` and `!` may stand around an operand (our decision).
@@ -103,10 +105,10 @@ fn all_read(tokens: &[Token]) -> Result<(), WhenFault>
 
 /// An operand with the `!` before it.
 #[cycle(descent)]
-fn operand(alloc: Global, tokens: &[Token], depth: usize) -> Result<(Tree, &[Token]), WhenFault>
+fn operand(alloc: Global, tokens: &[Token], depth: usize) -> Result<(Tree, &[Token]), Failure<WhenFault>>
     requires { depth ≤ 64 }
     ensures ok { IfOk result (λ r. ReadsOperand depth tokens.now (clause_of r.0) r.1.now) }
-    ensures err { IfErr result (Fails depth tokens.now) }
+    ensures err { IfErr result (FailsOperand depth tokens.now) }
 {
     let (start, rest) = begin(tokens, depth)?;
     match start {
@@ -118,10 +120,10 @@ fn operand(alloc: Global, tokens: &[Token], depth: usize) -> Result<(Tree, &[Tok
 
 /// The operand behind a `!`.
 #[cycle(descent)]
-fn negated(alloc: Global, rest: &[Token], depth: usize) -> Result<(Tree, &[Token]), WhenFault>
+fn negated(alloc: Global, rest: &[Token], depth: usize) -> Result<(Tree, &[Token]), Failure<WhenFault>>
     requires { depth < 64 }
     ensures ok { IfOk result (λ r. ReadsOperand depth (Not ∷ rest.now) (clause_of r.0) r.1.now) }
-    ensures err { IfErr result (Fails depth (Not ∷ rest.now)) }
+    ensures err { IfErr result (FailsOperand depth (Not ∷ rest.now)) }
 {
     let (tree, more) = operand(alloc, rest, depth + 1)?;
     let tree = Box::new(alloc, tree)?;
@@ -130,10 +132,10 @@ fn negated(alloc: Global, rest: &[Token], depth: usize) -> Result<(Tree, &[Token
 
 /// What stands behind a `(`, up to its `)`.
 #[cycle(descent)]
-fn enclosed(alloc: Global, rest: &[Token], depth: usize) -> Result<(Tree, &[Token]), WhenFault>
+fn enclosed(alloc: Global, rest: &[Token], depth: usize) -> Result<(Tree, &[Token]), Failure<WhenFault>>
     requires { depth < 64 }
     ensures ok { IfOk result (λ r. ReadsOperand depth (Open ∷ rest.now) (clause_of r.0) r.1.now) }
-    ensures err { IfErr result (Fails depth (Open ∷ rest.now)) }
+    ensures err { IfErr result (FailsOperand depth (Open ∷ rest.now)) }
 {
     let (tree, more) = disjunction(alloc, rest, depth + 1)?;
     let after = behind_close(more)?;
@@ -164,10 +166,10 @@ fn joined_by_and(mut trees: Vec<Tree>) -> Tree
 
 /// Operands joined by `&&`. A loop, so a long flat list takes no depth of calls.
 #[cycle(descent)]
-fn conjunction(alloc: Global, tokens: &[Token], depth: usize) -> Result<(Tree, &[Token]), WhenFault>
+fn conjunction(alloc: Global, tokens: &[Token], depth: usize) -> Result<(Tree, &[Token]), Failure<WhenFault>>
     requires { depth ≤ 64 }
     ensures ok { IfOk result (λ r. ReadsConjunction depth tokens.now (clause_of r.0) r.1.now) }
-    ensures err { IfErr result (FailsBare depth tokens.now) }
+    ensures err { IfErr result (FailsConjunction depth tokens.now) }
 {
     let mut trees = Vec::new(alloc);
     let mut rest = tokens;
@@ -186,10 +188,10 @@ fn conjunction(alloc: Global, tokens: &[Token], depth: usize) -> Result<(Tree, &
 
 /// Conjunctions joined by `||`.
 #[cycle(descent)]
-fn disjunction(alloc: Global, tokens: &[Token], depth: usize) -> Result<(Tree, &[Token]), WhenFault>
+fn disjunction(alloc: Global, tokens: &[Token], depth: usize) -> Result<(Tree, &[Token]), Failure<WhenFault>>
     requires { depth ≤ 64 }
     ensures ok { IfOk result (λ r. ReadsDisjunction depth tokens.now (clause_of r.0) r.1.now) }
-    ensures err { IfErr result (FailsOuter depth tokens.now) }
+    ensures err { IfErr result (FailsDisjunction depth tokens.now) }
 {
     let mut trees = Vec::new(alloc);
     let mut rest = tokens;
@@ -207,10 +209,9 @@ fn disjunction(alloc: Global, tokens: &[Token], depth: usize) -> Result<(Tree, &
 }
 
 /// The tree of the tokens, or the fault that reading them meets first: `Unexpected` (31),
-/// `TooDeep` (32) or `BadNumber` (33); `NoMemory` (5).
-pub(crate) fn parse_tokens(alloc: Global, tokens: &[Token]) -> Result<Tree, WhenFault>
-    ensures tree { IfOk result (λ t. clause_of_tokens tokens.now ≡ Ok (clause_of t)) }
-    ensures fault { IfErr result (IsRefusal (clause_of_tokens tokens.now)) }
+/// `TooDeep` (32) or `BadNumber` (33); or want of memory.
+pub(crate) fn parse_tokens(alloc: Global, tokens: &[Token]) -> Result<Tree, Failure<WhenFault>>
+    ensures { Gives clause_of result (clause_of_tokens tokens.now) }
 {
     let (tree, rest) = disjunction(alloc, tokens, 0)?;
     all_read(rest)?;

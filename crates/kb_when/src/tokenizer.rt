@@ -1,10 +1,13 @@
 //! Tokens from texts. At each place the first rule that applies is taken: a comparison, a sign, a
 //! pattern, a quoted text, a word.
-ghost use Rattle.std.specs.Prelude.{◌≡◌, ◌+◌, ◌<◌, ◌≤◌, Some, IfOk, IfErr, IfSome, chars, option_map, length, false, is_some, if◌then◌else◌};
+ghost use Rattle.std.specs.Prelude.{◌≡◌, ◌+◌, ◌<◌, ◌≤◌, if◌then◌else◌, false, chars, length};
+ghost use Rattle.std.specs.Prelude.{IfOk, IfSome, option_map, is_some};
+ghost use Rattle.kb_context.specs.Failure.{Gives};
 ghost use Rattle.kb_context.specs.Reading.{or_fault, seen};
-ghost use Rattle.kb_when.specs.WhenFault.{IsRefusal};
 ghost use Rattle.kb_when.specs.Characters.{behind_sign};
-ghost use Rattle.kb_when.specs.Tokenizer.{blank_around, next_comparison, next_sign, up_to_close, from_close, next_pattern, next_quoted, next_word, next_token, is_like, token_of, token_of_sign, tokens_of, tokens_or_fault};
+ghost use Rattle.kb_when.specs.Tokenizer.{blank_around, next_comparison, next_sign, up_to_close, from_close};
+ghost use Rattle.kb_when.specs.Tokenizer.{next_pattern, next_quoted, next_word, next_token, is_like};
+ghost use Rattle.kb_when.specs.Tokenizer.{token_of, token_of_sign, tokens_or_fault};
 ghost use Rattle.kb_when.specs.declared.fault.WhenFault.TheVariants.{BadToken};
 ghost use Rattle.kb_when.specs.declared.token.Token.TheVariants.{Comparison};
 
@@ -13,7 +16,7 @@ use crate::fault::WhenFault;
 use crate::operator::Operator;
 use crate::piece::{Piece, Sign};
 use crate::token::Token;
-use kb_context::NoMemory;
+use kb_context::{Failure, NoMemory};
 use std::alloc::Global;
 
 /// The comparisons, a longer one before a shorter one.
@@ -190,10 +193,9 @@ fn characters_of(alloc: Global, text: &str) -> Result<Vec<char>, NoMemory>
     Ok(characters)
 }
 
-/// The tokens of a text. `BadToken` (30) where one can't be read; `NoMemory` (5).
-pub(crate) fn tokenize(alloc: Global, text: &str) -> Result<Vec<Token>, WhenFault>
-    ensures ok { IfOk result (λ tokens. tokens_of text.now ≡ Some tokens.items) }
-    ensures err { IfErr result (IsRefusal (tokens_or_fault text.now)) }
+/// The tokens of a text, or `BadToken` (30) where one can't be read, or want of memory.
+pub(crate) fn tokenize(alloc: Global, text: &str) -> Result<Vec<Token>, Failure<WhenFault>>
+    ensures { Gives (λ tokens. tokens.items) result (tokens_or_fault text.now) }
 {
     let characters = characters_of(alloc, text)?;
     let mut tokens = Vec::new(alloc);
