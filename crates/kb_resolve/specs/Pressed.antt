@@ -1,4 +1,4 @@
--- What a key press does, with the rule in place of the share of it.
+-- What a key press does, with the rule in place of the loan of it.
 use Rattle.kb_rules.specs.declared.rule.Rule.{Rule}
 use Rattle.kb_resolve.specs.declared.pressed.Pressed.{Pressed}
 use Rattle.kb_resolve.specs.declared.pressed.Pressed.TheVariants.{Start, More, Left, Unbound}
@@ -10,7 +10,7 @@ pub data Step : Type 0 where
   unbound : Step
 
 abbrev pub step_of : Pressed → Step
-step_of (Start shared) = start shared.value
+step_of (Start rule) = start rule.now
 step_of More = more
 step_of Left = left
 step_of Unbound = unbound

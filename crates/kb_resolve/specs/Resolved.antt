@@ -1,4 +1,4 @@
--- What a search finds, with the rule in place of the share of it.
+-- What a search finds, with the rule in place of the loan of it.
 use Rattle.kb_rules.specs.declared.rule.Rule.{Rule}
 use Rattle.kb_resolve.specs.declared.resolved.Resolved.{Resolved}
 use Rattle.kb_resolve.specs.declared.resolved.Resolved.TheVariants.{Found, More, Nothing}
@@ -9,6 +9,6 @@ pub data Resolution : Type 0 where
   nothing : Resolution
 
 abbrev pub resolution_of : Resolved → Resolution
-resolution_of (Found shared) = found shared.value
+resolution_of (Found rule) = found rule.now
 resolution_of More = more
 resolution_of Nothing = nothing

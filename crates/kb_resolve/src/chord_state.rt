@@ -1,5 +1,5 @@
 //! The chord that is open.
-ghost use Rattle.std.specs.Prelude.{◌≡◌, ◌≢◌, ◌<◌, ◌↔◌, [], length, IfOk, OnOk, OnErr, IsTrue};
+ghost use Rattle.std.specs.Prelude.{◌≡◌, ◌≢◌, ◌<◌, ◌↔◌, [], length, IfOk, OnOk, OnErr, IsOk, IsTrue};
 ghost use Rattle.kb_context.specs.Scopes.{context};
 ghost use Rattle.kb_resolve.specs.ChordState.{step, pressed_after};
 ghost use Rattle.kb_resolve.specs.Pressed.{step_of};
@@ -66,19 +66,20 @@ impl ChordState {
     /// rule does nothing else (our decision). So is that each press asks the clauses anew: what the
     /// focus saw at the presses before doesn't count.
     ///
-    /// `NoMemory` as for `Resolver::resolve`; the chord then stays as it was. Nothing else takes
-    /// memory.
-    pub fn press(
+    /// The rule to be started is lent. Want of memory as for `Resolver::resolve`; the chord then stays
+    /// as it was. Nothing else takes memory.
+    pub fn press<'r>(
         &mut self,
         stroke: Keystroke,
-        resolver: &Resolver,
+        resolver: &'r Resolver,
         scopes: &Scopes,
-    ) -> Result<Pressed, NoMemory>
+    ) -> Result<Pressed<'r>, NoMemory>
         ensures step { IfOk result (λ pressed.
             step_of pressed ≡ step self.old stroke (context scopes.now) resolver.now) }
         ensures pressed { OnOk result (
             self.new ≡ pressed_after self.old stroke (context scopes.now) resolver.now) }
         ensures err { OnErr result (self.new ≡ self.old) }
+        ensures always { IsOk result }
     {
         let was_open = !self.pressed.is_empty();
         self.pressed.push(stroke);

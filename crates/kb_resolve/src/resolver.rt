@@ -1,25 +1,24 @@
 //! The search for the rule that pressed keystrokes choose.
-ghost use Rattle.std.specs.Prelude.{◌≡◌, ◌<◌, length, map, option_map, IfOk};
+ghost use Rattle.std.specs.Prelude.{◌≡◌, ◌<◌, length, map, option_map, IfOk, IsOk};
 ghost use Rattle.kb_context.specs.Scopes.{context};
 ghost use Rattle.kb_resolve.specs.Resolved.{more, resolution_of};
 ghost use Rattle.kb_resolve.specs.Resolver.{chosen, matches, resolved, IsGreatest};
 
 use crate::resolved::Resolved;
-use kb_context::{NoMemory, Scopes, Seq};
+use kb_context::{NoMemory, Scopes};
 use kb_keys::{Keystroke, LIMIT};
 use kb_rules::{Rule, RuleSet};
-use std::alloc::Global;
 use std::marker::Model;
 use std::rc::Rc;
 
 /// The rules in force, as they are searched. Contracts see their list, from the top down.
 #[derive(Drop)]
 pub struct Resolver {
-    rules: Seq<Rc<Rule>>,
+    set: RuleSet,
 }
 
 impl Model for Resolver {
-    ghost use Rattle.std.specs.Prelude.{List, map};
+    ghost use Rattle.std.specs.Prelude.{List};
     ghost use Rattle.std.specs.Coded.{codes};
     ghost use Rattle.kb_rules.specs.declared.rule.Rule.{Rule};
     ghost use Rattle.kb_rules.specs.contracts.rule.Rule as rule;
@@ -28,57 +27,59 @@ impl Model for Resolver {
 
     ghost coded = { Prim.hlevel (codes, rule.the_row.coded) };
 
-    ghost view = { λ s. map (λ r. r.value) s.rules };
+    ghost view = { λ s. s.set };
 }
 
 impl Resolver {
-    /// The search among these rules, which are shared. `NoMemory` where memory was refused.
-    pub fn build(alloc: Global, set: &RuleSet) -> Result<Resolver, NoMemory>
-        ensures { IfOk result (λ resolver. resolver ≡ set.now) }
+    /// The search among the rules of a set. It takes no memory.
+    pub fn new(set: RuleSet) -> Resolver
+        ensures { result ≡ set }
     {
-        let mut rules = Seq::new(alloc);
-        for rule in set.rules() {
-            rules.push(Rc::clone(rule)?)?;
-        }
-        Ok(Resolver { rules })
+        Resolver { set }
     }
 
     /// Searches the rules from the bottom to the top for the first whose keystrokes begin with the
     /// pressed ones and whose clause, if it has one, holds over what the focus of the scopes sees (VS
     /// Code's documentation: the rules are evaluated from the bottom to the top, and the first that
-    /// matches in key and clause counts). A rule with the empty command is found as any other.
-    /// `NoMemory` where the rule could not be shared, or a clause's value could not be found for lack
-    /// of memory.
+    /// matches in key and clause counts). A rule with the empty command is found as any other. The
+    /// rule is lent. Want of memory is a clause's (`Clause::holds`): nothing else takes memory.
     #[tactic(auto, using(crate::proofs::ResolverLemmas::resolved_is_greatest))]
-    pub fn resolve(&self, pressed: &[Keystroke], scopes: &Scopes) -> Result<Resolved, NoMemory>
+    pub fn resolve<'r>(
+        &'r self,
+        pressed: &[Keystroke],
+        scopes: &Scopes,
+    ) -> Result<Resolved<'r>, NoMemory>
         ensures value { IfOk result (λ found.
             resolution_of found ≡ resolved pressed.now (context scopes.now) self.now) }
+        ensures always { IsOk result }
 
         // What `value` cites, in terms of positions.
         ensures greatest { IsGreatest pressed.now (context scopes.now) self.now
             (resolved pressed.now (context scopes.now) self.now) }
 
         // A longer rule has at most `LIMIT` keystrokes, so there is room for one more.
-        ensures fits { IfOk result (λ found. resolution_of found ≡ more → length pressed.now < LIMIT) }
+        ensures fits { IfOk result (λ found.
+            resolution_of found ≡ more → length pressed.now < LIMIT) }
     {
-        let Some(rule) = lowest(self.rules.as_slice(), pressed, scopes)? else {
+        let Some(rule) = lowest(self.set.rules(), pressed, scopes)? else {
             return Ok(Resolved::Nothing);
         };
         if rule.chord.len() > pressed.len() {
             return Ok(Resolved::More);
         }
-        Ok(Resolved::Found(Rc::clone(rule)?))
+        Ok(Resolved::Found(rule))
     }
 }
 
-/// The lowest rule that matches.
+/// The lowest rule that matches, lent.
 fn lowest<'r>(
     rules: &'r [Rc<Rule>],
     pressed: &[Keystroke],
     scopes: &Scopes,
-) -> Result<Option<&'r Rc<Rule>>, NoMemory>
-    ensures { IfOk result (λ found. option_map (λ r. r.now.value) found
+) -> Result<Option<&'r Rule>, NoMemory>
+    ensures value { IfOk result (λ found. option_map (λ rule. rule.now) found
         ≡ chosen pressed.now (context scopes.now) (map (λ r. r.value) rules.now)) }
+    ensures always { IsOk result }
 {
     for rule in rules.iter().rev() {
         if matches(rule, pressed, scopes)? {
@@ -91,7 +92,9 @@ fn lowest<'r>(
 /// Whether the rule's keystrokes begin with the pressed ones, and its clause holds. The keystrokes
 /// are looked at first, since a clause may ask many keys.
 fn matches(rule: &Rule, pressed: &[Keystroke], scopes: &Scopes) -> Result<bool, NoMemory>
-    ensures { IfOk result (λ answer. answer ≡ matches (context scopes.now) pressed.now rule.now) }
+    ensures value { IfOk result (λ answer.
+        answer ≡ matches (context scopes.now) pressed.now rule.now) }
+    ensures always { IsOk result }
 {
     if !rule.chord.begins_with(pressed) {
         return Ok(false);

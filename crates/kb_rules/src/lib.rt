@@ -6,7 +6,6 @@
 #![tactic(auto)]
 
 mod entry;
-pub mod entry_fault;
 pub mod json;
 pub mod rule;
 pub mod rule_list;
@@ -14,7 +13,6 @@ pub mod rule_set;
 pub mod warning;
 mod whole;
 
-pub use entry_fault::EntryFault;
 pub use json::Json;
 pub use rule::Rule;
 pub use rule_list::{RuleList, read_list};

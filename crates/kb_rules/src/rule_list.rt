@@ -1,13 +1,12 @@
 //! The rules of one file.
-ghost use Rattle.std.specs.Prelude.{◌≡◌, ◌+◌, [], ◌∷◌, ◌++◌, length, IfOk, OnOk, map};
+ghost use Rattle.std.specs.Prelude.{◌≡◌, ◌+◌, [], length, IfOk, OnOk, map};
 ghost use Rattle.serde_json.specs.View.{view};
-ghost use Rattle.kb_rules.specs.RuleList.{rules_of, warnings_of};
+ghost use Rattle.kb_rules.specs.RuleList.{with_rule, with_warning, judged, rules_of, warnings_of};
 
 use crate::entry::read_entry;
-use crate::entry_fault::EntryError;
 use crate::rule::Rule;
 use crate::warning::Warning;
-use kb_context::{NoMemory, Seq};
+use kb_context::{Failure, NoMemory, Seq};
 use serde_json::Value;
 use std::alloc::{AllocError, Global};
 use std::marker::Model;
@@ -62,7 +61,7 @@ impl RuleList {
 
     /// Adds a rule at the bottom.
     fn keep(&mut self, alloc: Global, rule: Rule) -> Result<(), NoMemory>
-        ensures { OnOk result (self.new ≡ record self.old { rules = self.old.rules ++ rule ∷ [] }) }
+        ensures { OnOk result (self.new ≡ with_rule rule self.old) }
     {
         self.rules.push(Rc::new(alloc, rule)?)?;
         Ok(())
@@ -70,10 +69,29 @@ impl RuleList {
 
     /// Adds a warning at the end.
     fn warn(&mut self, warning: Warning) -> Result<(), NoMemory>
-        ensures { OnOk result (self.new ≡ record self.old { warnings = self.old.warnings ++ warning ∷ [] }) }
+        ensures { OnOk result (self.new ≡ with_warning warning self.old) }
     {
         self.warnings.push(warning)?;
         Ok(())
+    }
+}
+
+/// What becomes of an element.
+enum Element {
+    /// It is a rule.
+    Kept(Rule),
+    /// It is dropped, and this is said of it.
+    Dropped(Warning),
+}
+
+/// What becomes of the element at a place, by how its reading ended. It takes no memory.
+fn judged(read: Result<Rule, Failure<u32>>, place: usize) -> Result<Element, NoMemory>
+    ensures { result ≡ judged place read }
+{
+    match read {
+        Ok(rule) => Ok(Element::Kept(rule)),
+        Err(Failure::Fault(number)) => Ok(Element::Dropped(Warning { number, place })),
+        Err(Failure::NoMemory) => Err(AllocError),
     }
 }
 
@@ -85,25 +103,22 @@ impl RuleList {
 /// depth, isn't whole within i64 (41). Other members are ignored, and `command` may be empty.
 ///
 /// A rule whose `when` is absent or blank has no clause (our decision for a blank one). The values
-/// are taken, and each is dropped as soon as it is read: of a kept one the arguments are moved, and
-/// the command is copied. `NoMemory` where memory was refused; it is never a warning.
+/// are taken, and each is dropped as soon as it is read: of a kept one the command and the arguments
+/// are moved. `NoMemory` where memory was refused; it is never a warning.
 pub fn read_list(alloc: Global, values: Vec<Value>) -> Result<RuleList, NoMemory>
     ensures rules { IfOk result (λ list. list.rules ≡ rules_of 0 (map view values.items)) }
     ensures warnings { IfOk result (λ list. list.warnings ≡ warnings_of 0 (map view values.items)) }
 
     // What the others cite: no element is passed over, and none counts twice.
-    ensures each_once { IfOk result (λ list. length list.rules + length list.warnings ≡ length values.items) }
+    ensures each_once { IfOk result (λ list.
+        length list.rules + length list.warnings ≡ length values.items) }
 {
     let mut list = RuleList::new(alloc);
     let mut place = 0;
     for value in values {
-        match read_entry(alloc, value, place) {
-            Ok(rule) => list.keep(alloc, rule)?,
-            Err(EntryError::Fault(fault)) => list.warn(Warning {
-                number: fault.number(),
-                place,
-            })?,
-            Err(EntryError::NoMemory) => return Err(AllocError),
+        match judged(read_entry(alloc, value, place), place)? {
+            Element::Kept(rule) => list.keep(alloc, rule)?,
+            Element::Dropped(warning) => list.warn(warning)?,
         }
         place += 1;
     }

@@ -1,5 +1,5 @@
 -- The tokens so far, and those of what is left.
-use Rattle.std.proofs.Common.{◌≡◌, ℕ, zero, suc, ◌<◌, ◌≤◌, List, [], ◌∷◌, ◌++◌, Option, Some, None, option_map, length, cond, Bool, true, false, refl, sym, ◌∙◌, ap, subst, arith, append_assoc, nat_eq, codes, lit<, ◌&&◌}
+use Rattle.std.proofs.Common.{◌≡◌, ℕ, zero, suc, ◌<◌, ◌≤◌, List, [], ◌∷◌, ◌++◌, Option, Some, None, option_map, length, cond, Bool, true, false, refl, sym, ◌∙◌, ap, arith, append_assoc, nat_eq, codes, lit<, ◌&&◌}
 use Rattle.std.specs.Prelude.{chars, Result, Ok, Err}
 use Rattle.kb_when.specs.declared.token.Token.{Token}
 use Rattle.kb_when.specs.Characters.{behind, front, ends_word, is_quote, is_no_letter, begins_blank, skipped, is_no_blank, behind_sign}

@@ -8,7 +8,8 @@ ghost use Rattle.kb_when.specs.Grammar.{any_joined, all_joined};
 ghost use Rattle.kb_when.specs.Reading.{at_operand, clause_of_tokens};
 ghost use Rattle.kb_when.specs.Parser.{Begins, FailsToBegin, FailsAt, behind_close, all_read};
 ghost use Rattle.kb_when.specs.Parser.{ReadsOperand, ReadsConjunction, ReadsDisjunction};
-ghost use Rattle.kb_when.specs.Parser.{FailsOperand, FailsConjunction, FailsDisjunction, clause_of_condition};
+ghost use Rattle.kb_when.specs.Parser.{FailsOperand, FailsConjunction, FailsDisjunction};
+ghost use Rattle.kb_when.specs.Parser.{clause_of_condition};
 ghost use Rattle.kb_when.specs.declared.token.Token.TheVariants.{Not, Open, Word};
 
 use crate::atom::{Atom, Condition, key_tail, next, plain};

@@ -33,7 +33,8 @@ pub(crate) enum Tree {
 /// The trees by their cases. The clause of a tree is a fold, which doesn't compute in a proof:
 /// these functions say what each case stands for.
 impl Tree {
-    ghost use Rattle.kb_when.specs.Clause.{always, never, key, equals, compare, member, not_of, all_of, any_of};
+    ghost use Rattle.kb_when.specs.Clause.{always, never, key, equals, compare, member};
+    ghost use Rattle.kb_when.specs.Clause.{not_of, all_of, any_of};
     ghost use Rattle.kb_when.specs.Tree.{clause_of, clauses_of};
 
     pub(crate) fn always() -> Tree

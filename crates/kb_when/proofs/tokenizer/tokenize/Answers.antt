@@ -15,7 +15,7 @@ loop-rest-preserved c =
     rw (c.in_ok-push.ensures.items, c.skip_blanks-rest-in-loop-rest.ensures.value, c.begins_blank-spaced-in-loop-rest.ensures, c.is_like-behind_like.ensures, c.in_ok-token.ensures)
     (lex_goes_on _ _ _ _ _ (omega arith) _ _ c.loop-rest.invariant (a_piece _ _ c.in_ok-piece.ensures.value) lt)
 
-pub returns-in_err-piece-clause-err : goal.returns-in_err-piece-clause-err
-returns-in_err-piece-clause-err c =
+pub returns-in_err-piece : goal.returns-in_err-piece
+returns-in_err-piece c =
     let p = err_from_is_err_and c.from_residual-in_err-piece.result c.from_residual-in_err-piece.ensures.1 in
     rw (p.1, p.2) (no_piece _ _ c.in_err-piece.field-0.0 c.in_err-piece.ensures.value (lex_fails _ _ _ _ _ (grind (arith, nat_tests, c.is_empty.ensures, c.loop-rest-test.true)) c.loop-rest.invariant))

@@ -1,4 +1,4 @@
-use Rattle.std.proofs.Common.{◌∙◌, sym, ap, Some}
+use Rattle.std.proofs.Common.{◌∙◌, sym, ap, Ok}
 use Rattle.kb_when.proofs.ClauseLemmas.{by_grammar, only, stands, reads}
 use Rattle.kb_when.proofs.TokenizerLemmas.{count_suffices}
 use Rattle.kb_when.proofs.clause.Clause.parse.Goals as goal
@@ -22,7 +22,7 @@ pub returns-clause-grammar : goal.returns-clause-grammar
 returns-clause-grammar c = by_grammar c.args.text.now
 
 pub returns-clause-stands : goal.returns-clause-stands
-returns-clause-stands c = stands _ _ (reads _ _ _ (c.in_ok-tokens.ensures.ok ∙ ap Some (sym c.deref.ensures.value)) c.in_ok-tree.ensures.tree)
+returns-clause-stands c = stands _ _ (reads _ _ _ (c.in_ok-tokens.ensures ∙ ap Ok (sym c.deref.ensures.value)) c.in_ok-tree.ensures)
 
 pub returns-clause-only : goal.returns-clause-only
-returns-clause-only c = λ u s. only _ _ u (reads _ _ _ (c.in_ok-tokens.ensures.ok ∙ ap Some (sym c.deref.ensures.value)) c.in_ok-tree.ensures.tree) s
+returns-clause-only c = λ u s. only _ _ u (reads _ _ _ (c.in_ok-tokens.ensures ∙ ap Ok (sym c.deref.ensures.value)) c.in_ok-tree.ensures) s
