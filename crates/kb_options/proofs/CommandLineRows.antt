@@ -2,7 +2,8 @@
 use Rattle.std.proofs.Common.{◌≡◌, refl, true, false, List, [], ◌∷◌}
 use Rattle.std.specs.Prelude.{Some, None, codes}
 use Rattle.clap.specs.Words.{Text, fault_of, first_of, matches_of, takes}
-use Rattle.clap.specs.declared.error.kind.ErrorKind.TheVariants.{ArgumentConflict, DisplayHelp, InvalidValue, UnknownArgument}
+use Rattle.clap.specs.declared.error.kind.ErrorKind.TheVariants.{ArgumentConflict, DisplayHelp}
+use Rattle.clap.specs.declared.error.kind.ErrorKind.TheVariants.{InvalidValue, UnknownArgument}
 use Rattle.clap.proofs.OnLiterals.{clap_on_literals}
 use Rattle.kb_options.specs.CommandLine.{keyrun_app}
 
@@ -33,20 +34,24 @@ none_give_no_user : first_of (codes "user") (matches_of keyrun_app (codes "keyru
 unfolding clap_on_literals
 none_give_no_user = refl
 
-twice_is_refused : fault_of keyrun_app (codes "keyrun" ∷ codes "--user" ∷ codes "a" ∷ codes "--user" ∷ codes "b" ∷ [])
-    ≡ ArgumentConflict ∷ []
+abbrev twice : List Text
+twice = codes "keyrun" ∷ codes "--user" ∷ codes "a" ∷ codes "--user" ∷ codes "b" ∷ []
+
+twice_is_refused : fault_of keyrun_app twice ≡ ArgumentConflict ∷ []
 unfolding clap_on_literals
 twice_is_refused = refl
 
-twice_is_not_taken : takes keyrun_app (codes "keyrun" ∷ codes "--user" ∷ codes "a" ∷ codes "--user" ∷ codes "b" ∷ []) ≡ false
+twice_is_not_taken : takes keyrun_app twice ≡ false
 unfolding clap_on_literals
 twice_is_not_taken = refl
 
-hyphens_end_the_options : takes keyrun_app (codes "keyrun" ∷ codes "--user" ∷ codes "a" ∷ codes "--" ∷ []) ≡ true
+hyphens_end_the_options :
+    takes keyrun_app (codes "keyrun" ∷ codes "--user" ∷ codes "a" ∷ codes "--" ∷ []) ≡ true
 unfolding clap_on_literals
 hyphens_end_the_options = refl
 
-no_option_behind_hyphens : fault_of keyrun_app (codes "keyrun" ∷ codes "--" ∷ codes "--user" ∷ []) ≡ UnknownArgument ∷ []
+no_option_behind_hyphens :
+    fault_of keyrun_app (codes "keyrun" ∷ codes "--" ∷ codes "--user" ∷ []) ≡ UnknownArgument ∷ []
 unfolding clap_on_literals
 no_option_behind_hyphens = refl
 
@@ -54,11 +59,13 @@ no_positional : fault_of keyrun_app (codes "keyrun" ∷ codes "d" ∷ []) ≡ Un
 unfolding clap_on_literals
 no_positional = refl
 
-no_platform : fault_of keyrun_app (codes "keyrun" ∷ codes "--platform" ∷ codes "mac" ∷ []) ≡ UnknownArgument ∷ []
+no_platform :
+    fault_of keyrun_app (codes "keyrun" ∷ codes "--platform" ∷ codes "mac" ∷ []) ≡ UnknownArgument ∷ []
 unfolding clap_on_literals
 no_platform = refl
 
-no_defaults : fault_of keyrun_app (codes "keyrun" ∷ codes "--defaults" ∷ codes "d" ∷ []) ≡ UnknownArgument ∷ []
+no_defaults :
+    fault_of keyrun_app (codes "keyrun" ∷ codes "--defaults" ∷ codes "d" ∷ []) ≡ UnknownArgument ∷ []
 unfolding clap_on_literals
 no_defaults = refl
 

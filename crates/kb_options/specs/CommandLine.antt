@@ -1,7 +1,9 @@
 -- The command line of `keyrun`: the command as clap's definitions see it, and what its words mean.
-use Rattle.std.specs.Prelude.{◌≡◌, ℕ, true, ⊤, List, [], Some, Result, MatchResult, codes}
+use Rattle.std.specs.Prelude.{◌≡◌, ℕ, true, List, [], Some, Result, Ok, Err, MatchResult, codes, option_map}
+use Rattle.std.specs.declared.io.ErrorKind as io
+use Rattle.std.specs.declared.io.ErrorKind.TheVariants as io_kind
 use Rattle.clap.specs.Words.{App, Rule, Row, Text, new_app, new_rule, with_rule, first_of, matches_of}
-use Rattle.clap.specs.Words.{IsAmong, fault_of, found_of, rows_of, kind_of, takes}
+use Rattle.clap.specs.Words.{HasKind, fault_of, found_of, rows_of, kind_of, takes}
 use Rattle.clap.specs.declared.error.Error.{Error}
 use Rattle.clap.specs.declared.error.kind.ErrorKind.{ErrorKind}
 use Rattle.clap.specs.declared.error.kind.ErrorKind.TheVariants.{OutOfMemory, DisplayHelp, DisplayVersion}
@@ -9,6 +11,8 @@ use Rattle.clap.specs.declared.parser.matches.ArgMatches.{ArgMatches}
 use Rattle.kb_options.specs.declared.given.Options.{Options}
 use Rattle.kb_options.specs.declared.given.OptionsFault.{OptionsFault}
 use Rattle.kb_options.specs.declared.given.OptionsFault.TheVariants.{Line, NoMemory}
+use Rattle.kb_options.specs.declared.given.WordsFault.{WordsFault}
+use Rattle.kb_options.specs.declared.given.WordsFault.TheVariants as words_fault
 
 -- ---- the command
 
@@ -25,35 +29,43 @@ keyrun_app = with_rule (with_rule (with_rule (new_app (codes "keyrun"))
 
 -- the options are what the matches of a command line say
 pub record Gives (rows : List Row) (given : Options) : Type 0 where
-  pub layout : given.layout ≡ first_of (codes "layout") rows
-  pub user : given.user ≡ first_of (codes "user") rows
-  pub script : given.script ≡ first_of (codes "script") rows
+  pub layout : option_map (λ s. s.now) given.layout ≡ first_of (codes "layout") rows
+  pub user : option_map (λ s. s.now) given.user ≡ first_of (codes "user") rows
+  pub script : option_map (λ s. s.now) given.script ≡ first_of (codes "script") rows
 
--- the words are refused: for one of the reasons that clap's meaning gives, or for want of memory
-abbrev pub Refuses : List Text → OptionsFault → Type 0
-Refuses words (Line e) = IsAmong (kind_of e) (fault_of keyrun_app words)
-    × (takes keyrun_app words ≡ true → ⊥) × (kind_of e ≡ OutOfMemory → ⊥)
-Refuses words NoMemory = ⊤
-
--- the fault that an error of clap becomes
-abbrev pub Explains : Error → OptionsFault → Type 0
-Explains e (Line x) = (x ≡ e) × (kind_of e ≡ OutOfMemory → ⊥)
-Explains e NoMemory = kind_of e ≡ OutOfMemory
-
--- the matches are those of clap's meaning, or the words are refused
-abbrev pub Matched : List Text → Result ArgMatches OptionsFault → Type 0
+-- what clap may answer to the words: the matches of its meaning, or an error of a kind that its meaning
+-- gives them; it may also find no memory, and words that its meaning takes have no other error
+abbrev pub Matched : List Text → Result ArgMatches Error → Type 0
 Matched words r = MatchResult r
     (λ m. (fault_of keyrun_app words ≡ []) × (rows_of (found_of m) ≡ matches_of keyrun_app words))
-    (Refuses words)
+    (λ e. HasKind (fault_of keyrun_app words) e × (takes keyrun_app words ≡ true → kind_of e ≡ OutOfMemory))
+
+-- the fault that an error of clap is: want of memory where clap says so, and else the error
+abbrev pub fault_of_kind : ErrorKind → Error → OptionsFault
+fault_of_kind OutOfMemory e = NoMemory
+fault_of_kind _ e = Line e
+
+abbrev pub fault_by : Error → OptionsFault
+fault_by e = fault_of_kind (kind_of e) e
+
+-- the answer to what clap answered
+abbrev pub Answers : Result ArgMatches Error → Result Options OptionsFault → Type 0
+Answers (Ok m) r = MatchResult r (Gives (rows_of (found_of m))) (λ fault. ⊥)
+Answers (Err e) r = MatchResult r (λ given. ⊥) (λ fault. fault ≡ fault_by e)
 
 -- the words are read as clap's meaning of the command says
-abbrev pub Reads : List Text → Result Options OptionsFault → Type 0
-Reads words r = MatchResult r
-    (λ given. (fault_of keyrun_app words ≡ []) × Gives (matches_of keyrun_app words) given)
-    (Refuses words)
+pub record Reads (words : List Text) (r : Result Options OptionsFault) : Type 0 where
+  pub read : Result ArgMatches Error
+  pub by_clap : Matched words read
+  pub answers : Answers read r
 
 -- the exit status of a command line that gives no options
 abbrev pub line_status_of : ErrorKind → ℕ
 line_status_of DisplayHelp = 0
 line_status_of DisplayVersion = 0
 line_status_of _ = 2
+
+-- why the words of the command line were not had, by what the system says
+abbrev pub words_fault_of : io.ErrorKind → WordsFault
+words_fault_of io_kind.InvalidData = words_fault.NotText
+words_fault_of _ = words_fault.NoMemory

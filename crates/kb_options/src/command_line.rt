@@ -1,16 +1,14 @@
 //! The command line of `keyrun`, as `clap` reads it.
 ghost use Rattle.std.specs.Prelude.{◌≡◌, false, IfOk, codes, map, option_map};
-ghost use Rattle.std.specs.IoError.{error_kind};
-ghost use Rattle.std.specs.declared.io.ErrorKind.TheVariants as io_kind;
-ghost use Rattle.clap.specs.Words.{app_of, rule_of, with_rule, new_app, found_of, rows_of, first_of, kind_of};
-ghost use Rattle.kb_options.specs.CommandLine.{Matched, Gives, file_rule, keyrun_app, Reads};
+ghost use Rattle.clap.specs.Words.{app_of, rule_of, with_rule, new_app};
+ghost use Rattle.clap.specs.Words.{found_of, rows_of, first_of, kind_of};
+ghost use Rattle.kb_options.specs.CommandLine.{Matched, Gives, Answers, file_rule, keyrun_app, Reads};
 
 use crate::given::{Options, OptionsFault};
 use clap::error::ErrorKind;
-use clap::{Arg, ArgMatches, Command};
-use kb_context::{NoMemory, Text};
-use std::alloc::{AllocError, Global};
-use std::io;
+use clap::{Arg, ArgMatches, Command, Error};
+use kb_context::NoMemory;
+use std::alloc::Global;
 
 // `--NAME F`, where `help` says what F is.
 fn file_option<'a>(alloc: Global, name: &'a str, help: &'a str) -> Arg<'a>
@@ -62,11 +60,12 @@ fn keyrun<'a>(alloc: Global) -> Result<Command<'a>, NoMemory>
     )
 }
 
-// What the words are to the command `keyrun`.
-fn matched<'a>(alloc: Global, words: &'a [&'a str]) -> Result<ArgMatches<'a>, OptionsFault>
+// What the words are to the command `keyrun`. This call alone takes memory, which `clap` tells as an error
+// of the kind `OutOfMemory`.
+fn matched<'a>(alloc: Global, words: &'a [&'a str]) -> Result<ArgMatches<'a>, Error>
     ensures { Matched (map (λ w. w.now) words.now) result }
 {
-    Ok(keyrun(alloc)?.try_get_matches_from(words)?)
+    keyrun(alloc)?.try_get_matches_from(words)
 }
 
 // The text of an option, where it was given.
@@ -76,53 +75,49 @@ fn text_given<'a>(matches: &ArgMatches<'a>, name: &str) -> Option<&'a str>
     matches.get_str(name)
 }
 
-fn copied(alloc: Global, text: Option<&str>) -> Result<Option<Text>, NoMemory>
-    ensures { IfOk result (λ made. made ≡ option_map (λ s. s.now) text.entry) }
+// The options that matches give.
+fn chosen<'a>(matches: &ArgMatches<'a>) -> Options<'a>
+    ensures { Gives (rows_of (found_of matches.now)) result }
 {
-    match text {
-        Some(text) => Ok(Some(Text::from_str(alloc, text)?)),
-        None => Ok(None),
+    Options {
+        layout: text_given(matches, "layout"),
+        user: text_given(matches, "user"),
+        script: text_given(matches, "script"),
     }
 }
 
-// The options that matches give.
-fn chosen(alloc: Global, matches: &ArgMatches<'_>) -> Result<Options, NoMemory>
-    ensures { IfOk result (Gives (rows_of (found_of matches.now))) }
+// The options that `clap`'s answer gives, or why it gives none. It takes no memory.
+fn given(read: Result<ArgMatches<'_>, Error>) -> Result<Options<'_>, OptionsFault>
+    ensures { Answers read.entry result }
 {
-    Ok(Options {
-        layout: copied(alloc, text_given(matches, "layout"))?,
-        user: copied(alloc, text_given(matches, "user"))?,
-        script: copied(alloc, text_given(matches, "script"))?,
-    })
+    match read {
+        Ok(matches) => Ok(chosen(&matches)),
+        Err(error) => Err(OptionsFault::from(error)),
+    }
 }
 
 /// The options that the words of a command line give, of which the first is the program's name.
 ///
-/// They are `--layout F`, `--user F` and `--script F`, each at most once and in any order; `--` ends them. What
-/// the words mean is what `clap` has written down of its meaning, for this command.
+/// They are `--layout F`, `--user F` and `--script F`, each at most once and in any order; `--` ends them.
+/// What the words mean is what `clap` has written down of its meaning, for this command.
 ///
 /// Errors: `Line` where that meaning refuses the words or they ask for help, with one of the kinds of
-/// error that it gives them, and `NoMemory`.
-pub fn options(alloc: Global, words: &[&str]) -> Result<Options, OptionsFault>
+/// error that it gives them, and `NoMemory` where `clap` answers that it found none.
+pub fn options<'a>(alloc: Global, words: &'a [&'a str]) -> Result<Options<'a>, OptionsFault>
     ensures { Reads (map (λ w. w.now) words.now) result }
 {
-    let matches = matched(alloc, words)?;
-    Ok(chosen(alloc, &matches)?)
+    given(matched(alloc, words))
 }
 
-/// The error of a command line with a word that is no UTF-8 text, from the error of asking for its
-/// words. [`options`] takes texts, so it never sees such a word; that it is refused is our decision.
+/// The error of a command line with a word that is no UTF-8 text. [`options`] takes texts, so it never
+/// sees such a word; that it is refused is our decision.
 ///
-/// Errors: `NoMemory`, also where the words were not had for want of memory.
-pub fn not_text(alloc: Global, error: &io::Error) -> Result<clap::Error, NoMemory>
-    ensures { IfOk result (λ made. (error_kind error.now ≡ io_kind.InvalidData)
-        × (kind_of made ≡ ErrorKind.InvalidValue)) }
+/// Errors: `NoMemory`.
+pub fn not_text(alloc: Global) -> Result<Error, NoMemory>
+    ensures { IfOk result (λ made. kind_of made ≡ ErrorKind.InvalidValue) }
 {
-    match error.kind() {
-        io::ErrorKind::InvalidData => keyrun(alloc)?.error(
-            ErrorKind::InvalidValue,
-            "a word of the command line is no UTF-8 text",
-        ),
-        _ => Err(AllocError),
-    }
+    keyrun(alloc)?.error(
+        ErrorKind::InvalidValue,
+        "a word of the command line is no UTF-8 text",
+    )
 }

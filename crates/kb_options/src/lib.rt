@@ -5,4 +5,4 @@ pub mod command_line;
 pub mod given;
 
 pub use command_line::{not_text, options};
-pub use given::{Options, OptionsFault, line_status};
+pub use given::{Options, OptionsFault, WordsFault, line_status, words_fault};
