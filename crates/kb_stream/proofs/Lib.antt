@@ -1,2 +1,4 @@
-pub mod ReadingLemmas
+pub mod FoldLemmas
+pub mod FoldWritingLemmas
+pub mod LinesLemmas
 pub mod WritingLemmas

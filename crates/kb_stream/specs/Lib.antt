@@ -1,2 +1,5 @@
+pub mod Fold
+pub mod FoldWriting
+pub mod Lines
 pub mod Reading
 pub mod Writing
