@@ -1,12 +1,14 @@
 -- Lines as one text: a line more, fewer lines, a line and the rest of the lines.
 use Rattle.std.proofs.Common.{◌≡◌, ℕ, ◌+◌, ◌-◌, ◌<◌, ◌≤◌, zero, suc, List, [], ◌∷◌, ◌++◌, refl, sym, ap, ◌∙◌}
 use Rattle.std.proofs.Common.{append_assoc, append-nil, length, take, drop, get_or, subst, arith}
-use Rattle.std.specs.Prelude.{Option, Some, slice_get}
+use Rattle.std.specs.Prelude.{Some, slice_get}
 use Rattle.std.specs.Str.{IsUtf8}
 use Rattle.std.specs.List.{All}
 use Rattle.std.proofs.lemmas.Grind.{flat_map-append}
-use Rattle.std.proofs.lemmas.List.{take-append-drop, length-append, length-take, length-drop, take_all}
-use Rattle.std.proofs.lemmas.List.Elements.{All-append, All-take}
+use Rattle.std.proofs.Common.{add-one, zero-add}
+use Rattle.std.proofs.lemmas.List.{get_or_default, take-append-drop, length-append, take_more, drop_more}
+use Rattle.std.proofs.lemmas.List.Elements.{All-append, All-take, All-cons, All-nil}
+use Rattle.std.proofs.lemmas.Option.{slice_get-get_or}
 use Rattle.std.proofs.Math.Seq.{take-append_seam, drop-append_seam}
 use Rattle.kb_stream.specs.Lines.{cut_at, ends_of, AreLines}
 use Rattle.kb_stream.specs.Writing.{text_of_lines}
@@ -23,7 +25,7 @@ text_front n ls =
     ap (take (length (text_of_lines (take n ls)))) (text_cut n ls)
     ∙ take-append_seam (text_of_lines (take n ls)) (text_of_lines (drop n ls))
 
-text_behind : (n : ℕ) (ls : List (List ℕ)) → drop (length (text_of_lines (take n ls))) (text_of_lines ls) ≡ text_of_lines (drop n ls)
+pub text_behind : (n : ℕ) (ls : List (List ℕ)) → drop (length (text_of_lines (take n ls))) (text_of_lines ls) ≡ text_of_lines (drop n ls)
 text_behind n ls =
     ap (drop (length (text_of_lines (take n ls)))) (text_cut n ls)
     ∙ drop-append_seam (text_of_lines (take n ls)) (text_of_lines (drop n ls))
@@ -77,27 +79,116 @@ pub seen : (text ends : List ℕ) → (are : AreLines text ends) → cut_at 0 en
 seen text ends are =
     ap (λ (es : List ℕ). cut_at 0 es text) are.ends_are ∙ ap (cut_at 0 (ends_of 0 are.lines)) are.text_is ∙ cut_made 0 are.lines
 
-pub count : (text ends : List ℕ) → AreLines text ends → length ends ≡ length (cut_at 0 ends text)
-count text ends are =
-    ap length are.ends_are ∙ ends_of-length 0 are.lines ∙ sym (ap length (seen text ends are))
+-- what a text and places hold whose lines are these
+pub record Hold (text ends : List ℕ) (lines : List (List ℕ)) : Type 0 where
+  pub text_is : text ≡ text_of_lines lines
+  pub ends_are : ends ≡ ends_of 0 lines
+  pub texts : All IsUtf8 lines
+  pub count : length ends ≡ length lines
+
+pub hold : (text ends : List ℕ) (lines : List (List ℕ)) → AreLines text ends → cut_at 0 ends text ≡ lines → Hold text ends lines
+hold text ends lines are is =
+    let same : are.lines ≡ lines = sym (seen text ends are) ∙ is in
+    let ends_are : ends ≡ ends_of 0 lines = are.ends_are ∙ ap (ends_of 0) same in
+    record {
+      text_is = are.text_is ∙ ap text_of_lines same;
+      ends_are = ends_are;
+      texts = subst (All IsUtf8) same are.texts;
+      count = ap length ends_are ∙ ends_of-length 0 lines;
+    }
 
 -- no lines
 pub none_are : AreLines [] []
-none_are = record { lines = []; text_is = refl; ends_are = refl; texts = search rules }
+none_are = record { lines = []; text_is = refl; ends_are = refl; texts = All-nil IsUtf8 }
+
+from_zero : (text : List ℕ) → length text ≡ 0 + length text
+from_zero text = omega arith
 
 -- one more
-pub more_are : (text ends line : List ℕ) → AreLines text ends → IsUtf8 line
-    → AreLines ((text ++ line) ++ 10 ∷ []) (ends ++ length ((text ++ line) ++ 10 ∷ []) ∷ [])
-more_are text ends line are utf8 =
+pub more_are : (text ends line new_text new_ends : List ℕ) → AreLines text ends → IsUtf8 line
+    → new_text ≡ (text ++ line) ++ 10 ∷ [] → new_ends ≡ ends ++ length new_text ∷ [] → AreLines new_text new_ends
+more_are text ends line new_text new_ends are utf8 made places =
     let all = are.lines ++ line ∷ [] in
-    let is : (text ++ line) ++ 10 ∷ [] ≡ text_of_lines all =
-    append_assoc text line (10 ∷ []) ∙ ap (λ (t : List ℕ). t ++ (line ++ 10 ∷ [])) are.text_is
+    let is : new_text ≡ text_of_lines all =
+    made ∙ append_assoc text line (10 ∷ []) ∙ ap (λ (t : List ℕ). t ++ (line ++ 10 ∷ [])) are.text_is
     ∙ ap (λ (t : List ℕ). text_of_lines are.lines ++ t) (sym (append-nil (line ++ 10 ∷ [])))
     ∙ sym (text_of_lines-append are.lines (line ∷ [])) in
     record {
       lines = all;
       text_is = is;
-      ends_are = ap (λ (es : List ℕ). es ++ length ((text ++ line) ++ 10 ∷ []) ∷ []) are.ends_are
-          ∙ ap (λ (t : List ℕ). ends_of 0 are.lines ++ length t ∷ []) is ∙ sym (ends_of-push 0 are.lines line);
-      texts = All-append IsUtf8 are.lines (line ∷ []) are.texts (λ _ _. search rules);
+      ends_are = places ∙ ap (λ (es : List ℕ). es ++ length new_text ∷ []) are.ends_are
+          ∙ ap (λ (t : List ℕ). ends_of 0 are.lines ++ length t ∷ []) is
+          ∙ ap (λ (n : ℕ). ends_of 0 are.lines ++ n ∷ []) (from_zero (text_of_lines all)) ∙ sym (ends_of-push 0 are.lines line);
+      texts = All-append IsUtf8 are.lines (line ∷ []) are.texts (All-cons IsUtf8 line [] utf8 (All-nil IsUtf8));
     }
+
+pub more_seen : (text ends line new_text new_ends : List ℕ) (lines : List (List ℕ)) → AreLines text ends → IsUtf8 line
+    → new_text ≡ (text ++ line) ++ 10 ∷ [] → new_ends ≡ ends ++ length new_text ∷ [] → cut_at 0 ends text ≡ lines
+    → cut_at 0 new_ends new_text ≡ lines ++ line ∷ []
+unfolding more_are
+more_seen text ends line new_text new_ends lines are utf8 made places is =
+    seen _ _ (more_are text ends line new_text new_ends are utf8 made places)
+    ∙ ap (λ (ls : List (List ℕ)). ls ++ line ∷ []) (sym (seen text ends are) ∙ is)
+
+-- fewer
+pub fewer_are : (text ends : List ℕ) (lines : List (List ℕ)) (n end : ℕ) → Hold text ends lines → end ≡ length (text_of_lines (take n lines))
+    → AreLines (take end text) (take n ends)
+fewer_are text ends lines n end h e = record {
+  lines = take n lines;
+  text_is = rw (e, h.text_is) (text_front n lines);
+  ends_are = ap (take n) h.ends_are ∙ ends_of-take 0 n lines;
+  texts = All-take IsUtf8 n lines h.texts;
+}
+
+pub fewer_seen : (text ends : List ℕ) (lines : List (List ℕ)) (n end : ℕ) → Hold text ends lines → end ≡ length (text_of_lines (take n lines))
+    → cut_at 0 (take n ends) (take end text) ≡ take n lines
+unfolding fewer_are
+fewer_seen text ends lines n end h e = seen _ _ (fewer_are text ends lines n end h e)
+
+-- a place in the text
+pub start_within : (n : ℕ) (ls : List (List ℕ)) → length (text_of_lines (take n ls)) ≤ length (text_of_lines ls)
+start_within n ls =
+    let e = ap length (text_cut n ls) in
+    omega (arith, e, length-append {A = ℕ})
+
+next_start : (i : ℕ) (ls : List (List ℕ)) → i < length ls
+    → length (text_of_lines (take (i + 1) ls)) ≡ length (text_of_lines (take i ls)) + length (get_or ls i []) + 1
+next_start i ls h =
+    let line = get_or ls i [] in
+    let e : text_of_lines (take (i + 1) ls) ≡ text_of_lines (take i ls) ++ ((line ++ 10 ∷ []) ++ []) =
+    ap text_of_lines (take_more ls i [] h) ∙ text_of_lines-append (take i ls) (line ∷ []) in
+    ap length e ∙ simp length-append (omega arith)
+
+line_is : (i : ℕ) (ls : List (List ℕ)) → i < length ls
+    → take (length (get_or ls i [])) (drop (length (text_of_lines (take i ls))) (text_of_lines ls)) ≡ get_or ls i []
+line_is i ls h =
+    let line = get_or ls i [] in
+    ap (take (length line)) (text_behind i ls ∙ ap text_of_lines (drop_more ls i [] h)
+    ∙ append_assoc line (10 ∷ []) (text_of_lines (drop (i + 1) ls)))
+    ∙ take-append_seam line (10 ∷ text_of_lines (drop (i + 1) ls))
+
+-- the line at a place, by where it and the next begin
+pub record IsLineAt (ls : List (List ℕ)) (i start next : ℕ) : Type 0 where
+  pub some : start < next
+  pub line : take (next - 1 - start) (drop start (text_of_lines ls)) ≡ get_or ls i []
+  pub found : slice_get ls i ≡ Some (get_or ls i [])
+
+pub line_at : (ls : List (List ℕ)) (i start next : ℕ) → i < length ls
+    → start ≡ length (text_of_lines (take i ls)) → next ≡ length (text_of_lines (take (i + 1) ls)) → IsLineAt ls i start next
+line_at ls i start next h e f =
+    let g = next_start i ls h in
+    let n : next - 1 - start ≡ length (get_or ls i []) = omega arith in
+    record {
+      some = omega arith;
+      line = rw (n, e) (line_is i ls h);
+      found = slice_get-get_or ls i [] h;
+    }
+
+-- the place behind a line feed that is held
+pub held_start : (text ends : List ℕ) (lines : List (List ℕ)) (n d : ℕ) → Hold text ends lines → n < length ends
+    → get_or ends n d ≡ length (text_of_lines (take (n + 1) lines))
+held_start text ends lines n d h some =
+    let below : n + 1 ≤ length lines = omega (arith, h.count) in
+    let here : n < length (ends_of 0 lines) = omega (arith, h.count, ends_of-length 0 lines) in
+    ap (λ (es : List ℕ). get_or es n d) h.ends_are ∙ get_or_default (ends_of 0 lines) n d 0 here
+    ∙ ap (λ (k : ℕ). get_or (0 ∷ ends_of 0 lines) k 0) (sym (add-one n)) ∙ ends_of-start 0 (n + 1) lines below ∙ zero-add (length (text_of_lines (take (n + 1) lines)))

@@ -1,13 +1,14 @@
 //! Lines that are kept as one text.
 ghost use Rattle.std.specs.Prelude.{◌≡◌, ◌≤◌, [], ◌∷◌, ◌++◌, length, take, drop, OnOk, OnErr, option_map};
-ghost use Rattle.std.specs.Prelude.{string_bytes, slice_get, slice_index};
+ghost use Rattle.std.specs.Prelude.{◌<◌, ◌-◌, string_bytes, slice_get};
+ghost use Rattle.std.specs.List.{All};
+ghost use Rattle.std.specs.Str.{IsUtf8};
 ghost use Rattle.kb_stream.specs.Writing.{text_of_lines};
 
 use kb_context::NoMemory;
 use std::alloc::Global;
 use std::marker::Model;
-use std::mem;
-use std::str;
+use std::{mem, str};
 
 /// Lines that are added at the end and lent as one text, each with a line feed behind it, so that many are
 /// written at once. Contracts see the list of the lines.
@@ -57,12 +58,14 @@ impl Lines {
     pub fn get(&self, place: usize) -> Option<&str>
         ensures { option_map (λ line. line.now) result ≡ slice_get self.now place }
     {
-        if place >= self.ends.len() {
+        if place >= self.len() {
             return None;
         }
-        let start = start_of(self.ends.as_slice(), place);
-        let line = &self.text[start..self.ends[place] - 1];
-        Some(str::from_utf8(line).unwrap())
+        let line = line_between(self.text(), self.start_of(place), self.start_of(place + 1));
+        match str::from_utf8(line) {
+            Ok(line) => Some(line),
+            Err(_) => unreachable!(),
+        }
     }
 
     /// The text of the lines from a place on, each with a line feed behind it. It takes no memory.
@@ -70,8 +73,28 @@ impl Lines {
         requires { place ≤ length self.now }
         ensures { result.now ≡ text_of_lines (drop place self.now) }
     {
-        let start = start_of(self.ends.as_slice(), place);
-        &self.text[start..]
+        let start = self.start_of(place);
+        &self.text()[start..]
+    }
+
+    /// The text of all lines.
+    fn text(&self) -> &[u8]
+        ensures text { result.now ≡ text_of_lines self.now }
+        ensures utf8 { All IsUtf8 self.now }
+    {
+        self.text.as_slice()
+    }
+
+    /// Where the line at a place begins in the text; behind the last, where the text ends.
+    fn start_of(&self, place: usize) -> usize
+        requires { place ≤ length self.now }
+        ensures start { result ≡ length (text_of_lines (take place self.now)) }
+        ensures within { result ≤ length (text_of_lines self.now) }
+    {
+        if place == 0 {
+            return 0;
+        }
+        self.ends[place - 1]
     }
 
     /// An empty text to write the next line into, for `push`. It takes no memory.
@@ -89,11 +112,7 @@ impl Lines {
         ensures ok { OnOk result (self.new ≡ self.old ++ string_bytes line ∷ []) }
         ensures err { OnErr result (self.new ≡ self.old) }
     {
-        self.text.reserve(line.len() + 1)?;
-        self.ends.reserve(1)?;
-        self.text.extend_from_slice(line.as_bytes()).unwrap();
-        self.text.push(b'\n').unwrap();
-        self.ends.push(self.text.len()).unwrap();
+        append(&mut self.text, &mut self.ends, line.as_str())?;
         self.spare = line;
         Ok(())
     }
@@ -103,17 +122,33 @@ impl Lines {
         ensures { self.new ≡ take len self.old }
     {
         if len < self.ends.len() {
-            let end = start_of(self.ends.as_slice(), len);
+            let end = self.start_of(len);
             self.text.truncate(end);
             self.ends.truncate(len);
         }
     }
 }
 
-/// Where the line at a place begins, by where the lines end; behind the last, where the text ends.
-fn start_of(ends: &[usize], place: usize) -> usize
-    requires { place ≤ length ends.now }
-    ensures { result ≡ slice_index (0 ∷ ends.now) place }
+/// The line that begins at one place of a text, where the next begins at another.
+fn line_between(text: &[u8], start: usize, next: usize) -> &[u8]
+    requires some { start < next }
+    requires within { next ≤ length text.now }
+    ensures { result.now ≡ take (next - 1 - start) (drop start text.now) }
 {
-    if place == 0 { 0 } else { ends[place - 1] }
+    &text[start..next - 1]
+}
+
+/// Appends a line with its line feed to a text, and the place behind it to those of the others.
+fn append(text: &mut Vec<u8>, ends: &mut Vec<usize>, line: &str) -> Result<(), NoMemory>
+    ensures text { OnOk result (text.new.items ≡ (text.old.items ++ line.now) ++ 10 ∷ []) }
+    ensures ends { OnOk result (ends.new.items ≡ ends.old.items ++ length text.new.items ∷ []) }
+    ensures same_text { OnErr result (text.new.items ≡ text.old.items) }
+    ensures same_ends { OnErr result (ends.new.items ≡ ends.old.items) }
+{
+    text.reserve(line.len() + 1)?;
+    ends.reserve(1)?;
+    text.extend_from_slice(line.as_bytes()).unwrap();
+    text.push(b'\n').unwrap();
+    ends.push(text.len()).unwrap();
+    Ok(())
 }
