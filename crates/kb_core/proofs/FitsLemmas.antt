@@ -1,7 +1,7 @@
 -- What fits, and what is read fits.
 use Rattle.std.proofs.Common.{◌≡◌, List, [], ◌∷◌, length, Bool, true, false, refl, ap, suc, ◌&&◌}
 use Rattle.kb_core.specs.declared.arg.Arg.{Arg}
-use Rattle.kb_core.specs.declared.signature.Param.{Param}
+use Rattle.kb_core.specs.declared.parameter.Param.{Param}
 use Rattle.kb_core.specs.Arg.{is_of}
 use Rattle.kb_core.specs.Signature.{fits}
 

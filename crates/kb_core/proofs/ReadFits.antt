@@ -5,7 +5,7 @@ use Rattle.serde_json.specs.Find.{get}
 use Rattle.kb_core.specs.declared.arg.Arg.{Arg}
 use Rattle.kb_core.specs.declared.arg.Kind.{Kind}
 use Rattle.kb_core.specs.declared.arg.Kind.TheVariants as kinds
-use Rattle.kb_core.specs.declared.signature.Param.{Param}
+use Rattle.kb_core.specs.declared.parameter.Param.{Param}
 use Rattle.kb_core.specs.Arg.{is_of, empty_of}
 use Rattle.kb_core.specs.Signature.{fits}
 use Rattle.kb_core.specs.Reading.{plain_of, arg_of, member_arg, object_args, lone_arg, given, arguments_for}

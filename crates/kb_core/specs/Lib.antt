@@ -1,5 +1,6 @@
 pub mod Arg
 pub mod Declaration
+pub mod Parameter
 pub mod Signature
 pub mod Reading
 pub mod Buffer

@@ -1,15 +1,15 @@
 -- The table of the native commands: identifier, parameters, budget and effect.
-use Rattle.std.specs.Prelude.{ℕ, List, [], ◌∷◌, Option, is_some, false, if◌then◌else◌, codes, find, bytes_eq}
+use Rattle.std.specs.Prelude.{◌≡◌, ℕ, List, [], ◌∷◌, Option, None, is_some, false, if◌then◌else◌, codes, find, bytes_eq}
 use Rattle.kb_context.specs.declared.value.ContextValue.{ContextValue}
 use Rattle.kb_context.specs.declared.value.ContextValue.TheVariants as value
-use Rattle.kb_context.specs.Scopes.{ScopesData, set_fault_at, with_value_at}
+use Rattle.kb_context.specs.Scopes.{ScopesData, value_at, set_fault_at, with_value_at}
 use Rattle.kb_core.specs.declared.arg.Arg.{Arg}
 use Rattle.kb_core.specs.declared.arg.Arg.TheVariants.{Text, Number, Truth}
 use Rattle.kb_core.specs.declared.arg.Kind.TheVariants as kind
 use Rattle.kb_core.specs.declared.buffer.Buffer.{Buffer}
 use Rattle.kb_core.specs.declared.native.Native.{Native}
 use Rattle.kb_core.specs.declared.native.Native.TheVariants.{TypeText, DeleteLeft, DeleteRight, CursorLeft, CursorRight, BufferClear, BufferTop, BufferBottom, SetContext}
-use Rattle.kb_core.specs.declared.signature.Param.{Param}
+use Rattle.kb_core.specs.declared.parameter.Param.{Param}
 use Rattle.kb_core.specs.Arg.{context_value}
 use Rattle.kb_core.specs.Buffer.{empty, with_inserted, without_left, without_right, moved_left, moved_right, at_top, at_bottom}
 use Rattle.kb_core.specs.Declaration.{Declaration}
@@ -99,3 +99,16 @@ scopes_after BufferClear args s = s
 scopes_after BufferTop args s = s
 scopes_after BufferBottom args s = s
 scopes_after SetContext args s = with_root_key (text_of args) (value_of args) s
+
+-- where memory may be refused to a native command: a text grows, or a key is put in that nothing forbids and
+-- that the outermost scope hasn't yet
+abbrev pub MayLackMemory : Native → List Arg → ScopesData → Type 0
+MayLackMemory TypeText args s = Unit {0}
+MayLackMemory DeleteLeft args s = ⊥
+MayLackMemory DeleteRight args s = ⊥
+MayLackMemory CursorLeft args s = Unit {0}
+MayLackMemory CursorRight args s = Unit {0}
+MayLackMemory BufferClear args s = ⊥
+MayLackMemory BufferTop args s = Unit {0}
+MayLackMemory BufferBottom args s = Unit {0}
+MayLackMemory SetContext args s = (set_fault_at s 0 (text_of args) ≡ None) × (value_at s 0 (text_of args) ≡ None)

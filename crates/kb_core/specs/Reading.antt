@@ -5,7 +5,7 @@ use Rattle.serde_json.specs.Find.{get, as_i64}
 use Rattle.kb_core.specs.declared.arg.Arg.{Arg}
 use Rattle.kb_core.specs.declared.arg.Arg.TheVariants.{Text, Number, Truth}
 use Rattle.kb_core.specs.declared.arg.Kind.{Kind}
-use Rattle.kb_core.specs.declared.signature.Param.{Param}
+use Rattle.kb_core.specs.declared.parameter.Param.{Param}
 use Rattle.kb_core.specs.Arg.{is_of, empty_of}
 
 -- a text, a whole number or a truth value

@@ -1,7 +1,7 @@
 -- Which arguments fit parameters.
 use Rattle.std.specs.Prelude.{List, [], ◌∷◌, Bool, true, false, ◌&&◌}
 use Rattle.kb_core.specs.declared.arg.Arg.{Arg}
-use Rattle.kb_core.specs.declared.signature.Param.{Param}
+use Rattle.kb_core.specs.declared.parameter.Param.{Param}
 use Rattle.kb_core.specs.Arg.{is_of}
 
 -- one argument for each parameter, each of its kind

@@ -1,5 +1,6 @@
 //! The list of arguments that a command gets.
 ghost use Rattle.std.specs.Prelude.{◌≡◌, ◌<◌, ◌≤◌, ◌-◌, [], ◌∷◌, ◌++◌, length, take, slice_get};
+ghost use Rattle.kb_core.specs.Declaration.{parameter_limit};
 
 use crate::arg::Arg;
 use smallvec::SmallVec;
@@ -17,13 +18,15 @@ pub struct Args {
 
 impl Model for Args {
     ghost use Rattle.std.specs.Prelude.{◌≡◌, ◌≤◌, List, length};
+    ghost use Rattle.kb_core.specs.Declaration.{parameter_limit};
     ghost use Rattle.kb_core.specs.declared.arg.Arg.{Arg};
 
     ghost Value = { List Arg };
 
     ghost view = { λ a. a.items.items };
 
-    ghost invariant = { λ a. (length a.items.items ≤ 8) × (a.items.capacity ≡ 8) };
+    ghost invariant = { λ a. (length a.items.items ≤ parameter_limit)
+        × (a.items.capacity ≡ parameter_limit) };
 }
 
 impl Args {
@@ -38,7 +41,7 @@ impl Args {
 
     /// Adds an argument at the end. It takes no memory.
     pub fn push(&mut self, arg: Arg)
-        requires { length self.old < PARAMETER_LIMIT }
+        requires { length self.old < parameter_limit }
         ensures { self.new ≡ self.old ++ arg ∷ [] }
     {
         self.items.push_reserved(arg);
@@ -55,7 +58,7 @@ impl Args {
     /// The arguments, in order.
     pub fn as_slice(&self) -> &[Arg]
         ensures items { result.now ≡ self.now }
-        ensures few { length self.now ≤ PARAMETER_LIMIT }
+        ensures few { length self.now ≤ parameter_limit }
     {
         self.items.as_slice()
     }

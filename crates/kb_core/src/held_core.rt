@@ -1,15 +1,15 @@
 //! A core that stays in its place while native commands run on it.
 ghost use Rattle.std.specs.Prelude.{◌≡◌, None, IsTrue, IsSome, OnOk, OnErr, IfOk, IfErr};
-ghost use Rattle.kb_context.specs.ScopeFault.{IsRefusalOrMemory};
+ghost use Rattle.kb_context.specs.Failure.{IsRefusalOrMemory};
 ghost use Rattle.kb_context.specs.Scopes.{place_of, value_in, set_fault, with_value, without_value, with_focus};
 ghost use Rattle.kb_core.specs.Core.{core_after, with_scopes};
-ghost use Rattle.kb_core.specs.Native.{parameters_of};
+ghost use Rattle.kb_core.specs.Native.{parameters_of, MayLackMemory};
 ghost use Rattle.kb_core.specs.Signature.{fits};
 
 use crate::args::Args;
 use crate::native::Native;
 use crate::run::{Core, Ran, plain};
-use kb_context::{ContextValue, NoMemory, ScopeFault, UnknownScope};
+use kb_context::{ContextValue, Failure, NoMemory, ScopeFault, UnknownScope};
 use std::marker::Model;
 
 /// A core that native commands run on where it is held. A command takes the core and gives it back,
@@ -50,12 +50,13 @@ impl HeldCore {
         self.core.as_ref().unwrap()
     }
 
-    /// Runs a native command with arguments that fit it. It costs 1, or the core stays as it was
-    /// with `NoMemory`.
+    /// Runs a native command with arguments that fit it, as `plain` does. It costs 1, or the core stays
+    /// as it was with `NoMemory`.
     pub fn run(&mut self, native: Native, args: Args) -> Result<u32, NoMemory>
         requires { IsTrue (fits (parameters_of native) args) }
         ensures ok { OnOk result (self.new ≡ core_after native args self.old) }
         ensures err { OnErr result (self.new ≡ self.old) }
+        ensures refused { OnErr result (MayLackMemory native args self.old.scopes) }
         ensures cost { IfOk result (λ cost. cost ≡ 1) }
     {
         let Ran { core, cost } = plain(native, self.core.take().unwrap(), args);
@@ -65,7 +66,12 @@ impl HeldCore {
 
     /// Gives a key a value in the scope of a name, as `Scopes::set` does: `UnknownScope` (20),
     /// `TooManyKeys` (22) and `NoMemory` (5) as there. A refused call leaves the core as it was.
-    pub fn set(&mut self, scope: &str, key: &str, value: ContextValue) -> Result<(), ScopeFault>
+    pub fn set(
+        &mut self,
+        scope: &str,
+        key: &str,
+        value: ContextValue,
+    ) -> Result<(), Failure<ScopeFault>>
         ensures allowed { OnOk result (set_fault self.old.scopes scope.now key.now ≡ None) }
         ensures ok { OnOk result (self.new ≡ with_scopes self.old (with_value self.old.scopes scope.now key.now value)) }
         ensures err { IfErr result (IsRefusalOrMemory (set_fault self.old.scopes scope.now key.now)) }

@@ -1,16 +1,42 @@
 //! The native commands: their identifiers and what they declare.
-ghost use Rattle.std.specs.Prelude.{◌≡◌, IfOk, [], ◌≤◌, length};
+ghost use Rattle.std.specs.Prelude.{◌≡◌, ◌≤◌, IfOk, IfSome, IsTrue, length, map, option_map};
+ghost use Rattle.serde_json.specs.View.{view};
+ghost use Rattle.kb_core.specs.Declaration.{parameter_limit};
 ghost use Rattle.kb_core.specs.Native.{name_of, named, declaration_of, parameters_of, budget_of};
+ghost use Rattle.kb_core.specs.Parameter.{declared};
+ghost use Rattle.kb_core.specs.Reading.{arguments_for};
+ghost use Rattle.kb_core.specs.Signature.{fits};
 
 use crate::arg::Kind;
-use crate::args::PARAMETER_LIMIT;
-use crate::signature::{Param, Signature};
-use kb_context::{NoMemory, Seq, Text};
+use crate::args::Args;
+use crate::parameter::{NamedKind, Param};
+use crate::reading::arguments_for;
+use crate::signature::Signature;
+use kb_context::{NoMemory, Seq};
+use serde_json::Value;
 use std::alloc::Global;
+
+/// The parameters of `type`.
+static TEXT: [NamedKind; 1] = [NamedKind {
+    name: "text",
+    kind: Kind::Text,
+}];
+
+/// The parameters of `setContext`.
+static KEY_AND_VALUE: [NamedKind; 2] = [
+    NamedKind {
+        name: "key",
+        kind: Kind::Text,
+    },
+    NamedKind {
+        name: "value",
+        kind: Kind::Any,
+    },
+];
 
 /// A native command. The nine, their identifiers and what they take are our decision. VS Code
 /// documents a command `setContext`, which sets a context key.
-#[derive(Clone, Copy, Debug, PartialEq, Eq)]
+#[derive(Clone, Copy, Debug, PartialEq, Eq, Hash)]
 pub enum Native {
     /// `type` puts its text before the caret.
     TypeText,
@@ -70,28 +96,34 @@ impl Native {
         }
     }
 
+    /// What the command takes, in order. It takes no memory.
+    pub fn params(self) -> &'static [NamedKind]
+        ensures params { map declared result.now ≡ parameters_of self }
+        ensures few { length result.now ≤ parameter_limit }
+    {
+        match self {
+            Native::TypeText => TEXT.as_slice(),
+            Native::SetContext => KEY_AND_VALUE.as_slice(),
+            _ => &[],
+        }
+    }
+
+    /// The arguments that a JSON value gives the command, as `Signature::read_args` reads them by the
+    /// command's signature. Only a text among them takes memory.
+    pub fn read_args(self, alloc: Global, value: Option<&Value>) -> Result<Option<Args>, NoMemory>
+        ensures value { let given = option_map (λ v. view v.now) value.entry in
+            IfOk result (λ args. args ≡ arguments_for (parameters_of self) given) }
+        ensures fits { IfOk result (λ args. IfSome args (λ args. IsTrue (fits (parameters_of self) args))) }
+    {
+        arguments_for(alloc, self.params(), value)
+    }
+
     /// What the command declares. A native calls nothing, so its depth is 0.
     pub fn signature(self, alloc: Global) -> Result<Signature, NoMemory>
         ensures { IfOk result (λ signature. signature ≡ declaration_of self) }
     {
-        let params = self.params(alloc)?;
+        let params = owned(alloc, self.params())?;
         Ok(Signature::new(params, self.budget(), 0))
-    }
-
-    fn params(self, alloc: Global) -> Result<Seq<Param>, NoMemory>
-        ensures params { IfOk result (λ params. params ≡ parameters_of self) }
-        ensures few { IfOk result (λ params. length params ≤ PARAMETER_LIMIT) }
-    {
-        let mut params = Seq::new(alloc);
-        match self {
-            Native::TypeText => params.push(param(alloc, "text", Kind::Text)?)?,
-            Native::SetContext => {
-                let key = param(alloc, "key", Kind::Text)?;
-                params.push_two(key, param(alloc, "value", Kind::Any)?)?;
-            }
-            _ => {}
-        }
-        Ok(params)
     }
 
     fn budget(self) -> u32
@@ -109,11 +141,13 @@ impl Native {
     }
 }
 
-fn param(alloc: Global, name: &str, kind: Kind) -> Result<Param, NoMemory>
-    ensures { IfOk result (λ param. param ≡ record { name = name.now; kind = kind }) }
+/// Parameters with names of their own.
+fn owned(alloc: Global, params: &[NamedKind]) -> Result<Seq<Param>, NoMemory>
+    ensures { IfOk result (λ owned. owned ≡ map declared params.now) }
 {
-    Ok(Param {
-        name: Text::from_str(alloc, name)?,
-        kind,
-    })
+    let mut owned = Seq::new(alloc);
+    for param in params {
+        owned.push(param.owned(alloc)?)?;
+    }
+    Ok(owned)
 }

@@ -2,16 +2,18 @@
 ghost use Rattle.std.specs.Prelude.{◌≡◌, ◌≤◌, IfOk, [], ◌∷◌, length, map, option_map, Some};
 ghost use Rattle.serde_json.specs.View.{view};
 ghost use Rattle.kb_core.specs.Arg.{empty_of};
+ghost use Rattle.kb_core.specs.Declaration.{parameter_limit};
 ghost use Rattle.kb_core.specs.Reading.{plain_of, arg_of, member_arg, object_args, arguments_for};
 ghost use Rattle.kb_core.specs.Signature.{fits};
 
 use crate::arg::{Arg, Kind};
 use crate::args::Args;
-use crate::signature::Param;
+use crate::parameter::{Param, Parameter};
 use kb_context::{NoMemory, Text};
 use serde_json::Value;
 use std::alloc::Global;
 
+/// Whether arguments fit parameters.
 pub(crate) fn fits(params: &[Param], args: &[Arg]) -> bool
     ensures { result ≡ fits params.now args.now }
 {
@@ -59,14 +61,18 @@ fn member_arg(alloc: Global, kind: Kind, member: Option<&Value>) -> Result<Optio
 }
 
 /// For each parameter its member.
-fn object_args(alloc: Global, params: &[Param], object: &Value) -> Result<Option<Args>, NoMemory>
-    requires { length params.now ≤ 8 }
-    ensures { IfOk result (λ args. args ≡ object_args (view object.now) params.now) }
+fn object_args<P: Parameter>(
+    alloc: Global,
+    params: &[P],
+    object: &Value,
+) -> Result<Option<Args>, NoMemory>
+    requires { length params.now ≤ parameter_limit }
+    ensures { IfOk result (λ args. args ≡ object_args (view object.now) (map P.declares params.now)) }
 {
     let mut args = Args::new(alloc);
     for param in params {
-        let member = object.get(param.name.as_str());
-        match member_arg(alloc, param.kind, member)? {
+        let member = object.get(param.name());
+        match member_arg(alloc, param.kind(), member)? {
             Some(arg) => args.push(arg),
             None => return Ok(None),
         }
@@ -75,13 +81,13 @@ fn object_args(alloc: Global, params: &[Param], object: &Value) -> Result<Option
 }
 
 /// For each parameter the empty value of its kind.
-fn empty_args(alloc: Global, params: &[Param]) -> Args
-    requires { length params.now ≤ 8 }
-    ensures { result ≡ map (λ p. empty_of p.kind) params.now }
+fn empty_args<P: Parameter>(alloc: Global, params: &[P]) -> Args
+    requires { length params.now ≤ parameter_limit }
+    ensures { result ≡ map (λ p. empty_of p.kind) (map P.declares params.now) }
 {
     let mut args = Args::new(alloc);
     for param in params {
-        args.push(param.kind.empty(alloc));
+        args.push(param.kind().empty(alloc));
     }
     args
 }
@@ -99,13 +105,14 @@ fn lone_arg(alloc: Global, kind: Kind, value: &Value) -> Result<Option<Args>, No
 }
 
 /// The arguments that the value gives the parameters.
-pub(crate) fn arguments_for(
+pub(crate) fn arguments_for<P: Parameter>(
     alloc: Global,
-    params: &[Param],
+    params: &[P],
     value: Option<&Value>,
 ) -> Result<Option<Args>, NoMemory>
-    requires { length params.now ≤ 8 }
-    ensures { IfOk result (λ args. args ≡ arguments_for params.now (option_map (λ v. view v.now) value.entry)) }
+    requires { length params.now ≤ parameter_limit }
+    ensures { let given = option_map (λ v. view v.now) value.entry in
+        IfOk result (λ args. args ≡ arguments_for (map P.declares params.now) given) }
 {
     if params.is_empty() {
         return Ok(Some(Args::new(alloc)));
@@ -117,7 +124,7 @@ pub(crate) fn arguments_for(
                 return object_args(alloc, params, value);
             }
             match params {
-                [param] => lone_arg(alloc, param.kind, value),
+                [param] => lone_arg(alloc, param.kind(), value),
                 _ => Ok(None),
             }
         }

@@ -1,7 +1,8 @@
 //! The plain implementation of the native commands.
-ghost use Rattle.std.specs.Prelude.{◌≡◌, IsTrue, OnOk, OnErr, IfOk};
+ghost use Rattle.std.specs.Prelude.{◌≡◌, IsTrue, OnOk, OnErr, IfOk, None};
 ghost use Rattle.kb_core.specs.Core.{new_core, core_after};
-ghost use Rattle.kb_core.specs.Native.{text_of, value_of, with_root_key, parameters_of};
+ghost use Rattle.kb_context.specs.Scopes.{set_fault_at, value_at};
+ghost use Rattle.kb_core.specs.Native.{text_of, value_of, with_root_key, parameters_of, MayLackMemory};
 ghost use Rattle.kb_core.specs.Signature.{fits};
 ghost use Rattle.kb_core.specs.declared.native.Native.TheVariants.{SetContext};
 
@@ -9,7 +10,7 @@ use crate::arg::Arg;
 use crate::args::Args;
 use crate::buffer::Buffer;
 use crate::native::Native;
-use kb_context::{ContextValue, NoMemory, ScopeFault, Scopes};
+use kb_context::{ContextValue, Failure, NoMemory, Scopes};
 use std::alloc::{AllocError, Global};
 
 /// What commands change: the text round the caret, and the scopes of context keys.
@@ -39,11 +40,12 @@ impl Core {
 }
 
 /// Runs a native command with arguments that fit it. It costs 1, or the core comes back unchanged
-/// with `NoMemory`.
+/// with `NoMemory`, where a text may grow or a new context key is put in.
 pub fn plain(native: Native, core: Core, args: Args) -> Ran
     requires { IsTrue (fits (parameters_of native) args) }
     ensures ok { OnOk result.cost (result.core ≡ core_after native args core) }
     ensures err { OnErr result.cost (result.core ≡ core) }
+    ensures refused { OnErr result.cost (MayLackMemory native args core.scopes) }
     ensures cost { IfOk result.cost (λ cost. cost ≡ 1) }
 {
     let mut core = core;
@@ -54,10 +56,12 @@ pub fn plain(native: Native, core: Core, args: Args) -> Ran
     Ran { core, cost }
 }
 
+/// Changes the core as the command does, or not at all.
 fn edit(native: Native, core: &mut Core, args: Args) -> Result<(), NoMemory>
     requires { IsTrue (fits (parameters_of native) args) }
     ensures ok { OnOk result (core.new ≡ core_after native args core.old) }
     ensures err { OnErr result (core.new ≡ core.old) }
+    ensures refused { OnErr result (MayLackMemory native args core.old.scopes) }
 {
     let Core { buffer, scopes } = core;
     match native {
@@ -76,17 +80,19 @@ fn edit(native: Native, core: &mut Core, args: Args) -> Result<(), NoMemory>
 
 /// Gives the key that the first argument is the value that the second one is, in the outermost
 /// scope. Where the key is new there while as many keys stand as may, the scopes stay, and that is
-/// no refusal (our decision). Without memory the scopes stay too.
+/// no refusal (our decision). Where memory is refused, which only a new key wants, the scopes stay too.
 fn set_context(scopes: &mut Scopes, args: Args) -> Result<(), NoMemory>
     requires { IsTrue (fits (parameters_of SetContext) args) }
     ensures ok { OnOk result (scopes.new ≡ with_root_key (text_of args) (value_of args) scopes.old) }
     ensures err { OnErr result (scopes.new ≡ scopes.old) }
+    ensures allowed { OnErr result (set_fault_at scopes.old 0 (text_of args) ≡ None) }
+    ensures absent { OnErr result (value_at scopes.old 0 (text_of args) ≡ None) }
 {
     let mut args = args;
     let value = args.pop().unwrap();
     match scopes.set_root(text_of(args.as_slice()), ContextValue::from(value)) {
-        Ok(()) | Err(ScopeFault::TooManyKeys) => Ok(()),
-        Err(_) => Err(AllocError),
+        Ok(()) | Err(Failure::Fault(_)) => Ok(()),
+        Err(Failure::NoMemory) => Err(AllocError),
     }
 }
 

@@ -1,29 +1,17 @@
 //! What a command takes, and what it may cost.
 ghost use Rattle.std.specs.Prelude.{◌≡◌, ◌≤◌, IfOk, IfSome, IsTrue, length, option_map};
 ghost use Rattle.serde_json.specs.View.{view};
+ghost use Rattle.kb_core.specs.Declaration.{parameter_limit, budget_limit, depth_limit};
 ghost use Rattle.kb_core.specs.Reading.{arguments_for};
 ghost use Rattle.kb_core.specs.Signature.{fits};
 
-use crate::arg::Kind;
-use crate::args::{Args, PARAMETER_LIMIT};
+use crate::args::Args;
+use crate::parameter::Param;
 use crate::reading::{arguments_for, fits};
-use kb_context::{NoMemory, Seq, Text};
+use kb_context::{NoMemory, Seq};
 use serde_json::Value;
 use std::alloc::Global;
 use std::marker::Model;
-
-/// The largest budget, in instructions and costs of native commands (our decision).
-pub const BUDGET_LIMIT: u32 = 1_000_000_000;
-
-/// How deep calls may nest at most (our decision).
-pub const DEPTH_LIMIT: u8 = 64;
-
-/// A parameter of a command.
-#[derive(Debug, Drop)]
-pub struct Param {
-    pub name: Text,
-    pub kind: Kind,
-}
 
 /// What a command declares: its parameters, what it may cost, and how deep its calls may nest.
 /// Contracts see the three as a record.
@@ -46,13 +34,14 @@ impl Model for Signature {
 }
 
 impl Signature {
-    /// A signature within the limits: at most `PARAMETER_LIMIT` parameters, a budget from 1 to
-    /// `BUDGET_LIMIT`, and a depth up to `DEPTH_LIMIT`, which is 0 for what calls nothing.
+    /// A signature within the limits (our decision): at most `PARAMETER_LIMIT` parameters, a budget from
+    /// 1 to 1,000,000,000 instructions and costs of native commands, and a depth up to 64, which is 0 for
+    /// what calls nothing.
     pub fn new(params: Seq<Param>, budget: u32, depth: u8) -> Signature
-        requires params { length params ≤ PARAMETER_LIMIT }
+        requires params { length params ≤ parameter_limit }
         requires some_budget { 1 ≤ budget }
-        requires budget { budget ≤ BUDGET_LIMIT }
-        requires depth { depth ≤ DEPTH_LIMIT }
+        requires budget { budget ≤ budget_limit }
+        requires depth { depth ≤ depth_limit }
         ensures { result ≡ record { params = params; budget = budget; depth = depth } }
     {
         Signature {
@@ -65,7 +54,7 @@ impl Signature {
     /// The parameters, in order.
     pub fn params(&self) -> &[Param]
         ensures params { result.now ≡ self.now.params }
-        ensures few { length self.now.params ≤ PARAMETER_LIMIT }
+        ensures few { length self.now.params ≤ parameter_limit }
     {
         self.params.as_slice()
     }
@@ -74,7 +63,7 @@ impl Signature {
     pub fn budget(&self) -> u32
         ensures budget { result ≡ self.now.budget }
         ensures some { 1 ≤ result }
-        ensures limit { result ≤ BUDGET_LIMIT }
+        ensures limit { result ≤ budget_limit }
     {
         self.budget
     }
@@ -82,7 +71,7 @@ impl Signature {
     /// How deep the calls of the command may nest; 0 where it calls nothing.
     pub fn depth(&self) -> u8
         ensures depth { result ≡ self.now.depth }
-        ensures limit { result ≤ DEPTH_LIMIT }
+        ensures limit { result ≤ depth_limit }
     {
         self.depth
     }
@@ -100,7 +89,8 @@ impl Signature {
     /// its member, where an absent one and `null` count as empty. A lone text, whole number or
     /// truth value fits a lone parameter. Every value has to be of its parameter's kind.
     pub fn read_args(&self, alloc: Global, value: Option<&Value>) -> Result<Option<Args>, NoMemory>
-        ensures value { IfOk result (λ args. args ≡ arguments_for self.now.params (option_map (λ v. view v.now) value.entry)) }
+        ensures value { let given = option_map (λ v. view v.now) value.entry in
+            IfOk result (λ args. args ≡ arguments_for self.now.params given) }
         ensures fits { IfOk result (λ args. IfSome args (λ args. IsTrue (fits self.now.params args))) }
     {
         arguments_for(alloc, self.params(), value)

@@ -1,0 +1,6 @@
+-- The parameter that a name and a kind stand for.
+use Rattle.kb_core.specs.declared.parameter.NamedKind.{NamedKind}
+use Rattle.kb_core.specs.declared.parameter.Param.{Param}
+
+abbrev pub declared : NamedKind → Param
+declared named = record { name = named.name.now; kind = named.kind }
