@@ -1,5 +1,5 @@
 -- The rule that an element of a rule file is, or the number of its first fault.
-use Rattle.std.specs.Prelude.{ℕ, not, Bool, List, [], Option, None, Some, Result, Ok, Err, if◌then◌else◌, codes, nat_eq}
+use Rattle.std.specs.Prelude.{ℕ, not, Bool, List, Option, None, Some, Result, Ok, Err, if◌then◌else◌, codes, nat_eq}
 use Rattle.std.specs.List.{list_all, starts_with}
 use Rattle.kb_context.specs.Blank.{is_blank}
 use Rattle.kb_context.specs.Reading.{◌>>=◌, or_fault, or_default, unless}
@@ -37,10 +37,6 @@ text_of d = or_fault 41 (as_str d)
 abbrev pub required_text : Option Data → Result (List ℕ) ℕ
 required_text member = or_fault 40 member >>= text_of
 
--- the text of a member, or the empty text where it is absent
-abbrev pub optional_text : Option Data → Result (List ℕ) ℕ
-optional_text member = or_default [] text_of member
-
 -- the command begins with `-`
 abbrev pub is_removal : List ℕ → Bool
 is_removal command = starts_with nat_eq command (codes "-")
@@ -58,8 +54,9 @@ when_of text =
     if list_all is_blank text then Ok None
     else by_number when.number_of (clause_in text) >>= λ clause. Ok (Some clause)
 
+-- the condition, if there is one
 unfoldable pub condition_of : Option Data → Result (Option Clause) ℕ
-condition_of member = optional_text member >>= when_of
+condition_of member = or_default None (λ d. text_of d >>= when_of) member
 
 -- the arguments, if there are any: each number is whole within i64
 unfoldable pub args_of : Option Data → Result (Option Data) ℕ

@@ -8,8 +8,9 @@ ghost use Rattle.kb_keys.specs.Chord.{chord_of};
 ghost use Rattle.kb_when.specs.WhenFault as when;
 ghost use Rattle.kb_when.specs.ClauseText.{clause_in};
 ghost use Rattle.serde_json.specs.View.{view, members_view};
-ghost use Rattle.kb_rules.specs.Entry.{by_number, failure_by_number, is_removal, text_of, required_text, optional_text};
-ghost use Rattle.kb_rules.specs.Entry.{command_of, keystrokes_of, when_of, condition_of, args_of, rule_of, entry_of};
+ghost use Rattle.kb_rules.specs.Entry.{by_number, failure_by_number, is_removal, text_of, required_text};
+ghost use Rattle.kb_rules.specs.Entry.{command_of, keystrokes_of, when_of, condition_of, args_of, rule_of};
+ghost use Rattle.kb_rules.specs.Entry.{entry_of};
 
 use crate::json::Json;
 use crate::rule::Rule;
@@ -34,11 +35,7 @@ pub(crate) fn read_entry(alloc: Global, entry: Value, place: usize) -> Result<Ru
 
 /// The rule that members are.
 #[tactic(auto, unfolding(crate::specs::Entry::rule_of))]
-fn read_rule(
-    alloc: Global,
-    members: Map<String, Value>,
-    place: usize,
-) -> Result<Rule, Failure<u32>>
+fn read_rule(alloc: Global, members: Map<String, Value>, place: usize) -> Result<Rule, Failure<u32>>
     ensures { Gives (λ rule. rule) result (rule_of place (members_view members.entries)) }
 {
     let mut members = members;
