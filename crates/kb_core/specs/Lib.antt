@@ -7,3 +7,4 @@ pub mod Buffer
 pub mod Native
 pub mod Core
 pub mod HeldCore
+pub mod HeldCoreLoan

@@ -1,15 +1,13 @@
 //! A core that stays in its place while native commands run on it.
-ghost use Rattle.std.specs.Prelude.{◌≡◌, None, IsTrue, IsSome, OnOk, OnErr, IfOk, IfErr};
-ghost use Rattle.kb_context.specs.Failure.{IsRefusalOrMemory};
-ghost use Rattle.kb_context.specs.Scopes.{place_of, value_in, set_fault, with_value, without_value, with_focus};
-ghost use Rattle.kb_core.specs.Core.{core_after, with_scopes};
+ghost use Rattle.std.specs.Prelude.{◌≡◌, IsTrue, OnOk, OnErr, IfOk};
+ghost use Rattle.kb_core.specs.Core.{core_after};
 ghost use Rattle.kb_core.specs.Native.{parameters_of, MayLackMemory};
 ghost use Rattle.kb_core.specs.Signature.{fits};
 
 use crate::args::Args;
 use crate::native::Native;
 use crate::run::{Core, Ran, plain};
-use kb_context::{ContextValue, Failure, NoMemory, ScopeFault, UnknownScope};
+use kb_context::{NoMemory, Scopes};
 use std::marker::Model;
 
 /// A core that native commands run on where it is held. A command takes the core and gives it back,
@@ -36,6 +34,9 @@ impl Model for HeldCore {
 }
 
 impl HeldCore {
+    ghost use Rattle.std.specs.Borrow.{sem};
+    ghost use Rattle.kb_core.specs.HeldCoreLoan.{LendsScopes};
+
     /// Holds a core. It takes no memory.
     pub fn new(core: Core) -> HeldCore
         ensures { result ≡ core }
@@ -64,50 +65,13 @@ impl HeldCore {
         cost
     }
 
-    /// Gives a key a value in the scope of a name, as `Scopes::set` does: `UnknownScope` (20),
-    /// `TooManyKeys` (22) and `NoMemory` (5) as there. A refused call leaves the core as it was.
-    pub fn set(
-        &mut self,
-        scope: &str,
-        key: &str,
-        value: ContextValue,
-    ) -> Result<(), Failure<ScopeFault>>
-        ensures allowed { OnOk result (set_fault self.old.scopes scope.now key.now ≡ None) }
-        ensures ok { OnOk result (self.new ≡ with_scopes self.old (with_value self.old.scopes scope.now key.now value)) }
-        ensures err { IfErr result (IsRefusalOrMemory (set_fault self.old.scopes scope.now key.now)) }
-        ensures unchanged { OnErr result (self.new ≡ self.old) }
-        ensures absent { OnErr result (value_in self.old.scopes scope.now key.now ≡ None) }
+    /// The scopes of the core, lent to be changed in place. It takes no memory.
+    pub fn scopes_mut(&mut self) -> &mut Scopes
+        ensures* writes_back { sem 𝓛 (LendsScopes self.entry result) }
+        ensures scopes { result.now ≡ self.old.scopes }
     {
         match &mut self.core {
-            Some(core) => core.scopes.set(scope, key, value),
-            None => unreachable!(),
-        }
-    }
-
-    /// Takes a key out of the scope of a name, as `Scopes::unset` does. It takes no memory.
-    /// `UnknownScope` (20) where no scope has the name, and then the core stays as it was.
-    pub fn unset(&mut self, scope: &str, key: &str) -> Result<(), UnknownScope>
-        ensures known { OnOk result (IsSome (place_of scope.now self.old.scopes.scopes)) }
-        ensures ok { OnOk result (self.new ≡ with_scopes self.old (without_value self.old.scopes scope.now key.now)) }
-        ensures unknown { OnErr result (place_of scope.now self.old.scopes.scopes ≡ None) }
-        ensures unchanged { OnErr result (self.new ≡ self.old) }
-    {
-        match &mut self.core {
-            Some(core) => core.scopes.unset(scope, key),
-            None => unreachable!(),
-        }
-    }
-
-    /// Gives the focus to the scope of a name, as `Scopes::focus` does. It takes no memory.
-    /// `UnknownScope` (20) where no scope has the name, and then the core stays as it was.
-    pub fn focus(&mut self, scope: &str) -> Result<(), UnknownScope>
-        ensures known { OnOk result (IsSome (place_of scope.now self.old.scopes.scopes)) }
-        ensures ok { OnOk result (self.new ≡ with_scopes self.old (with_focus self.old.scopes scope.now)) }
-        ensures unknown { OnErr result (place_of scope.now self.old.scopes.scopes ≡ None) }
-        ensures unchanged { OnErr result (self.new ≡ self.old) }
-    {
-        match &mut self.core {
-            Some(core) => core.scopes.focus(scope),
+            Some(core) => &mut core.scopes,
             None => unreachable!(),
         }
     }
