@@ -1,10 +1,12 @@
 -- The canonical text of a chord that is one keystroke longer.
-use Rattle.std.proofs.Common.{◌≡◌, ℕ, List, [], ◌∷◌, ◌++◌, refl, sym, ap, ◌∙◌, append_assoc, length, ◌<◌, arith}
+use Rattle.std.proofs.Common.{◌≡◌, ℕ, List, [], ◌∷◌, ◌++◌, refl, sym, ap, ◌∙◌, append_assoc, append-nil, length, ◌<◌, arith}
 use Rattle.kb_keys.specs.declared.keystroke.Keystroke.{Keystroke}
 use Rattle.kb_keys.specs.Keystroke.{spelling}
 use Rattle.kb_keys.specs.Chord.{chord_spelling}
 use Rattle.std.specs.Prelude.{codes}
-use Rattle.kb_trace.specs.Lines.{key_text}
+use Rattle.json.specs.Print.{print, print_from}
+use Rattle.json.specs.Token as token
+use Rattle.kb_trace.specs.Lines.{key_text, json_string}
 
 pub chord_spelling_first : (key : Keystroke) → chord_spelling (key ∷ []) ≡ spelling key
 chord_spelling_first key = refl
@@ -30,3 +32,10 @@ key_text_more pressed key text some made =
     ∙ append_assoc (codes "key " ++ chord_spelling pressed) (32 ∷ []) (spelling key)
     ∙ append_assoc (codes "key ") (chord_spelling pressed) (32 ∷ spelling key)
     ∙ ap (λ (l : List ℕ). codes "key " ++ l) (sym (chord_spelling_more pressed key (omega arith)))
+
+pub ruleset key_texts = (key_text_first, key_text_more)
+
+-- what a writer of JSON gives for a text alone
+pub print_string : (text : List ℕ) → print (token.string text ∷ []) ≡ json_string text
+unfolding print_from
+print_string text = append-nil (json_string text)

@@ -1,12 +1,12 @@
 -- The lines of a trace, as bytes.
-use Rattle.std.specs.Prelude.{ℕ, List, [], ◌∷◌, ◌++◌, codes, decimal}
+use Rattle.std.specs.Prelude.{ℕ, List, [], ◌∷◌, ◌++◌, Option, Some, None, codes, decimal}
 use Rattle.serde_json.specs.Data.{string}
 use Rattle.serde_json.specs.Written.{compact_text}
 use Rattle.kb_keys.specs.declared.keystroke.Keystroke.{Keystroke}
 use Rattle.kb_keys.specs.Chord.{chord_spelling}
 use Rattle.kb_core.specs.declared.buffer.Buffer.{Buffer}
-use Rattle.kb_trace.specs.declared.refusal.Refusal.{Refusal}
-use Rattle.kb_trace.specs.Refusal.{refusal_number, refusal_name}
+use Rattle.kb_context.specs.Faults.{fault_name}
+use Rattle.kb_context.specs.declared.refusal.Refusal.{Refusal}
 
 -- key ctrl+k ctrl+c
 abbrev pub key_text : List Keystroke → Keystroke → List ℕ
@@ -35,9 +35,14 @@ unset_line scope key = codes "unset " ++ (scope ++ (codes " " ++ key))
 abbrev pub reloaded_line : List ℕ
 reloaded_line = codes "reloaded"
 
--- refused 4 Syntax
+-- refused 4 Syntax, and refused 73 InUse x.hi
+abbrev pub refused_words : ℕ → Option (List ℕ) → List ℕ
+refused_words number None = codes "refused " ++ (decimal number ++ (codes " " ++ fault_name number))
+refused_words number (Some detail) =
+    codes "refused " ++ (decimal number ++ (codes " " ++ (fault_name number ++ (codes " " ++ detail))))
+
 abbrev pub refused_line : Refusal → List ℕ
-refused_line refusal = codes "refused " ++ (decimal (refusal_number refusal) ++ (codes " " ++ refusal_name refusal))
+refused_line refusal = refused_words refusal.number refusal.detail
 
 -- not found type
 abbrev pub not_found_line : List ℕ → List ℕ

@@ -1,6 +1,5 @@
 //! What a session is told, and what it answers.
-use crate::refusal::Refusal;
-use kb_context::{ContextValue, Text};
+use kb_context::{ContextValue, Refusal, Text};
 use kb_keys::Keystroke;
 
 /// What a session is told.
@@ -19,7 +18,7 @@ pub enum Event {
 }
 
 /// What a session answers.
-#[derive(Clone, Copy, Debug, PartialEq, Eq)]
+#[derive(Debug, Drop)]
 pub enum Answer {
     /// What was asked is done, and the trace has its lines.
     Did,

@@ -3,7 +3,5 @@
 
 pub mod event;
 pub mod lines;
-pub mod refusal;
 
 pub use event::{Answer, Event};
-pub use refusal::Refusal;

@@ -1,21 +1,27 @@
-//! The lines of a trace.
-ghost use Rattle.std.specs.Prelude.{◌≡◌, ◌++◌, IfOk, string_bytes};
+//! The lines of a trace. Each is written into the text of `Lines::begin_line`, so that it takes no memory of
+//! its own for long; where memory is refused, the lines stay as they were.
+ghost use Rattle.std.specs.Prelude.{◌≡◌, [], ◌∷◌, ◌++◌, IfOk, OnOk, OnErr, string_bytes};
 ghost use Rattle.kb_trace.specs.Lines as line;
 
-use crate::refusal::Refusal;
-use kb_context::{NoMemory, Text};
+use json::Writer;
+use kb_context::{NoMemory, Refusal};
 use kb_core::Buffer;
 use kb_keys::{Keystroke, write_strokes};
-use serde_json::Value;
-use std::alloc::Global;
+use kb_stream::Lines;
 
 /// `key PRESSED`, the beginning of the line of a press: the keystrokes that were pressed before,
 /// and the one that is pressed.
-#[tactic(auto, using(crate::proofs::LineTexts::key_text_first, crate::proofs::LineTexts::key_text_more))]
-pub fn key_text(alloc: Global, pressed: &[Keystroke], key: Keystroke) -> Result<String, NoMemory>
-    ensures { IfOk result (λ made. string_bytes made ≡ line.key_text pressed.now key) }
+#[tactic(auto, using(crate::proofs::LineTexts::key_texts))]
+pub fn key_text(
+    lines: &mut Lines,
+    pressed: &[Keystroke],
+    key: Keystroke,
+) -> Result<String, NoMemory>
+    ensures text { IfOk result (λ made. string_bytes made ≡ line.key_text pressed.now key) }
+    ensures same { lines.new ≡ lines.old }
 {
-    let mut text = String::from_str(alloc, "key ")?;
+    let mut text = lines.begin_line();
+    text.push_str("key ")?;
     if pressed.is_empty() {
         key.write_to(&mut text)?;
         return Ok(text);
@@ -27,103 +33,163 @@ pub fn key_text(alloc: Global, pressed: &[Keystroke], key: Keystroke) -> Result<
 }
 
 /// The line that a text begins and another one ends.
-pub fn ended(text: String, end: &str) -> Result<Text, NoMemory>
-    ensures { IfOk result (λ made. made ≡ string_bytes text ++ end.now) }
+pub fn ended(lines: &mut Lines, text: String, end: &str) -> Result<(), NoMemory>
+    ensures ok { OnOk result (lines.new ≡ lines.old ++ (string_bytes text ++ end.now) ∷ []) }
+    ensures err { OnErr result (lines.new ≡ lines.old) }
 {
     let mut text = text;
     text.push_str(end)?;
-    Ok(Text::from_string(text))
+    lines.push(text)
 }
 
 /// `key PRESSED: start COMMAND`, from its beginning.
-pub fn start_line(text: String, command: &str) -> Result<Text, NoMemory>
-    ensures { IfOk result (λ made. made ≡ line.start_line (string_bytes text) command.now) }
+pub fn start_line(lines: &mut Lines, text: String, command: &str) -> Result<(), NoMemory>
+    ensures ok { OnOk result (lines.new ≡ lines.old ++ line.start_line (string_bytes text) command.now ∷ []) }
+    ensures err { OnErr result (lines.new ≡ lines.old) }
 {
     let mut text = text;
     text.push_str(": start ")?;
     text.push_str(command)?;
-    Ok(Text::from_string(text))
+    lines.push(text)
 }
 
 /// `left PRESSED`, for an event that leaves a chord.
-pub fn left_line(alloc: Global, pressed: &[Keystroke]) -> Result<Text, NoMemory>
-    ensures { IfOk result (λ made. made ≡ line.left_line pressed.now) }
+pub fn left_line(lines: &mut Lines, pressed: &[Keystroke]) -> Result<(), NoMemory>
+    ensures ok { OnOk result (lines.new ≡ lines.old ++ line.left_line pressed.now ∷ []) }
+    ensures err { OnErr result (lines.new ≡ lines.old) }
 {
-    let mut text = String::from_str(alloc, "left ")?;
+    let mut text = lines.begin_line();
+    text.push_str("left ")?;
     write_strokes(pressed, &mut text)?;
-    Ok(Text::from_string(text))
+    lines.push(text)
 }
 
 /// `focus SCOPE`, for a scope that got the focus.
-pub fn focus_line(alloc: Global, scope: &str) -> Result<Text, NoMemory>
-    ensures { IfOk result (λ made. made ≡ line.focus_line scope.now) }
+pub fn focus_line(lines: &mut Lines, scope: &str) -> Result<(), NoMemory>
+    ensures ok { OnOk result (lines.new ≡ lines.old ++ line.focus_line scope.now ∷ []) }
+    ensures err { OnErr result (lines.new ≡ lines.old) }
 {
-    Ok(Text::from_string(format!(in alloc; "focus {scope}")?))
+    let mut text = lines.begin_line();
+    write!(text, "focus {scope}")?;
+    lines.push(text)
 }
 
 /// `set SCOPE KEY`, for a key that got a value.
-pub fn set_line(alloc: Global, scope: &str, key: &str) -> Result<Text, NoMemory>
-    ensures { IfOk result (λ made. made ≡ line.set_line scope.now key.now) }
+pub fn set_line(lines: &mut Lines, scope: &str, key: &str) -> Result<(), NoMemory>
+    ensures ok { OnOk result (lines.new ≡ lines.old ++ line.set_line scope.now key.now ∷ []) }
+    ensures err { OnErr result (lines.new ≡ lines.old) }
 {
-    Ok(Text::from_string(format!(in alloc; "set {scope} {key}")?))
+    let mut text = lines.begin_line();
+    write!(text, "set {scope} {key}")?;
+    lines.push(text)
 }
 
 /// `unset SCOPE KEY`, for a key that was taken away.
-pub fn unset_line(alloc: Global, scope: &str, key: &str) -> Result<Text, NoMemory>
-    ensures { IfOk result (λ made. made ≡ line.unset_line scope.now key.now) }
+pub fn unset_line(lines: &mut Lines, scope: &str, key: &str) -> Result<(), NoMemory>
+    ensures ok { OnOk result (lines.new ≡ lines.old ++ line.unset_line scope.now key.now ∷ []) }
+    ensures err { OnErr result (lines.new ≡ lines.old) }
 {
-    Ok(Text::from_string(format!(in alloc; "unset {scope} {key}")?))
+    let mut text = lines.begin_line();
+    write!(text, "unset {scope} {key}")?;
+    lines.push(text)
 }
 
 /// `reloaded`, for rules of the user that were read anew.
-pub fn reloaded_line(alloc: Global) -> Result<Text, NoMemory>
-    ensures { IfOk result (λ made. made ≡ line.reloaded_line) }
+pub fn reloaded_line(lines: &mut Lines) -> Result<(), NoMemory>
+    ensures ok { OnOk result (lines.new ≡ lines.old ++ line.reloaded_line ∷ []) }
+    ensures err { OnErr result (lines.new ≡ lines.old) }
 {
-    Text::from_str(alloc, "reloaded")
+    let mut text = lines.begin_line();
+    text.push_str("reloaded")?;
+    lines.push(text)
 }
 
-/// `refused NUMBER NAME`, for what is refused.
-pub fn refused_line(alloc: Global, refusal: Refusal) -> Result<Text, NoMemory>
-    ensures { IfOk result (λ made. made ≡ line.refused_line refusal) }
+/// `refused NUMBER NAME`, for what is refused, and behind it what the refusal says more.
+pub fn refused_line(lines: &mut Lines, refusal: &Refusal) -> Result<(), NoMemory>
+    ensures ok { OnOk result (lines.new ≡ lines.old ++ line.refused_line refusal.now ∷ []) }
+    ensures err { OnErr result (lines.new ≡ lines.old) }
 {
-    let number = refusal.number();
+    let text = refused_text(lines.begin_line(), refusal)?;
+    lines.push(text)
+}
+
+/// A text with the words of a refusal behind it.
+fn refused_text(text: String, refusal: &Refusal) -> Result<String, NoMemory>
+    ensures { IfOk result (λ made. string_bytes made ≡ string_bytes text ++ line.refused_line refusal.now) }
+{
+    let mut text = text;
+    let number = refusal.number;
     let name = refusal.name();
-    Ok(Text::from_string(format!(in alloc; "refused {number} {name}")?))
+    match &refusal.detail {
+        Some(detail) => {
+            let detail = detail.as_str();
+            write!(text, "refused {number} {name} {detail}")?;
+            Ok(text)
+        }
+        None => {
+            write!(text, "refused {number} {name}")?;
+            Ok(text)
+        }
+    }
 }
 
 /// `not found COMMAND`, for a command that doesn't exist.
-pub fn not_found_line(alloc: Global, command: &str) -> Result<Text, NoMemory>
-    ensures { IfOk result (λ made. made ≡ line.not_found_line command.now) }
+pub fn not_found_line(lines: &mut Lines, command: &str) -> Result<(), NoMemory>
+    ensures ok { OnOk result (lines.new ≡ lines.old ++ line.not_found_line command.now ∷ []) }
+    ensures err { OnErr result (lines.new ≡ lines.old) }
 {
-    Ok(Text::from_string(format!(in alloc; "not found {command}")?))
+    let mut text = lines.begin_line();
+    write!(text, "not found {command}")?;
+    lines.push(text)
 }
 
 /// `bad arguments COMMAND`, for arguments that don't fit the command.
-pub fn bad_arguments_line(alloc: Global, command: &str) -> Result<Text, NoMemory>
-    ensures { IfOk result (λ made. made ≡ line.bad_arguments_line command.now) }
+pub fn bad_arguments_line(lines: &mut Lines, command: &str) -> Result<(), NoMemory>
+    ensures ok { OnOk result (lines.new ≡ lines.old ++ line.bad_arguments_line command.now ∷ []) }
+    ensures err { OnErr result (lines.new ≡ lines.old) }
 {
-    Ok(Text::from_string(format!(in alloc; "bad arguments {command}")?))
+    let mut text = lines.begin_line();
+    write!(text, "bad arguments {command}")?;
+    lines.push(text)
 }
 
 /// `unread line NUMBER`, for a line of a script that can't be read.
-pub fn unread_line(alloc: Global, number: u64) -> Result<Text, NoMemory>
-    ensures { IfOk result (λ made. made ≡ line.unread_line number) }
+pub fn unread_line(lines: &mut Lines, number: u64) -> Result<(), NoMemory>
+    ensures ok { OnOk result (lines.new ≡ lines.old ++ line.unread_line number ∷ []) }
+    ensures err { OnErr result (lines.new ≡ lines.old) }
 {
-    Ok(Text::from_string(format!(in alloc; "unread line {number}")?))
+    let mut text = lines.begin_line();
+    write!(text, "unread line {number}")?;
+    lines.push(text)
 }
 
 /// `done BEFORE AFTER`, for a command that ran: the texts round the caret as JSON strings.
-pub fn done_line(alloc: Global, buffer: &Buffer) -> Result<Text, NoMemory>
-    ensures { IfOk result (λ made. made ≡ line.done_line buffer.now) }
+pub fn done_line(lines: &mut Lines, buffer: &Buffer) -> Result<(), NoMemory>
+    ensures ok { OnOk result (lines.new ≡ lines.old ++ line.done_line buffer.now ∷ []) }
+    ensures err { OnErr result (lines.new ≡ lines.old) }
 {
-    let before = json_string(alloc, buffer.before.as_str())?;
-    let after = json_string(alloc, buffer.after.as_str())?;
-    Ok(Text::from_string(format!(in alloc; "done {before} {after}")?))
+    let text = done_text(lines.begin_line(), buffer)?;
+    lines.push(text)
 }
 
-/// A text as a JSON string.
-fn json_string(alloc: Global, text: &str) -> Result<String, NoMemory>
-    ensures { IfOk result (λ made. string_bytes made ≡ line.json_string text.now) }
+/// A text with the words of a command that ran behind it.
+fn done_text(text: String, buffer: &Buffer) -> Result<String, NoMemory>
+    ensures { IfOk result (λ made. string_bytes made ≡ string_bytes text ++ line.done_line buffer.now) }
 {
-    Value::String(String::from_str(alloc, text)?).to_string(alloc)
+    let mut text = text;
+    text.push_str("done ")?;
+    let mut text = with_json(text, buffer.before.as_str())?;
+    text.push(' ')?;
+    with_json(text, buffer.after.as_str())
+}
+
+/// A text with another as a JSON string behind it. It is written right there, by the writer that `serde_json`
+/// prints with, since `serde_json` itself wants a value and a text of its own.
+#[tactic(auto, using(crate::proofs::LineTexts::print_string))]
+fn with_json(text: String, value: &str) -> Result<String, NoMemory>
+    ensures { IfOk result (λ made. string_bytes made ≡ string_bytes text ++ line.json_string value.now) }
+{
+    let mut writer = Writer::new(text.into_bytes());
+    writer.string(value)?;
+    Ok(String::from_utf8(writer.into_inner()).unwrap())
 }
