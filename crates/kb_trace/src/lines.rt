@@ -138,9 +138,7 @@ pub fn not_found_line(lines: &mut Lines, command: &str) -> Result<(), NoMemory>
     ensures ok { OnOk result (lines.new ≡ lines.old ++ line.not_found_line command.now ∷ []) }
     ensures err { OnErr result (lines.new ≡ lines.old) }
 {
-    let mut text = lines.begin_line();
-    write!(text, "not found {command}")?;
-    lines.push(text)
+    worded(lines, "not found ", command)
 }
 
 /// `bad arguments COMMAND`, for arguments that don't fit the command.
@@ -148,8 +146,17 @@ pub fn bad_arguments_line(lines: &mut Lines, command: &str) -> Result<(), NoMemo
     ensures ok { OnOk result (lines.new ≡ lines.old ++ line.bad_arguments_line command.now ∷ []) }
     ensures err { OnErr result (lines.new ≡ lines.old) }
 {
+    worded(lines, "bad arguments ", command)
+}
+
+/// A line of words and a name.
+fn worded(lines: &mut Lines, words: &str, name: &str) -> Result<(), NoMemory>
+    ensures ok { OnOk result (lines.new ≡ lines.old ++ (words.now ++ name.now) ∷ []) }
+    ensures err { OnErr result (lines.new ≡ lines.old) }
+{
     let mut text = lines.begin_line();
-    write!(text, "bad arguments {command}")?;
+    text.push_str(words)?;
+    text.push_str(name)?;
     lines.push(text)
 }
 
@@ -179,7 +186,7 @@ fn done_text(text: String, buffer: &Buffer) -> Result<String, NoMemory>
     let mut text = text;
     text.push_str("done ")?;
     let mut text = with_json(text, buffer.before.as_str())?;
-    text.push(' ')?;
+    text.push_str(" ")?;
     with_json(text, buffer.after.as_str())
 }
 
