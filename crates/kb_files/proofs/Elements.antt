@@ -2,8 +2,8 @@
 use Rattle.std.proofs.Common.{◌≡◌, List, [], ◌∷◌, refl, ap}
 use Rattle.serde_json.specs.Data.{Data}
 use Rattle.serde_json.specs.View.{items_of}
-use Rattle.kb_files.specs.UserFile.{elements}
+use Rattle.kb_manifest.specs.Parts.{listed}
 
-pub elements_view : (ds : List Data) → elements (items_of ds) ≡ ds
+pub elements_view : (ds : List Data) → listed (items_of ds) ≡ ds
 elements_view [] = refl
 elements_view (d ∷ ds) = ap (λ (rest : List Data). d ∷ rest) (elements_view ds)

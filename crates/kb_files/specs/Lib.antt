@@ -1,5 +1,4 @@
 pub mod Context
-pub mod Fault
 pub mod Layout
 pub mod UserFile
 pub mod Value

@@ -1,10 +1,10 @@
 //! The value of a context key, read from a text.
-ghost use Rattle.kb_context.specs.Reading.{Gives};
+ghost use Rattle.kb_context.specs.Failure.{Gives};
 ghost use Rattle.kb_files.specs.Context.{context_in};
 
-use crate::fault::FileError;
-use crate::value::{read_value, shape_error};
-use kb_context::ContextValue;
+use crate::failures::shape_failure;
+use crate::value::read_value;
+use kb_context::{ContextValue, Failure, Refusal};
 use kb_manifest::read_context;
 use std::alloc::Global;
 
@@ -12,12 +12,12 @@ use std::alloc::Global;
 /// which values there are). A blank text reads as the empty list.
 ///
 /// Errors: the text's fault (1 to 4), or another shape (41); or `NoMemory`.
-pub fn read_context_text(alloc: Global, text: &str) -> Result<ContextValue, FileError>
+pub fn read_context_text(alloc: Global, text: &str) -> Result<ContextValue, Failure<Refusal>>
     ensures { Gives (λ value. value) result (context_in text.now) }
 {
     let value = read_value(alloc, text.as_bytes())?;
     match read_context(alloc, value) {
         Ok(value) => Ok(value),
-        Err(error) => Err(shape_error(error)),
+        Err(failure) => Err(shape_failure(failure)),
     }
 }

@@ -3,12 +3,11 @@
 #![tactic(auto)]
 
 pub mod context_text;
-pub mod fault;
+mod failures;
 pub mod layout_file;
 pub mod user_file;
 mod value;
 
 pub use context_text::read_context_text;
-pub use fault::{FileError, FileFault};
 pub use layout_file::read_scopes;
 pub use user_file::read_user_rules;

@@ -1,0 +1,40 @@
+//! Failures of the layers below, by the numbers of their faults. None of these takes memory.
+ghost use Rattle.std.specs.Prelude.{◌≡◌};
+ghost use Rattle.kb_context.specs.ScopeFault as scope;
+ghost use Rattle.kb_jsonc.specs.Fault as text;
+ghost use Rattle.kb_manifest.specs.FileFault as shape;
+ghost use Rattle.kb_files.specs.Value.{numbered_failure};
+
+use kb_context::{Failure, Refusal, ScopeFault};
+use kb_jsonc::JsoncFault;
+use kb_manifest::FileFault;
+
+/// Why a text gave no JSON value.
+pub(crate) fn text_failure(failure: Failure<JsoncFault>) -> Failure<Refusal>
+    ensures { result ≡ numbered_failure text.number_of failure }
+{
+    match failure {
+        Failure::NoMemory => Failure::NoMemory,
+        Failure::Fault(fault) => Failure::Fault(Refusal::of(fault.number())),
+    }
+}
+
+/// Why a JSON value isn't what the file should hold.
+pub(crate) fn shape_failure(failure: Failure<FileFault>) -> Failure<Refusal>
+    ensures { result ≡ numbered_failure shape.number_of failure }
+{
+    match failure {
+        Failure::NoMemory => Failure::NoMemory,
+        Failure::Fault(misfit) => Failure::Fault(Refusal::of(misfit.number())),
+    }
+}
+
+/// Why a layout gave no scopes.
+pub(crate) fn scope_failure(failure: Failure<ScopeFault>) -> Failure<Refusal>
+    ensures { result ≡ numbered_failure scope.number_of failure }
+{
+    match failure {
+        Failure::NoMemory => Failure::NoMemory,
+        Failure::Fault(bad) => Failure::Fault(Refusal::of(bad.number())),
+    }
+}
