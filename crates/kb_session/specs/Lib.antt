@@ -1,3 +1,4 @@
 pub mod Fault
 pub mod Session
+pub mod Start
 pub mod State

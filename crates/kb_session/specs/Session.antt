@@ -1,67 +1,90 @@
 -- What the calls of a session do to it.
-use Rattle.std.specs.Prelude.{◌≡◌, ℕ, Bool, true, false, List, [], ◌++◌, Option, Result, Ok, Err, ⊤}
-use Rattle.kb_rules.specs.RuleList.{Listed}
-use Rattle.kb_files.specs.declared.fault.FileFault.{FileFault}
+use Rattle.std.specs.Prelude.{◌≡◌, ℕ, true, false, List, [], length, take, Option, Result, Ok, Err}
+use Rattle.kb_context.specs.Scopes.{ScopesData}
+use Rattle.kb_context.specs.declared.refusal.Refusal.{Refusal}
+use Rattle.kb_core.specs.declared.run.Core.{Core}
 use Rattle.kb_files.specs.Layout.{layout_scopes}
 use Rattle.kb_files.specs.UserFile.{user_rules}
-use Rattle.kb_context.specs.Scopes.{ScopesData}
-use Rattle.kb_session.specs.declared.fault.LoadFile.TheVariants.{Layout, User}
+use Rattle.kb_keys.specs.declared.keystroke.Keystroke.{Keystroke}
+use Rattle.kb_rules.specs.RuleList.{Listed}
+use Rattle.kb_session.specs.Fault.{refused_file}
+use Rattle.kb_session.specs.State.{State, Told, happens, Answered, did, refused, step, next, loaded_state}
 use Rattle.kb_session.specs.declared.fault.LoadFault.{LoadFault}
-use Rattle.kb_session.specs.declared.fault.LoadFault.TheVariants as load
+use Rattle.kb_session.specs.declared.fault.LoadFile.TheVariants.{Layout, User}
 use Rattle.kb_session.specs.declared.fault.SessionFault.{SessionFault}
 use Rattle.kb_session.specs.declared.fault.SessionFault.TheVariants.{NoMemory, Stopped}
-use Rattle.kb_session.specs.State.{State, Told, loaded_state, state_after, lines_of, state_after_all, lines_of_all}
+use Rattle.kb_stream.specs.Fold.{Traced, after, after_all, StopsAmong}
+use Rattle.kb_trace.specs.declared.event.Answer.{Answer}
+use Rattle.kb_trace.specs.declared.event.Answer.TheVariants as answer
+use Rattle.kb_trace.specs.declared.event.Event.TheVariants as event
 
--- what contracts see of a session
-pub record Seen : Type 0 where
-  pub state : State
-  pub trace : List (List ℕ)
-  pub stopped : Bool
+-- what contracts see of a session: its state, and the trace that led to it
+abbrev pub Seen : Type 0
+Seen = Traced State
 
 abbrev pub loaded_session : ScopesData → Listed → Seen
-loaded_session scopes user = record { state = loaded_state scopes user; trace = []; stopped = false }
+loaded_session scopes user = record { state = loaded_state scopes user; trace = [] }
 
 -- what the layout and the user's rules load: a session, or the first file's fault
-abbrev pub loaded_by : Result ScopesData FileFault → Result Listed FileFault → Result Seen LoadFault
-loaded_by (Err fault) user = Err (load.Refused Layout fault)
-loaded_by (Ok scopes) (Err fault) = Err (load.Refused User fault)
+abbrev pub loaded_by : Result ScopesData Refusal → Result Listed Refusal → Result Seen LoadFault
+loaded_by (Err refusal) user = Err (refused_file Layout refusal)
+loaded_by (Ok scopes) (Err refusal) = Err (refused_file User refusal)
 loaded_by (Ok scopes) (Ok user) = Ok (loaded_session scopes user)
 
 abbrev pub loaded : Option (List ℕ) → List ℕ → Result Seen LoadFault
 loaded layout user = loaded_by (layout_scopes layout) (user_rules user)
 
--- a load that fails has the fault of a file, or was refused memory
-abbrev pub FailsToLoad : LoadFault → Result Seen LoadFault → Type 0
-FailsToLoad load.NoMemory meant = ⊤
-FailsToLoad (load.Refused of_file fault) meant = meant ≡ Err (load.Refused of_file fault)
+abbrev pub answered : Answer → Answered
+answered answer.Did = did
+answered (answer.Refused r) = refused r
 
--- the session took what it was told: it has the model's state, and the lines behind its trace
-abbrev pub after_told : Told → Seen → Seen
-after_told told old = record { state = state_after told old.state; trace = old.trace ++ lines_of told old.state; stopped = old.stopped }
+-- the session took what it was told
+abbrev pub took : Told → Seen → Seen
+took told old = after (next told old.state) old
 
--- the same of a list, one after the other
-abbrev pub after_all : List Told → Seen → Seen
-after_all told old = record { state = state_after_all told old.state; trace = old.trace ++ lines_of_all told old.state; stopped = old.stopped }
+-- a session that was running took what it was told, and this is its answer
+abbrev pub Takes : Told → Seen → Answer → Seen → Type 0
+Takes told old a new =
+    (old.state.stopped ≡ false) × ((step told old.state).answer ≡ answered a) × (new ≡ took told old)
 
--- the session is stopped, with the trace that it had
-pub record Stops (old new : Seen) : Type 0 where
-  pub stopped : new.stopped ≡ true
-  pub trace : new.trace ≡ old.trace
+-- memory was refused: the session is stopped, and all else is as it was
+abbrev pub halt : Seen → Seen
+halt old = record old { state = record old.state { stopped = true } }
+
+-- the same where a press was half done: the core and the pressed keystrokes may have changed
+abbrev pub half_done : Core → List Keystroke → State → State
+half_done core pressed s = record { core = core; user = s.user; pressed = pressed; stopped = true }
+
+abbrev pub Halts : State → State → Type 0
+Halts old new = new ≡ half_done new.core new.pressed old
+
+-- nothing is half done but by a press, and half an event is never in the trace
+abbrev pub HaltsAt : Told → Seen → Seen → Type 0
+HaltsAt (happens (event.Key key)) old new = Halts old.state new.state × (new.trace ≡ old.trace)
+HaltsAt told old new = new ≡ halt old
 
 -- the fault of one call: memory was refused and the session stops, or it was stopped before and stays as it was
-abbrev pub FailsAt : SessionFault → Seen → Seen → Type 0
-FailsAt NoMemory old new = (old.stopped ≡ false) × Stops old new
-FailsAt Stopped old new = (old.stopped ≡ true) × (new ≡ old)
+abbrev pub FailsAt : SessionFault → Told → Seen → Seen → Type 0
+FailsAt NoMemory told old new = (old.state.stopped ≡ false) × HaltsAt told old new
+FailsAt Stopped told old new = (old.state.stopped ≡ true) × (new ≡ old)
 
--- the session took the first of what it was told, and stopped before the rest; so its trace has the first of the model's lines
-pub record StopsAmong (old : Seen) (told : List Told) (new : Seen) : Type 0 where
-  pub done : List Told
-  pub rest : List Told
-  pub whole : told ≡ done ++ rest
-  pub stops : Stops (after_all done old) new
-  pub model : lines_of_all told old.state ≡ lines_of_all done old.state ++ lines_of_all rest (state_after_all done old.state)
-
--- the fault of a run
+-- the fault of a run: memory was refused in one of the events, or the session was stopped, and takes nothing
 abbrev pub FailsAmong : SessionFault → List Told → Seen → Seen → Type 0
-FailsAmong NoMemory told old new = (old.stopped ≡ false) × StopsAmong old told new
-FailsAmong Stopped told old new = (old.stopped ≡ true) × (new ≡ old)
+FailsAmong NoMemory told old new = (old.state.stopped ≡ false) × StopsAmong next Halts told old new
+FailsAmong Stopped told old new = (new.state.stopped ≡ true) × (new ≡ after_all next told old)
+
+-- ---- for private functions: memory was refused, and the trace goes back to what it was
+
+-- the old lines come first
+abbrev pub Begins : List (List ℕ) → List (List ℕ) → Type 0
+Begins old new = take (length old) new ≡ old
+
+-- nothing but lines was added
+abbrev pub Undone : Seen → Seen → Type 0
+Undone old new = (new.state ≡ old.state) × Begins old.trace new.trace
+
+-- a press was half done
+abbrev pub HalfDone : Seen → Seen → Type 0
+HalfDone old new =
+    (new.state ≡ record old.state { core = new.state.core; pressed = new.state.pressed })
+    × Begins old.trace new.trace

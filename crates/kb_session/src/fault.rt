@@ -1,9 +1,8 @@
-//! Why a load or a call of a session was refused. The numbers and the names are the engine's own.
+//! Why a load or a call of a session was refused. The numbers are the engine's own.
 ghost use Rattle.std.specs.Prelude.{◌≡◌};
 ghost use Rattle.kb_session.specs.Fault as fault;
 
-use kb_context::NoMemory;
-use kb_files::FileFault;
+use kb_context::{Failure, NoMemory, Refusal};
 use std::fmt;
 use thiserror::Error;
 
@@ -16,15 +15,11 @@ pub enum LoadFile {
     User,
 }
 
-/// Why a session was not loaded.
-#[derive(Clone, Copy, Debug, PartialEq, Eq, Error)]
-pub enum LoadFault {
-    /// Memory was refused.
-    #[error("out of memory")]
-    NoMemory,
-    /// A file is refused: the first in the order of loading that has a fault, with its first.
-    #[error("{0}: {1}")]
-    Refused(LoadFile, FileFault),
+/// Why a session was not loaded: the first file in the order of loading that is refused, and why.
+#[derive(Debug, Drop)]
+pub struct LoadFault {
+    pub file: LoadFile,
+    pub refusal: Refusal,
 }
 
 /// Why a call of a session did nothing more.
@@ -53,25 +48,13 @@ impl fmt::Display for LoadFile {
     }
 }
 
-impl LoadFault {
-    /// The number under which the engine lists the fault.
-    pub fn number(self) -> u32
-        ensures { result ≡ fault.load_number self }
-    {
-        match self {
-            LoadFault::NoMemory => 5,
-            LoadFault::Refused(_, file_fault) => file_fault.number(),
-        }
-    }
-
-    /// The name under which the engine lists the fault.
-    pub fn name(self) -> &'static str
-        ensures { result.now ≡ fault.load_name self }
-    {
-        match self {
-            LoadFault::NoMemory => "NoMemory",
-            LoadFault::Refused(_, file_fault) => file_fault.name(),
-        }
+/// Why a load failed, by the failure of one of its files. It takes no memory.
+pub(crate) fn failure_of(file: LoadFile, failure: Failure<Refusal>) -> Failure<LoadFault>
+    ensures { result ≡ fault.failure_of file failure }
+{
+    match failure {
+        Failure::NoMemory => Failure::NoMemory,
+        Failure::Fault(refusal) => Failure::Fault(LoadFault { file, refusal }),
     }
 }
 
@@ -85,16 +68,6 @@ impl SessionFault {
             SessionFault::Stopped => 97,
         }
     }
-
-    /// The name under which the engine lists the fault.
-    pub fn name(self) -> &'static str
-        ensures { result.now ≡ fault.session_name self }
-    {
-        match self {
-            SessionFault::NoMemory => "NoMemory",
-            SessionFault::Stopped => "Stopped",
-        }
-    }
 }
 
 impl From<NoMemory> for SessionFault {
@@ -105,16 +78,5 @@ impl From<NoMemory> for SessionFault {
 
     fn from(_refused: NoMemory) -> SessionFault {
         SessionFault::NoMemory
-    }
-}
-
-impl From<NoMemory> for LoadFault {
-    ghost use Rattle.std.specs.Prelude.{◌≡◌};
-    ghost use Rattle.kb_session.specs.declared.fault.LoadFault.TheVariants as variant;
-
-    ghost from_gives = { λ _ made. made ≡ variant.NoMemory };
-
-    fn from(_refused: NoMemory) -> LoadFault {
-        LoadFault::NoMemory
     }
 }

@@ -3,9 +3,11 @@
 
 pub mod fault;
 pub mod inputs;
+mod press;
 pub mod session;
-mod start;
+pub mod start;
 
 pub use fault::{LoadFault, LoadFile, SessionFault};
 pub use inputs::Inputs;
 pub use session::Session;
+pub use start::Finish;

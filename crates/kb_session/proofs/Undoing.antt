@@ -1,0 +1,17 @@
+-- A trace that goes back to what it was.
+use Rattle.std.proofs.Common.{◌≡◌, ℕ, List, ◌++◌, sym, ap, ◌∙◌, subst, length, take, append-nil, []}
+use Rattle.std.proofs.Math.Seq.{take-append_seam}
+use Rattle.kb_session.specs.Session.{Begins}
+
+pub begins_same : (old new : List (List ℕ)) → new ≡ old → Begins old new
+begins_same old new same =
+    ap (take (length old)) (same ∙ sym (append-nil old)) ∙ take-append_seam old []
+
+pub begins_more : (old new more : List (List ℕ)) → new ≡ old ++ more → Begins old new
+begins_more old new more is = ap (take (length old)) is ∙ take-append_seam old more
+
+-- lines were added, and then nothing more
+pub begins_still : (old mid new more : List (List ℕ)) → mid ≡ old ++ more → new ≡ mid → Begins old new
+begins_still old mid new more is same = begins_more old new more (same ∙ is)
+
+pub ruleset undoing = (begins_same, begins_more, begins_still)

@@ -1,0 +1,70 @@
+//! A press: the rule that it starts, and the lines of that.
+ghost use Rattle.std.specs.Prelude.{◌≡◌, ◌++◌, OnOk, OnErr, option_map, string_bytes};
+ghost use Rattle.kb_context.specs.Scopes.{context};
+ghost use Rattle.kb_resolve.specs.ChordState as chord;
+ghost use Rattle.kb_session.specs.Session.{Begins};
+ghost use Rattle.kb_session.specs.Start.{press_started, rule_started};
+ghost use Rattle.kb_trace.specs.Lines as line;
+
+use crate::start::start_command;
+use kb_context::NoMemory;
+use kb_core::HeldCore;
+use kb_keys::Keystroke;
+use kb_resolve::{ChordState, Pressed, Resolver};
+use kb_rules::Rule;
+use kb_stream::Lines;
+use kb_trace::lines;
+use std::alloc::Global;
+
+/// Presses a key, which may start a rule's command, and adds the lines of that. Where memory is refused,
+/// the old lines still come first.
+#[tactic(auto, using(crate::proofs::Undoing::undoing))]
+pub(crate) fn press_key(
+    alloc: Global,
+    key: Keystroke,
+    core: &mut HeldCore,
+    open: &mut ChordState,
+    resolver: &Resolver,
+    trace: &mut Lines,
+) -> Result<(), NoMemory>
+    ensures core { let does = chord.step open.old key (context core.old.scopes) resolver.now in
+        OnOk result (core.new ≡ (press_started (line.key_text open.old key) does core.old).core) }
+    ensures trace { let does = chord.step open.old key (context core.old.scopes) resolver.now in
+        OnOk result (trace.new ≡ trace.old ++ (press_started (line.key_text open.old key) does core.old).lines) }
+    ensures pressed { OnOk result
+        (open.new ≡ chord.pressed_after open.old key (context core.old.scopes) resolver.now) }
+    ensures err { OnErr result (Begins trace.old trace.new) }
+{
+    let key = &key;
+    let text = lines::key_text(trace, open.pressed(), *key)?;
+    match open.press(*key, resolver, &core.core().scopes)? {
+        Pressed::Start(rule) => start_rule(alloc, text, rule, core, trace),
+        Pressed::More => lines::ended(trace, text, ": chord"),
+        Pressed::Left => lines::ended(trace, text, ": left"),
+        Pressed::Unbound => lines::ended(trace, text, ": unbound"),
+    }
+}
+
+/// Starts the command of a rule, and adds its lines, the first of which begins with a text.
+#[tactic(auto, using(crate::proofs::Undoing::undoing))]
+fn start_rule(
+    alloc: Global,
+    text: String,
+    rule: &Rule,
+    core: &mut HeldCore,
+    trace: &mut Lines,
+) -> Result<(), NoMemory>
+    ensures core { OnOk result
+        (core.new ≡ (rule_started (string_bytes text) rule.now.command rule.now.args core.old).core) }
+    ensures trace { OnOk result (trace.new
+        ≡ trace.old ++ (rule_started (string_bytes text) rule.now.command rule.now.args core.old).lines) }
+    ensures err { OnErr result (Begins trace.old trace.new) }
+{
+    let command = rule.command.as_str();
+    if command.is_empty() {
+        return lines::ended(trace, text, ": no action");
+    }
+    lines::start_line(trace, text, command)?;
+    start_command(alloc, command, rule.args.as_ref(), core, trace)?;
+    Ok(())
+}
