@@ -8,7 +8,7 @@ use Rattle.kb_files.specs.UserFile.{user_rules}
 use Rattle.kb_keys.specs.declared.keystroke.Keystroke.{Keystroke}
 use Rattle.kb_rules.specs.RuleList.{Listed}
 use Rattle.kb_session.specs.Fault.{refused_file}
-use Rattle.kb_session.specs.State.{State, Told, happens, Answered, did, refused, step, next, loaded_state}
+use Rattle.kb_session.specs.State.{State, Told, happens, Answered, did, refused, step, step_on, out_of, next, loaded_state}
 use Rattle.kb_session.specs.declared.fault.LoadFault.{LoadFault}
 use Rattle.kb_session.specs.declared.fault.LoadFile.TheVariants.{Layout, User}
 use Rattle.kb_session.specs.declared.fault.SessionFault.{SessionFault}
@@ -73,7 +73,12 @@ abbrev pub FailsAmong : SessionFault → List Told → Seen → Seen → Type 0
 FailsAmong NoMemory told old new = (old.state.stopped ≡ false) × StopsAmong next Halts told old new
 FailsAmong Stopped told old new = (new.state.stopped ≡ true) × (new ≡ after_all next told old)
 
--- ---- for private functions: memory was refused, and the trace goes back to what it was
+-- ---- for private functions
+
+-- a session that is running took what it was told, and this is its answer
+abbrev pub Does : Told → Seen → Answer → Seen → Type 0
+Does told old a new =
+    ((step_on told old.state).answer ≡ answered a) × (new ≡ after (out_of (step_on told old.state)) old)
 
 -- the old lines come first
 abbrev pub Begins : List (List ℕ) → List (List ℕ) → Type 0

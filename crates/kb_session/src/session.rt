@@ -1,37 +1,41 @@
 //! A session: its state, what it is told and does, and the trace of that.
-ghost use Rattle.std.specs.Prelude.{◌≡◌, false, [], ◌∷◌, ◌++◌, OnOk, OnErr, IfOk, IfErr, map, option_map, Ok, string_bytes};
+ghost use Rattle.std.specs.Prelude.{◌≡◌, true, false, [], ◌∷◌, ◌++◌, OnOk, OnErr, IfOk, IfErr, take, map, option_map};
+ghost use Rattle.kb_context.specs.Failure.{Gives};
+ghost use Rattle.kb_context.specs.Refusal.{refused_for};
+ghost use Rattle.kb_context.specs.ScopeFault.{number_of};
+ghost use Rattle.kb_session.specs.Session.{loaded, Takes, Does, halt, Undone, HalfDone, FailsAt, FailsAmong};
+ghost use Rattle.kb_session.specs.State.{happens, reload, next, left_lines};
+ghost use Rattle.kb_session.specs.declared.fault.SessionFault.TheVariants.{NoMemory};
+ghost use Rattle.kb_stream.specs.Fold.{after_all};
 ghost use Rattle.kb_trace.specs.Lines as line;
-ghost use Rattle.kb_session.specs.State as model;
-ghost use Rattle.kb_session.specs.State.{happens, reload};
-ghost use Rattle.kb_trace.specs.declared.event.Answer.TheVariants.{Refused};
-ghost use Rattle.kb_session.specs.Session.{loaded, FailsToLoad, after_told, after_all, Stops, FailsAt, FailsAmong};
 
-use crate::fault::{LoadFault, LoadFile, SessionFault};
+use crate::fault::{LoadFault, LoadFile, SessionFault, failure_of};
 use crate::inputs::Inputs;
-use crate::start::start_command;
-use kb_context::{ContextValue, NoMemory, ReadError, ScopeFault, Scopes, Seq, Text, UnknownScope};
+use crate::press::press_key;
+use kb_context::{ContextValue, Failure, NoMemory, Refusal, ScopeFault};
 use kb_core::{Core, HeldCore};
 use kb_files::{read_scopes, read_user_rules};
 use kb_keys::Keystroke;
-use kb_resolve::{ChordState, Pressed, Resolver};
-use kb_rules::{Rule, RuleList, RuleSet, Warning};
-use kb_trace::{Answer, Event, Refusal, lines};
+use kb_resolve::{ChordState, Resolver};
+use kb_rules::{RuleList, RuleSet, Warning};
+use kb_stream::Lines;
+use kb_trace::{Answer, Event, lines};
 use std::alloc::{AllocError, Global};
 use std::collections::VecDeque;
 use std::marker::Model;
 
-/// A session of the engine. Contracts see its state (the core with its text and scopes, the user's rules and the keystrokes
-/// of the chord that is open), its trace, and whether it is stopped. Once memory was refused it is
-/// stopped for good: each later call answers `Stopped`, and `trace` gives the lines up to the one
-/// call that was refused memory.
+/// A session of the engine. Contracts see its state (the core with its text and scopes, the user's rules, the
+/// keystrokes of the chord that is open, and whether it is stopped), and the trace that led to it. Once memory
+/// was refused it is stopped for good: each later call answers `Stopped`, and `trace` gives the lines up to the
+/// one call that was refused memory.
 #[derive(Drop)]
 pub struct Session {
     core: HeldCore,
     user: RuleList,
     resolver: Resolver,
     chord: ChordState,
-    trace: Seq<Text>,
     stopped: bool,
+    trace: Lines,
     alloc: Global,
 }
 
@@ -41,13 +45,17 @@ impl Model for Session {
     ghost use Rattle.kb_core.specs.contracts.run.Core as whole;
     ghost use Rattle.kb_rules.specs.contracts.rule.Rule as rule;
     ghost use Rattle.kb_rules.specs.contracts.warning.Warning as warning;
-    ghost use Rattle.kb_session.specs.Session.{Seen};
+    ghost use Rattle.kb_session.specs.State.{State};
+    ghost use Rattle.kb_stream.specs.Fold.{Traced};
 
-    ghost Value = { Seen };
+    ghost Value = { Traced State };
 
     ghost coded = { Prim.hlevel (codes, whole.the_row.coded, rule.the_row.coded, warning.the_row.coded) };
 
-    ghost view = { λ s. record { state = record { core = s.core; user = s.user; pressed = s.chord }; trace = s.trace; stopped = s.stopped } };
+    ghost view = { λ s. record {
+        state = record { core = s.core; user = s.user; pressed = s.chord; stopped = s.stopped };
+        trace = s.trace;
+    } };
 
     // The search is among the user's rules.
     ghost invariant = { λ s. s.resolver ≡ s.user.rules };
@@ -56,42 +64,37 @@ impl Model for Session {
 impl Session {
     /// A session of these files, without text and trace.
     ///
-    /// Errors: `Refused` with the first file that has a fault, and its first fault; `NoMemory`.
-    pub fn load(alloc: Global, inputs: Inputs<'_>) -> Result<Session, LoadFault>
-        ensures ok { IfOk result (λ session. loaded (option_map (λ layout. layout.now) inputs.entry.layout) inputs.entry.user.now ≡ Ok session) }
-        ensures err { IfErr result (λ fault. FailsToLoad fault (loaded (option_map (λ layout. layout.now) inputs.entry.layout) inputs.entry.user.now)) }
+    /// Errors: the first file that is refused, and why (layout: 1 to 4, 40, 41, 21, 22; user's rules: 1 to 4, 41);
+    /// or refused memory.
+    pub fn load(alloc: Global, inputs: Inputs<'_>) -> Result<Session, Failure<LoadFault>>
+        ensures { Gives (λ session. session) result
+            (loaded (option_map (λ layout. layout.now) inputs.entry.layout) inputs.entry.user.now) }
     {
         let scopes = match read_scopes(alloc, inputs.layout) {
             Ok(scopes) => scopes,
-            Err(ReadError::NoMemory) => return Err(LoadFault::NoMemory),
-            Err(ReadError::Fault(fault)) => {
-                return Err(LoadFault::Refused(LoadFile::Layout, fault));
-            }
+            Err(failure) => return Err(failure_of(LoadFile::Layout, failure)),
         };
         let user = match read_user_rules(alloc, inputs.user) {
             Ok(user) => user,
-            Err(ReadError::NoMemory) => return Err(LoadFault::NoMemory),
-            Err(ReadError::Fault(fault)) => {
-                return Err(LoadFault::Refused(LoadFile::User, fault));
-            }
+            Err(failure) => return Err(failure_of(LoadFile::User, failure)),
         };
-        let resolver = resolver_of(alloc, &user)?;
+        let resolver = Resolver::new(RuleSet::assemble(alloc, &user)?);
         Ok(Session {
             core: HeldCore::new(Core::new(alloc, scopes)),
             user,
             resolver,
             chord: ChordState::new(alloc),
-            trace: Seq::new(alloc),
             stopped: false,
+            trace: Lines::new(alloc),
             alloc,
         })
     }
 
     /// All lines that the session has written, the first first. It takes no memory.
-    pub fn trace(&self) -> &[Text]
+    pub fn trace(&self) -> &Lines
         ensures { result.now ≡ self.now.trace }
     {
-        self.trace.as_slice()
+        &self.trace
     }
 
     /// What was dropped of the user's rules as they stand, in the order of the file. It takes no
@@ -102,17 +105,34 @@ impl Session {
         self.user.warnings()
     }
 
+    /// Whether memory was refused, so that each call answers `Stopped`. It takes no memory.
+    pub fn is_stopped(&self) -> bool
+        ensures { result ≡ self.now.state.stopped }
+    {
+        self.stopped
+    }
+
+    /// Stops the session, as refused memory does: a caller that was refused memory for what it was
+    /// to tell the session stops it, so that no later line follows one that is missing. It takes no
+    /// memory.
+    pub fn stop(&mut self)
+        ensures { self.new ≡ halt self.old }
+    {
+        self.stopped = true;
+    }
+
     /// Handles one event.
     ///
-    /// Errors: `Stopped` where the session was stopped before; `NoMemory` where memory was
-    /// refused: the trace is as before the event, and the session is stopped.
+    /// Errors: `Stopped` where the session was stopped before; `NoMemory` where memory was refused: the session
+    /// is stopped and else as before, but for the core and the chord where the event is a press.
     pub fn handle(&mut self, event: Event) -> Result<Answer, SessionFault>
-        ensures ok { IfOk result (λ answer. (self.old.stopped ≡ false) × (answer ≡ model.answer_to (happens event) self.old.state) × (self.new ≡ after_told (happens event) self.old)) }
-        ensures err { IfErr result (λ fault. FailsAt fault self.old self.new) }
+        ensures ok { IfOk result (λ answer. Takes (happens event) self.old answer self.new) }
+        ensures err { IfErr result (λ fault. FailsAt fault (happens event) self.old self.new) }
     {
         if self.stopped {
             return Err(SessionFault::Stopped);
         }
+        let mark = self.trace.len();
         let done = match event {
             Event::Key(key) => self.press(key),
             Event::Focus(scope) => self.focus(scope.as_str()),
@@ -122,30 +142,26 @@ impl Session {
         };
         match done {
             Ok(answer) => Ok(answer),
-            Err(_) => {
-                self.stop();
-                Err(SessionFault::NoMemory)
-            }
+            Err(_) => Err(self.halted_at(mark)),
         }
     }
 
     /// Reads the user's rules anew, from the bytes of their file. Rules that are taken leave a chord
     /// that is open (our decision). A file that is refused changes nothing but the trace.
     ///
-    /// Errors: as `handle`.
+    /// Errors: `Stopped` where the session was stopped before; `NoMemory` where memory was refused: the session
+    /// is stopped and else as before.
     pub fn reload_user(&mut self, bytes: &[u8]) -> Result<Answer, SessionFault>
-        ensures ok { IfOk result (λ answer. (self.old.stopped ≡ false) × (answer ≡ model.answer_to (reload bytes.now) self.old.state) × (self.new ≡ after_told (reload bytes.now) self.old)) }
-        ensures err { IfErr result (λ fault. FailsAt fault self.old self.new) }
+        ensures ok { IfOk result (λ answer. Takes (reload bytes.now) self.old answer self.new) }
+        ensures err { IfErr result (λ fault. FailsAt fault (reload bytes.now) self.old self.new) }
     {
         if self.stopped {
             return Err(SessionFault::Stopped);
         }
+        let mark = self.trace.len();
         match self.reload(bytes) {
             Ok(answer) => Ok(answer),
-            Err(_) => {
-                self.stop();
-                Err(SessionFault::NoMemory)
-            }
+            Err(_) => Err(self.halted_at(mark)),
         }
     }
 
@@ -155,7 +171,8 @@ impl Session {
     /// in an event: no later one is handled, and the session is stopped.
     #[tactic(auto, using(crate::proofs::Runs::progress))]
     pub fn run(&mut self, events: Vec<Event>) -> Result<(), SessionFault>
-        ensures ok { OnOk result ((self.old.stopped ≡ false) × (self.new ≡ after_all (map happens events.items) self.old)) }
+        ensures running { OnOk result (self.old.state.stopped ≡ false) }
+        ensures ok { OnOk result (self.new ≡ after_all next (map happens events.items) self.old) }
         ensures err { IfErr result (λ fault. FailsAmong fault (map happens events.items) self.old self.new) }
     {
         if self.stopped {
@@ -168,189 +185,156 @@ impl Session {
         Ok(())
     }
 
-    /// Whether memory was refused, so that each call answers `Stopped`. It takes no memory.
-    pub fn is_stopped(&self) -> bool
-        ensures { result ≡ self.now.stopped }
+    /// Takes back all lines but the first ones, and stops the session.
+    fn halted_at(&mut self, mark: usize) -> SessionFault
+        ensures session { self.new ≡ halt (record self.old { trace = take mark self.old.trace }) }
+        ensures fault { result ≡ NoMemory }
     {
-        self.stopped
-    }
-
-    /// Stops the session, as refused memory does: a caller that was refused memory for what it was
-    /// to tell the session stops it, so that no later line follows one that is missing. It takes no
-    /// memory.
-    pub fn stop(&mut self)
-        ensures { Stops self.old self.new }
-    {
-        self.stopped = true;
+        self.trace.truncate(mark);
+        self.stop();
+        SessionFault::NoMemory
     }
 
     fn press(&mut self, key: Keystroke) -> Result<Answer, NoMemory>
-        ensures ok { IfOk result (λ answer. (answer ≡ model.answer_to (happens (Event.Key key)) self.old.state) × (self.new ≡ after_told (happens (Event.Key key)) self.old)) }
-        ensures err { OnErr result (self.new.trace ≡ self.old.trace) }
+        ensures ok { IfOk result (λ answer. Does (happens (Event.Key key)) self.old answer self.new) }
+        ensures err { OnErr result (HalfDone self.old self.new) }
     {
-        self.press_key(key)?;
+        press_key(
+            self.alloc,
+            key,
+            &mut self.core,
+            &mut self.chord,
+            &self.resolver,
+            &mut self.trace,
+        )?;
         Ok(Answer::Did)
     }
 
-    fn press_key(&mut self, key: Keystroke) -> Result<(), NoMemory>
-        ensures ok { OnOk result (self.new ≡ after_told (happens (Event.Key key)) self.old) }
-        ensures err { OnErr result (self.new.trace ≡ self.old.trace) }
-    {
-        let key = &key;
-        let text = lines::key_text(self.alloc, self.chord.pressed(), *key)?;
-        let scopes = &self.core.core().scopes;
-        match self.chord.press(*key, &self.resolver, scopes)? {
-            Pressed::Start(rule) => start_rule(
-                self.alloc,
-                text,
-                &rule,
-                &mut self.core,
-                &mut self.trace,
-            ),
-            Pressed::More => self.trace.push(lines::ended(text, ": chord")?),
-            Pressed::Left => self.trace.push(lines::ended(text, ": left")?),
-            Pressed::Unbound => self.trace.push(lines::ended(text, ": unbound")?),
-        }
-    }
-
-    /// Gives the focus to a scope. A chord that is open is left (our decision).
+    /// Gives the focus to a scope. A chord that is open is left (our decision). The lines come first, since
+    /// they take memory and the rest doesn't.
+    #[tactic(auto, using(crate::proofs::Undoing::undoing))]
     fn focus(&mut self, scope: &str) -> Result<Answer, NoMemory>
-        ensures ok { IfOk result (λ answer. (answer ≡ model.answer_to (happens (Event.Focus scope.now)) self.old.state) × (self.new ≡ after_told (happens (Event.Focus scope.now)) self.old)) }
-        ensures err { OnErr result (self.new.trace ≡ self.old.trace) }
+        ensures ok { IfOk result (λ answer. Does (happens (Event.Focus scope.now)) self.old answer self.new) }
+        ensures err { OnErr result (Undone self.old self.new) }
     {
-        match self.core.focus(scope) {
+        let mark = self.trace.len();
+        self.note_leaving()?;
+        lines::focus_line(&mut self.trace, scope)?;
+        match self.core.scopes_mut().focus(scope) {
             Ok(()) => {
-                self.leave_chord(lines::focus_line(self.alloc, scope)?)?;
+                self.chord.leave();
                 Ok(Answer::Did)
             }
-            Err(UnknownScope) => self.refuse(Refusal::UnknownScope),
+            Err(_) => self.refuse_instead(mark, ScopeFault::UnknownScope),
         }
     }
 
-    /// Gives a key a value in a scope. A chord that is open stays (our decision).
+    /// Gives a key a value in a scope. A chord that is open stays (our decision). The line comes first, since
+    /// what is done can't be undone.
+    #[tactic(auto, using(crate::proofs::Undoing::undoing))]
     fn set_key(&mut self, scope: &str, key: &str, value: ContextValue) -> Result<Answer, NoMemory>
-        ensures ok { IfOk result (λ answer. (answer ≡ model.answer_to (happens (Event.SetKey scope.now key.now value)) self.old.state) × (self.new ≡ after_told (happens (Event.SetKey scope.now key.now value)) self.old)) }
-        ensures err { OnErr result (self.new.trace ≡ self.old.trace) }
+        ensures ok { IfOk result (λ answer.
+            Does (happens (Event.SetKey scope.now key.now value)) self.old answer self.new) }
+        ensures err { OnErr result (Undone self.old self.new) }
     {
-        match self.core.set(scope, key, value) {
-            Ok(()) => {
-                self.trace.push(lines::set_line(self.alloc, scope, key)?)?;
-                Ok(Answer::Did)
-            }
-            Err(ScopeFault::UnknownScope) => self.refuse(Refusal::UnknownScope),
-            Err(ScopeFault::TooManyKeys) => self.refuse(Refusal::TooManyKeys),
-            Err(ScopeFault::BadLayout) | Err(ScopeFault::NoMemory) => Err(AllocError),
+        let mark = self.trace.len();
+        lines::set_line(&mut self.trace, scope, key)?;
+        match self.core.scopes_mut().set(scope, key, value) {
+            Ok(()) => Ok(Answer::Did),
+            Err(Failure::Fault(fault)) => self.refuse_instead(mark, fault),
+            Err(Failure::NoMemory) => Err(AllocError),
         }
     }
 
-    /// Takes a key out of a scope. A chord that is open stays (our decision).
+    /// Takes a key out of a scope. A chord that is open stays (our decision). The line comes first, since it
+    /// takes memory and the rest doesn't.
+    #[tactic(auto, using(crate::proofs::Undoing::undoing))]
     fn unset_key(&mut self, scope: &str, key: &str) -> Result<Answer, NoMemory>
-        ensures ok { IfOk result (λ answer. (answer ≡ model.answer_to (happens (Event.UnsetKey scope.now key.now)) self.old.state) × (self.new ≡ after_told (happens (Event.UnsetKey scope.now key.now)) self.old)) }
-        ensures err { OnErr result (self.new.trace ≡ self.old.trace) }
+        ensures ok { IfOk result (λ answer.
+            Does (happens (Event.UnsetKey scope.now key.now)) self.old answer self.new) }
+        ensures err { OnErr result (Undone self.old self.new) }
     {
-        match self.core.unset(scope, key) {
-            Ok(()) => {
-                self.trace.push(lines::unset_line(self.alloc, scope, key)?)?;
-                Ok(Answer::Did)
-            }
-            Err(UnknownScope) => self.refuse(Refusal::UnknownScope),
+        let mark = self.trace.len();
+        lines::unset_line(&mut self.trace, scope, key)?;
+        match self.core.scopes_mut().unset(scope, key) {
+            Ok(()) => Ok(Answer::Did),
+            Err(_) => self.refuse_instead(mark, ScopeFault::UnknownScope),
         }
     }
 
+    #[tactic(auto, using(crate::proofs::Undoing::undoing))]
     fn note_unread(&mut self, number: u64) -> Result<Answer, NoMemory>
-        ensures ok { IfOk result (λ answer. (answer ≡ model.answer_to (happens (Event.Unread number)) self.old.state) × (self.new ≡ after_told (happens (Event.Unread number)) self.old)) }
-        ensures err { OnErr result (self.new.trace ≡ self.old.trace) }
+        ensures ok { IfOk result (λ answer. Does (happens (Event.Unread number)) self.old answer self.new) }
+        ensures err { OnErr result (Undone self.old self.new) }
     {
-        self.trace.push(lines::unread_line(self.alloc, number)?)?;
+        lines::unread_line(&mut self.trace, number)?;
         Ok(Answer::Did)
     }
 
-    /// Leaves the chord, and notes the line of the event that leaves it, behind that of the chord.
-    fn leave_chord(&mut self, line: Text) -> Result<(), NoMemory>
-        ensures ok { OnOk result (self.new ≡ record self.old { state = record self.old.state { pressed = [] }; trace = self.old.trace ++ (model.left_lines self.old.state.pressed ++ line ∷ []) }) }
-        ensures err { OnErr result (self.new.trace ≡ self.old.trace) }
+    /// Notes that a chord is left, if one is open.
+    fn note_leaving(&mut self) -> Result<(), NoMemory>
+        ensures ok { OnOk result
+            (self.new ≡ record self.old { trace = self.old.trace ++ left_lines self.old.state.pressed }) }
+        ensures err { OnErr result (self.new ≡ self.old) }
     {
-        note_leaving(self.alloc, self.chord.pressed(), line, &mut self.trace)?;
-        self.chord.leave();
-        Ok(())
+        let pressed = self.chord.pressed();
+        if pressed.is_empty() {
+            return Ok(());
+        }
+        lines::left_line(&mut self.trace, pressed)
+    }
+
+    /// Takes back all lines but the first ones, and notes the line of a refusal in their place.
+    fn refuse_instead(&mut self, mark: usize, fault: ScopeFault) -> Result<Answer, NoMemory>
+        ensures answer { IfOk result (λ answer. answer ≡ Answer.Refused (refused_for (number_of fault))) }
+        ensures ok { OnOk result (self.new ≡ record self.old {
+            trace = take mark self.old.trace ++ line.refused_line (refused_for (number_of fault)) ∷ [] }) }
+        ensures err { OnErr result (self.new ≡ record self.old { trace = take mark self.old.trace }) }
+    {
+        self.trace.truncate(mark);
+        self.refuse(Refusal::of(fault.number()))
     }
 
     /// Notes the line of a refusal.
     fn refuse(&mut self, refusal: Refusal) -> Result<Answer, NoMemory>
-        ensures ok { IfOk result (λ answer. (answer ≡ Refused refusal) × (self.new ≡ record self.old { trace = self.old.trace ++ line.refused_line refusal ∷ [] })) }
-        ensures err { OnErr result (self.new.trace ≡ self.old.trace) }
+        ensures answer { IfOk result (λ answer. answer ≡ Answer.Refused refusal) }
+        ensures ok { OnOk result
+            (self.new ≡ record self.old { trace = self.old.trace ++ line.refused_line refusal ∷ [] }) }
+        ensures err { OnErr result (self.new ≡ self.old) }
     {
-        self.trace.push(lines::refused_line(self.alloc, refusal)?)?;
+        lines::refused_line(&mut self.trace, &refusal)?;
         Ok(Answer::Refused(refusal))
     }
 
+    #[tactic(auto, using(crate::proofs::Undoing::undoing))]
     fn reload(&mut self, bytes: &[u8]) -> Result<Answer, NoMemory>
-        ensures ok { IfOk result (λ answer. (answer ≡ model.answer_to (reload bytes.now) self.old.state) × (self.new ≡ after_told (reload bytes.now) self.old)) }
-        ensures err { OnErr result (self.new.trace ≡ self.old.trace) }
+        ensures ok { IfOk result (λ answer. Does (reload bytes.now) self.old answer self.new) }
+        ensures err { OnErr result (Undone self.old self.new) }
     {
         match read_user_rules(self.alloc, bytes) {
             Ok(user) => {
                 self.take_rules(user)?;
                 Ok(Answer::Did)
             }
-            Err(ReadError::Fault(fault)) => self.refuse(Refusal::File(fault)),
-            Err(ReadError::NoMemory) => Err(AllocError),
+            Err(Failure::Fault(refusal)) => self.refuse(refusal),
+            Err(Failure::NoMemory) => Err(AllocError),
         }
     }
 
-    /// Takes rules of the user in the place of those that it has.
+    /// Takes rules of the user in the place of those that it has. What takes memory comes first.
+    #[tactic(auto, using(crate::proofs::Undoing::undoing))]
     fn take_rules(&mut self, user: RuleList) -> Result<(), NoMemory>
-        ensures ok { OnOk result (self.new ≡ record self.old { state = model.state_reloaded (Ok user) self.old.state; trace = self.old.trace ++ model.reload_lines (Ok user) self.old.state }) }
-        ensures err { OnErr result (self.new.trace ≡ self.old.trace) }
+        ensures ok { OnOk result (self.new ≡ record self.old {
+            state = record self.old.state { user = user; pressed = [] };
+            trace = self.old.trace ++ (left_lines self.old.state.pressed ++ line.reloaded_line ∷ []) }) }
+        ensures err { OnErr result (Undone self.old self.new) }
     {
-        let resolver = resolver_of(self.alloc, &user)?;
-        self.leave_chord(lines::reloaded_line(self.alloc)?)?;
+        let resolver = Resolver::new(RuleSet::assemble(self.alloc, &user)?);
+        self.note_leaving()?;
+        lines::reloaded_line(&mut self.trace)?;
+        self.chord.leave();
         self.resolver = resolver;
         self.user = user;
         Ok(())
     }
-}
-
-/// The search among the user's rules.
-fn resolver_of(alloc: Global, user: &RuleList) -> Result<Resolver, NoMemory>
-    ensures { IfOk result (λ resolver. resolver ≡ user.now.rules) }
-{
-    let rules = RuleSet::assemble(alloc, user)?;
-    Resolver::build(alloc, &rules)
-}
-
-/// Notes the line of an event that leaves a chord, and before it the chord, if one is open.
-fn note_leaving(
-    alloc: Global,
-    pressed: &[Keystroke],
-    line: Text,
-    trace: &mut Seq<Text>,
-) -> Result<(), NoMemory>
-    ensures ok { OnOk result (trace.new ≡ trace.old ++ (model.left_lines pressed.now ++ line ∷ [])) }
-    ensures err { OnErr result (trace.new ≡ trace.old) }
-{
-    if pressed.is_empty() {
-        return trace.push(line);
-    }
-    trace.push_two(lines::left_line(alloc, pressed)?, line)
-}
-
-/// Starts the command of a rule, and notes its lines, the first of which begins with a text.
-fn start_rule(
-    alloc: Global,
-    text: String,
-    rule: &Rule,
-    core: &mut HeldCore,
-    trace: &mut Seq<Text>,
-) -> Result<(), NoMemory>
-    ensures core { OnOk result (core.new ≡ model.core_after_rule rule.now.command rule.now core.old) }
-    ensures trace { OnOk result (trace.new ≡ trace.old ++ model.rule_lines (string_bytes text) rule.now.command rule.now core.old) }
-    ensures err { OnErr result (trace.new ≡ trace.old) }
-{
-    if rule.command.as_str().is_empty() {
-        return trace.push(lines::ended(text, ": no action")?);
-    }
-    let start = lines::start_line(text, rule.command.as_str())?;
-    let end = start_command(alloc, rule, core)?;
-    trace.push_two(start, end)
 }
