@@ -16,8 +16,5 @@ pub fn read_context_text(alloc: Global, text: &str) -> Result<ContextValue, Fail
     ensures { Gives (λ value. value) result (context_in text.now) }
 {
     let value = read_value(alloc, text.as_bytes())?;
-    match read_context(alloc, value) {
-        Ok(value) => Ok(value),
-        Err(failure) => Err(shape_failure(failure)),
-    }
+    read_context(alloc, value).map_err(shape_failure)
 }

@@ -38,20 +38,14 @@ fn read_layout_file(alloc: Global, bytes: &[u8]) -> Result<Layout, Failure<Refus
     ensures { Gives (λ layout. layout) result (layout_in bytes.now) }
 {
     let value = read_value(alloc, bytes)?;
-    match read_layout(alloc, value) {
-        Ok(layout) => Ok(layout),
-        Err(failure) => Err(shape_failure(failure)),
-    }
+    read_layout(alloc, value).map_err(shape_failure)
 }
 
 /// The scopes of a layout.
 fn make_scopes(alloc: Global, layout: Layout) -> Result<Scopes, Failure<Refusal>>
     ensures { Gives (λ scopes. scopes) result (scopes_for layout) }
 {
-    match Scopes::new(alloc, layout) {
-        Ok(scopes) => Ok(scopes),
-        Err(failure) => Err(scope_failure(failure)),
-    }
+    Scopes::new(alloc, layout).map_err(scope_failure)
 }
 
 /// The one scope `window`, which is no layout's fault: only memory may be refused.

@@ -12,8 +12,5 @@ use std::alloc::Global;
 pub(crate) fn read_value(alloc: Global, bytes: &[u8]) -> Result<Value, Failure<Refusal>>
     ensures { Gives view result (data_of bytes.now) }
 {
-    match kb_jsonc::read(alloc, bytes) {
-        Ok(value) => Ok(value),
-        Err(failure) => Err(text_failure(failure)),
-    }
+    kb_jsonc::read(alloc, bytes).map_err(text_failure)
 }
