@@ -5,7 +5,8 @@ use Rattle.kb_session.specs.declared.fault.SessionFault.TheVariants as fault
 use Rattle.kb_session.specs.Session.{took, halt, half_done, Halts, HaltsAt, FailsAt, FailsAmong}
 use Rattle.kb_session.specs.State.{State, Told, happens, reload, step_unless, next, out_of}
 use Rattle.kb_stream.specs.Fold.{Traced, nothing, fold, after_all, StopsAmong}
-use Rattle.kb_stream.proofs.FoldLemmas.{fold-still, after_none, RunsUpTo, run_start, run_step, run_end, run_stop}
+use Rattle.kb_stream.proofs.FoldLemmas.{fold-still, after_none, RunsUpTo, run_start, run_step, run_end}
+use Rattle.kb_stream.proofs.FoldLemmas.{run_stop}
 use Rattle.kb_trace.specs.declared.event.Event.{Event}
 use Rattle.kb_trace.specs.declared.event.Event.TheVariants as event
 
@@ -13,24 +14,33 @@ use Rattle.kb_trace.specs.declared.event.Event.TheVariants as event
 pub stopped-fold : (told : List Told) (s : State) → s.stopped ≡ true → fold next told s ≡ nothing s
 stopped-fold = fold-still next (λ s. s.stopped ≡ true) (λ x s h. ap (λ b. out_of (step_unless b x s)) h)
 
-pub stopped-all : (told : List Told) (old : Traced State) → old.state.stopped ≡ true → old ≡ after_all next told old
-stopped-all told old h = run_end next old old told told (run_start next old told) (stopped-fold told old.state h)
+pub stopped-all : (told : List Told) (old : Traced State) → old.state.stopped ≡ true
+    → old ≡ after_all next told old
+stopped-all told old h = run_end next old old told told (run_start next old told)
+    (stopped-fold told old.state h)
 
-pub one_more : (old now new : Traced State) (events rest : List Told) (event : Told) → RunsUpTo next old events now (event ∷ rest)
+pub one_more : (old now new : Traced State) (events rest : List Told) (event : Told)
+    → RunsUpTo next old events now (event ∷ rest)
     → new ≡ took event now → RunsUpTo next old events new rest
 one_more old now new events rest event runs is = run_step next old now new events rest event runs is
 
-pub all_run : (old now : Traced State) (events : List Told) → RunsUpTo next old events now [] → now ≡ after_all next events old
+pub all_run : (old now : Traced State) (events : List Told) → RunsUpTo next old events now []
+    → now ≡ after_all next events old
 all_run old now events runs = run_end next old now events [] runs refl
 
 pub ruleset progress = (run_start, one_more, all_run, stopped-all)
 
 halt_halts : (old new : Traced State) → new ≡ halt old → Halts old.state new.state × (new.trace ≡ old.trace)
-halt_halts old new is =
-    (ap (λ (s : Traced State). s.state) is ∙ ap (λ (s : Traced State). half_done s.state.core s.state.pressed old.state) (sym is), ap (λ (s : Traced State). s.trace) is)
+halt_halts old new is = (
+  ap (λ (s : Traced State). s.state) is
+      ∙ ap (λ (s : Traced State). half_done s.state.core s.state.pressed old.state) (sym is),
+  ap
+      (λ (s : Traced State). s.trace) is,
+)
 
 -- refused memory stops a session, whatever was half done
-pub halts_at : (told : Told) (old new : Traced State) → HaltsAt told old new → Halts old.state new.state × (new.trace ≡ old.trace)
+pub halts_at : (told : Told) (old new : Traced State) → HaltsAt told old new
+    → Halts old.state new.state × (new.trace ≡ old.trace)
 halts_at (happens (event.Key key)) old new h = h
 halts_at (happens (event.Focus name)) old new h = halt_halts old new h
 halts_at (happens (event.SetKey name key value)) old new h = halt_halts old new h
@@ -39,9 +49,14 @@ halts_at (happens (event.Unread number)) old new h = halt_halts old new h
 halts_at (reload bytes) old new h = halt_halts old new h
 
 -- the fault of an event is the fault of the run
-pub runs_fail : (old now new : Traced State) (events rest : List Told) (event : Told) (f : SessionFault) → RunsUpTo next old events now rest
+pub runs_fail : (old now new : Traced State) (events rest : List Told) (event : Told) (f : SessionFault)
+    → RunsUpTo next old events now rest
     → old.state.stopped ≡ false → FailsAt f event now new → FailsAmong f events old new
 runs_fail old now new events rest event fault.NoMemory runs running fails =
-    let h = halts_at event now new fails.1 in (running, run_stop next Halts old now new events rest runs h.0 h.1)
-runs_fail old now new events rest event fault.Stopped runs running fails =
-    (ap (λ s. s.state.stopped) fails.1 ∙ fails.0, fails.1 ∙ run_end next old now events rest runs (stopped-fold rest now.state fails.0))
+    let h = halts_at event now new fails.1 in
+    (running, run_stop next Halts old now new events rest runs h.0 h.1)
+runs_fail old now new events rest event fault.Stopped runs running fails = (
+  ap (λ s. s.state.stopped) fails.1 ∙ fails.0,
+  fails.1
+      ∙ run_end next old now events rest runs (stopped-fold rest now.state fails.0),
+)

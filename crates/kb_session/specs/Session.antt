@@ -8,7 +8,8 @@ use Rattle.kb_files.specs.UserFile.{user_rules}
 use Rattle.kb_keys.specs.declared.keystroke.Keystroke.{Keystroke}
 use Rattle.kb_rules.specs.RuleList.{Listed}
 use Rattle.kb_session.specs.Fault.{refused_file}
-use Rattle.kb_session.specs.State.{State, Told, happens, Answered, did, refused, step, step_on, out_of, next, loaded_state}
+use Rattle.kb_session.specs.State.{State, Told, happens, Answered, did, refused, step, step_on, out_of, next}
+use Rattle.kb_session.specs.State.{loaded_state}
 use Rattle.kb_session.specs.declared.fault.LoadFault.{LoadFault}
 use Rattle.kb_session.specs.declared.fault.LoadFile.TheVariants.{Layout, User}
 use Rattle.kb_session.specs.declared.fault.SessionFault.{SessionFault}
@@ -63,7 +64,8 @@ abbrev pub HaltsAt : Told → Seen → Seen → Type 0
 HaltsAt (happens (event.Key key)) old new = Halts old.state new.state × (new.trace ≡ old.trace)
 HaltsAt told old new = new ≡ halt old
 
--- the fault of one call: memory was refused and the session stops, or it was stopped before and stays as it was
+-- the fault of one call: memory was refused and the session stops, or it was stopped before and stays as
+-- it was
 abbrev pub FailsAt : SessionFault → Told → Seen → Seen → Type 0
 FailsAt NoMemory told old new = (old.state.stopped ≡ false) × HaltsAt told old new
 FailsAt Stopped told old new = (old.state.stopped ≡ true) × (new ≡ old)

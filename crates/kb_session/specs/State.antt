@@ -4,7 +4,8 @@ use Rattle.std.specs.Prelude.{ℕ, Bool, true, false, List, [], ◌∷◌, ◌++
 use Rattle.std.specs.Prelude.{Result, Ok, Err}
 use Rattle.kb_context.specs.Refusal.{refused_for}
 use Rattle.kb_context.specs.ScopeFault.{number_of}
-use Rattle.kb_context.specs.Scopes.{ScopesData, context, place_of, set_fault, with_value, without_value, with_focus}
+use Rattle.kb_context.specs.Scopes.{ScopesData, context, place_of, set_fault, with_value, without_value}
+use Rattle.kb_context.specs.Scopes.{with_focus}
 use Rattle.kb_context.specs.declared.fault.ScopeFault.{ScopeFault}
 use Rattle.kb_context.specs.declared.fault.ScopeFault.TheVariants.{UnknownScope}
 use Rattle.kb_context.specs.declared.refusal.Refusal.{Refusal}
@@ -75,7 +76,8 @@ abbrev pub press : Keystroke → State → Stepped
 press key s =
     let keys = context s.core.scopes in
     let does = chord.step s.pressed key keys s.user.rules in
-    begun (press_started (line.key_text s.pressed key) does s.core) (chord.pressed_after s.pressed key keys s.user.rules) s
+    begun (press_started (line.key_text s.pressed key) does s.core)
+    (chord.pressed_after s.pressed key keys s.user.rules) s
 
 -- why an event is refused, if it is
 abbrev pub unless_known : Option ℕ → Option ScopeFault

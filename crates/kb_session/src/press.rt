@@ -30,7 +30,8 @@ pub(crate) fn press_key(
     ensures core { let does = chord.step open.old key (context core.old.scopes) resolver.now in
         OnOk result (core.new ≡ (press_started (line.key_text open.old key) does core.old).core) }
     ensures trace { let does = chord.step open.old key (context core.old.scopes) resolver.now in
-        OnOk result (trace.new ≡ trace.old ++ (press_started (line.key_text open.old key) does core.old).lines) }
+        OnOk result
+        (trace.new ≡ trace.old ++ (press_started (line.key_text open.old key) does core.old).lines) }
     ensures pressed { OnOk result
         (open.new ≡ chord.pressed_after open.old key (context core.old.scopes) resolver.now) }
     ensures err { OnErr result (Begins trace.old trace.new) }

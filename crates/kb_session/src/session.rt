@@ -1,5 +1,6 @@
 //! A session: its state, what it is told and does, and the trace of that.
-ghost use Rattle.std.specs.Prelude.{◌≡◌, true, false, [], ◌∷◌, ◌++◌, OnOk, OnErr, IfOk, IfErr, take, map, option_map};
+ghost use Rattle.std.specs.Prelude.{◌≡◌, true, false, [], ◌∷◌, ◌++◌, take, map, option_map};
+ghost use Rattle.std.specs.Prelude.{OnOk, OnErr, IfOk, IfErr};
 ghost use Rattle.kb_context.specs.Failure.{Gives};
 ghost use Rattle.kb_context.specs.Refusal.{refused_for};
 ghost use Rattle.kb_context.specs.ScopeFault.{number_of};
@@ -24,10 +25,10 @@ use std::alloc::{AllocError, Global};
 use std::collections::VecDeque;
 use std::marker::Model;
 
-/// A session of the engine. Contracts see its state (the core with its text and scopes, the user's rules, the
-/// keystrokes of the chord that is open, and whether it is stopped), and the trace that led to it. Once memory
-/// was refused it is stopped for good: each later call answers `Stopped`, and `trace` gives the lines up to the
-/// one call that was refused memory.
+/// A session of the engine. Contracts see its state (the core with its text and scopes, the user's rules,
+/// the keystrokes of the chord that is open, and whether it is stopped), and the trace that led to it. Once
+/// memory was refused it is stopped for good: each later call answers `Stopped`, and `trace` gives the lines
+/// up to the one call that was refused memory.
 #[derive(Drop)]
 pub struct Session {
     core: HeldCore,
@@ -53,8 +54,8 @@ impl Model for Session {
     ghost coded = { Prim.hlevel (codes, whole.the_row.coded, rule.the_row.coded, warning.the_row.coded) };
 
     ghost view = { λ s. record {
-        state = record { core = s.core; user = s.user; pressed = s.chord; stopped = s.stopped };
-        trace = s.trace;
+      state = record { core = s.core; user = s.user; pressed = s.chord; stopped = s.stopped };
+      trace = s.trace;
     } };
 
     // The search is among the user's rules.
@@ -64,8 +65,8 @@ impl Model for Session {
 impl Session {
     /// A session of these files, without text and trace.
     ///
-    /// Errors: the first file that is refused, and why (layout: 1 to 4, 40, 41, 21, 22; user's rules: 1 to 4, 41);
-    /// or refused memory.
+    /// Errors: the first file that is refused, and why (the layout: 1 to 4, 40, 41, 21, 22; then the user's
+    /// rules: 1 to 4, 41); or refused memory.
     pub fn load(alloc: Global, inputs: Inputs<'_>) -> Result<Session, Failure<LoadFault>>
         ensures { Gives (λ session. session) result
             (loaded (option_map (λ layout. layout.now) inputs.entry.layout) inputs.entry.user.now) }
@@ -123,8 +124,8 @@ impl Session {
 
     /// Handles one event.
     ///
-    /// Errors: `Stopped` where the session was stopped before; `NoMemory` where memory was refused: the session
-    /// is stopped and else as before, but for the core and the chord where the event is a press.
+    /// Errors: `Stopped` where the session was stopped before; `NoMemory` where memory was refused: the
+    /// session is stopped and else as before, but for the core and the chord where the event is a press.
     pub fn handle(&mut self, event: Event) -> Result<Answer, SessionFault>
         ensures ok { IfOk result (λ answer. Takes (happens event) self.old answer self.new) }
         ensures err { IfErr result (λ fault. FailsAt fault (happens event) self.old self.new) }
@@ -149,8 +150,8 @@ impl Session {
     /// Reads the user's rules anew, from the bytes of their file. Rules that are taken leave a chord
     /// that is open (our decision). A file that is refused changes nothing but the trace.
     ///
-    /// Errors: `Stopped` where the session was stopped before; `NoMemory` where memory was refused: the session
-    /// is stopped and else as before.
+    /// Errors: `Stopped` where the session was stopped before; `NoMemory` where memory was refused: the
+    /// session is stopped and else as before.
     pub fn reload_user(&mut self, bytes: &[u8]) -> Result<Answer, SessionFault>
         ensures ok { IfOk result (λ answer. Takes (reload bytes.now) self.old answer self.new) }
         ensures err { IfErr result (λ fault. FailsAt fault (reload bytes.now) self.old self.new) }
@@ -288,7 +289,8 @@ impl Session {
     fn refuse_instead(&mut self, mark: usize, fault: ScopeFault) -> Result<Answer, NoMemory>
         ensures answer { IfOk result (λ answer. answer ≡ Answer.Refused (refused_for (number_of fault))) }
         ensures ok { OnOk result (self.new ≡ record self.old {
-            trace = take mark self.old.trace ++ line.refused_line (refused_for (number_of fault)) ∷ [] }) }
+          trace = take mark self.old.trace ++ line.refused_line (refused_for (number_of fault)) ∷ [];
+        }) }
         ensures err { OnErr result (self.new ≡ record self.old { trace = take mark self.old.trace }) }
     {
         self.trace.truncate(mark);
@@ -325,8 +327,9 @@ impl Session {
     #[tactic(auto, using(crate::proofs::Undoing::undoing))]
     fn take_rules(&mut self, user: RuleList) -> Result<(), NoMemory>
         ensures ok { OnOk result (self.new ≡ record self.old {
-            state = record self.old.state { user = user; pressed = [] };
-            trace = self.old.trace ++ (left_lines self.old.state.pressed ++ line.reloaded_line ∷ []) }) }
+          state = record self.old.state { user = user; pressed = [] };
+          trace = self.old.trace ++ (left_lines self.old.state.pressed ++ line.reloaded_line ∷ []);
+        }) }
         ensures err { OnErr result (Undone self.old self.new) }
     {
         let resolver = Resolver::new(RuleSet::assemble(self.alloc, &user)?);

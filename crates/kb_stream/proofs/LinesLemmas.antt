@@ -13,19 +13,23 @@ use Rattle.std.proofs.Math.Seq.{take-append_seam, drop-append_seam}
 use Rattle.kb_stream.specs.Lines.{cut_at, ends_of, AreLines}
 use Rattle.kb_stream.specs.Writing.{text_of_lines}
 
-pub text_of_lines-append : (xs ys : List (List ℕ)) → text_of_lines (xs ++ ys) ≡ text_of_lines xs ++ text_of_lines ys
+pub text_of_lines-append : (xs ys : List (List ℕ))
+    → text_of_lines (xs ++ ys) ≡ text_of_lines xs ++ text_of_lines ys
 text_of_lines-append xs ys = flat_map-append (λ (line : List ℕ). line ++ 10 ∷ []) xs ys
 
 -- the first lines and the others
-text_cut : (n : ℕ) (ls : List (List ℕ)) → text_of_lines ls ≡ text_of_lines (take n ls) ++ text_of_lines (drop n ls)
+text_cut : (n : ℕ) (ls : List (List ℕ))
+    → text_of_lines ls ≡ text_of_lines (take n ls) ++ text_of_lines (drop n ls)
 text_cut n ls = ap text_of_lines (sym (take-append-drop n ls)) ∙ text_of_lines-append (take n ls) (drop n ls)
 
-text_front : (n : ℕ) (ls : List (List ℕ)) → take (length (text_of_lines (take n ls))) (text_of_lines ls) ≡ text_of_lines (take n ls)
+text_front : (n : ℕ) (ls : List (List ℕ))
+    → take (length (text_of_lines (take n ls))) (text_of_lines ls) ≡ text_of_lines (take n ls)
 text_front n ls =
     ap (take (length (text_of_lines (take n ls)))) (text_cut n ls)
     ∙ take-append_seam (text_of_lines (take n ls)) (text_of_lines (drop n ls))
 
-pub text_behind : (n : ℕ) (ls : List (List ℕ)) → drop (length (text_of_lines (take n ls))) (text_of_lines ls) ≡ text_of_lines (drop n ls)
+pub text_behind : (n : ℕ) (ls : List (List ℕ))
+    → drop (length (text_of_lines (take n ls))) (text_of_lines ls) ≡ text_of_lines (drop n ls)
 text_behind n ls =
     ap (drop (length (text_of_lines (take n ls)))) (text_cut n ls)
     ∙ drop-append_seam (text_of_lines (take n ls)) (text_of_lines (drop n ls))
@@ -37,26 +41,30 @@ ends_of-push s [] line =
     ap (λ (n : ℕ). n ∷ []) e
 ends_of-push s (l ∷ ls) line =
     let t = s + length l + 1 in
-    let e : t + length (text_of_lines (ls ++ line ∷ [])) ≡ s + length ((l ++ 10 ∷ []) ++ text_of_lines (ls ++ line ∷ [])) =
+    let e : t + length (text_of_lines (ls ++ line ∷ [])) ≡ s + length
+        ((l ++ 10 ∷ []) ++ text_of_lines (ls ++ line ∷ [])) =
     simp length-append (omega arith) in
     ap (λ (es : List ℕ). t ∷ es) (ends_of-push t ls line ∙ ap (λ (n : ℕ). ends_of t ls ++ n ∷ []) e)
 
 ends_of-take : (s n : ℕ) (ls : List (List ℕ)) → take n (ends_of s ls) ≡ ends_of s (take n ls)
 ends_of-take s zero ls = refl
 ends_of-take s (suc n) [] = refl
-ends_of-take s (suc n) (l ∷ ls) = ap (λ (es : List ℕ). (s + length l + 1) ∷ es) (ends_of-take (s + length l + 1) n ls)
+ends_of-take s (suc n) (l ∷ ls) = ap (λ (es : List ℕ). (s + length l + 1) ∷ es)
+    (ends_of-take (s + length l + 1) n ls)
 
 ends_of-length : (s : ℕ) (ls : List (List ℕ)) → length (ends_of s ls) ≡ length ls
 ends_of-length s [] = refl
 ends_of-length s (l ∷ ls) = ap suc (ends_of-length (s + length l + 1) ls)
 
 -- where the line at a place begins
-ends_of-start : (s n : ℕ) (ls : List (List ℕ)) → n ≤ length ls → get_or (s ∷ ends_of s ls) n 0 ≡ s + length (text_of_lines (take n ls))
+ends_of-start : (s n : ℕ) (ls : List (List ℕ)) → n ≤ length ls
+    → get_or (s ∷ ends_of s ls) n 0 ≡ s + length (text_of_lines (take n ls))
 ends_of-start s zero ls h = omega arith
 ends_of-start s (suc n) [] h = absurd (omega arith)
 ends_of-start s (suc n) (l ∷ ls) h =
     let t = s + length l + 1 in
-    let e : t + length (text_of_lines (take n ls)) ≡ s + length ((l ++ 10 ∷ []) ++ text_of_lines (take n ls)) =
+    let e : t + length (text_of_lines (take n ls)) ≡ s + length
+        ((l ++ 10 ∷ []) ++ text_of_lines (take n ls)) =
     simp length-append (omega arith) in
     ends_of-start t n ls (omega arith) ∙ e
 
@@ -73,11 +81,13 @@ cut_made s (l ∷ ls) =
     let rest : drop (t - s) all ≡ text_of_lines ls =
     ap (λ (n : ℕ). drop n all) far ∙ drop-append_seam (l ++ 10 ∷ []) (text_of_lines ls) in
     ap (λ (x : List ℕ). x ∷ cut_at t (ends_of t ls) (drop (t - s) all)) line
-    ∙ ap (λ (r : List ℕ). l ∷ cut_at t (ends_of t ls) r) rest ∙ ap (λ (xs : List (List ℕ)). l ∷ xs) (cut_made t ls)
+    ∙ ap (λ (r : List ℕ). l ∷ cut_at t (ends_of t ls) r) rest
+    ∙ ap (λ (xs : List (List ℕ)). l ∷ xs) (cut_made t ls)
 
 pub seen : (text ends : List ℕ) → (are : AreLines text ends) → cut_at 0 ends text ≡ are.lines
 seen text ends are =
-    ap (λ (es : List ℕ). cut_at 0 es text) are.ends_are ∙ ap (cut_at 0 (ends_of 0 are.lines)) are.text_is ∙ cut_made 0 are.lines
+    ap (λ (es : List ℕ). cut_at 0 es text) are.ends_are ∙ ap (cut_at 0 (ends_of 0 are.lines)) are.text_is
+    ∙ cut_made 0 are.lines
 
 -- what a text and places hold whose lines are these
 pub record Hold (text ends : List ℕ) (lines : List (List ℕ)) : Type 0 where
@@ -86,7 +96,8 @@ pub record Hold (text ends : List ℕ) (lines : List (List ℕ)) : Type 0 where
   pub texts : All IsUtf8 lines
   pub count : length ends ≡ length lines
 
-pub hold : (text ends : List ℕ) (lines : List (List ℕ)) → AreLines text ends → cut_at 0 ends text ≡ lines → Hold text ends lines
+pub hold : (text ends : List ℕ) (lines : List (List ℕ)) → AreLines text ends → cut_at 0 ends text ≡ lines
+    → Hold text ends lines
 hold text ends lines are is =
     let same : are.lines ≡ lines = sym (seen text ends are) ∙ is in
     let ends_are : ends ≡ ends_of 0 lines = are.ends_are ∙ ap (ends_of 0) same in
@@ -106,7 +117,8 @@ from_zero text = omega arith
 
 -- one more
 pub more_are : (text ends line new_text new_ends : List ℕ) → AreLines text ends → IsUtf8 line
-    → new_text ≡ (text ++ line) ++ 10 ∷ [] → new_ends ≡ ends ++ length new_text ∷ [] → AreLines new_text new_ends
+    → new_text ≡ (text ++ line) ++ 10 ∷ [] → new_ends ≡ ends ++ length new_text ∷ []
+    → AreLines new_text new_ends
 more_are text ends line new_text new_ends are utf8 made places =
     let all = are.lines ++ line ∷ [] in
     let is : new_text ≡ text_of_lines all =
@@ -118,12 +130,16 @@ more_are text ends line new_text new_ends are utf8 made places =
       text_is = is;
       ends_are = places ∙ ap (λ (es : List ℕ). es ++ length new_text ∷ []) are.ends_are
           ∙ ap (λ (t : List ℕ). ends_of 0 are.lines ++ length t ∷ []) is
-          ∙ ap (λ (n : ℕ). ends_of 0 are.lines ++ n ∷ []) (from_zero (text_of_lines all)) ∙ sym (ends_of-push 0 are.lines line);
-      texts = All-append IsUtf8 are.lines (line ∷ []) are.texts (All-cons IsUtf8 line [] utf8 (All-nil IsUtf8));
+          ∙ ap (λ (n : ℕ). ends_of 0 are.lines ++ n ∷ []) (from_zero (text_of_lines all))
+          ∙ sym (ends_of-push 0 are.lines line);
+      texts = All-append IsUtf8 are.lines (line ∷ []) are.texts
+          (All-cons IsUtf8 line [] utf8 (All-nil IsUtf8));
     }
 
-pub more_seen : (text ends line new_text new_ends : List ℕ) (lines : List (List ℕ)) → AreLines text ends → IsUtf8 line
-    → new_text ≡ (text ++ line) ++ 10 ∷ [] → new_ends ≡ ends ++ length new_text ∷ [] → cut_at 0 ends text ≡ lines
+pub more_seen : (text ends line new_text new_ends : List ℕ) (lines : List (List ℕ)) → AreLines text ends
+    → IsUtf8 line
+    → new_text ≡ (text ++ line) ++ 10 ∷ [] → new_ends ≡ ends ++ length new_text ∷ []
+    → cut_at 0 ends text ≡ lines
     → cut_at 0 new_ends new_text ≡ lines ++ line ∷ []
 unfolding more_are
 more_seen text ends line new_text new_ends lines are utf8 made places is =
@@ -131,7 +147,8 @@ more_seen text ends line new_text new_ends lines are utf8 made places is =
     ∙ ap (λ (ls : List (List ℕ)). ls ++ line ∷ []) (sym (seen text ends are) ∙ is)
 
 -- fewer
-pub fewer_are : (text ends : List ℕ) (lines : List (List ℕ)) (n end : ℕ) → Hold text ends lines → end ≡ length (text_of_lines (take n lines))
+pub fewer_are : (text ends : List ℕ) (lines : List (List ℕ)) (n end : ℕ) → Hold text ends lines
+    → end ≡ length (text_of_lines (take n lines))
     → AreLines (take end text) (take n ends)
 fewer_are text ends lines n end h e = record {
   lines = take n lines;
@@ -140,19 +157,22 @@ fewer_are text ends lines n end h e = record {
   texts = All-take IsUtf8 n lines h.texts;
 }
 
-pub fewer_seen : (text ends : List ℕ) (lines : List (List ℕ)) (n end : ℕ) → Hold text ends lines → end ≡ length (text_of_lines (take n lines))
+pub fewer_seen : (text ends : List ℕ) (lines : List (List ℕ)) (n end : ℕ) → Hold text ends lines
+    → end ≡ length (text_of_lines (take n lines))
     → cut_at 0 (take n ends) (take end text) ≡ take n lines
 unfolding fewer_are
 fewer_seen text ends lines n end h e = seen _ _ (fewer_are text ends lines n end h e)
 
 -- a place in the text
-pub start_within : (n : ℕ) (ls : List (List ℕ)) → length (text_of_lines (take n ls)) ≤ length (text_of_lines ls)
+pub start_within : (n : ℕ) (ls : List (List ℕ))
+    → length (text_of_lines (take n ls)) ≤ length (text_of_lines ls)
 start_within n ls =
     let e = ap length (text_cut n ls) in
     omega (arith, e, length-append {A = ℕ})
 
 next_start : (i : ℕ) (ls : List (List ℕ)) → i < length ls
-    → length (text_of_lines (take (i + 1) ls)) ≡ length (text_of_lines (take i ls)) + length (get_or ls i []) + 1
+    → length (text_of_lines (take (i + 1) ls)) ≡ length (text_of_lines (take i ls)) + length
+    (get_or ls i []) + 1
 next_start i ls h =
     let line = get_or ls i [] in
     let e : text_of_lines (take (i + 1) ls) ≡ text_of_lines (take i ls) ++ ((line ++ 10 ∷ []) ++ []) =
@@ -160,7 +180,8 @@ next_start i ls h =
     ap length e ∙ simp length-append (omega arith)
 
 line_is : (i : ℕ) (ls : List (List ℕ)) → i < length ls
-    → take (length (get_or ls i [])) (drop (length (text_of_lines (take i ls))) (text_of_lines ls)) ≡ get_or ls i []
+    → take (length (get_or ls i []))
+    (drop (length (text_of_lines (take i ls))) (text_of_lines ls)) ≡ get_or ls i []
 line_is i ls h =
     let line = get_or ls i [] in
     ap (take (length line)) (text_behind i ls ∙ ap text_of_lines (drop_more ls i [] h)
@@ -174,7 +195,8 @@ pub record IsLineAt (ls : List (List ℕ)) (i start next : ℕ) : Type 0 where
   pub found : slice_get ls i ≡ Some (get_or ls i [])
 
 pub line_at : (ls : List (List ℕ)) (i start next : ℕ) → i < length ls
-    → start ≡ length (text_of_lines (take i ls)) → next ≡ length (text_of_lines (take (i + 1) ls)) → IsLineAt ls i start next
+    → start ≡ length (text_of_lines (take i ls)) → next ≡ length (text_of_lines (take (i + 1) ls))
+    → IsLineAt ls i start next
 line_at ls i start next h e f =
     let g = next_start i ls h in
     let n : next - 1 - start ≡ length (get_or ls i []) = omega arith in
@@ -185,10 +207,12 @@ line_at ls i start next h e f =
     }
 
 -- the place behind a line feed that is held
-pub held_start : (text ends : List ℕ) (lines : List (List ℕ)) (n d : ℕ) → Hold text ends lines → n < length ends
+pub held_start : (text ends : List ℕ) (lines : List (List ℕ)) (n d : ℕ) → Hold text ends lines
+    → n < length ends
     → get_or ends n d ≡ length (text_of_lines (take (n + 1) lines))
 held_start text ends lines n d h some =
     let below : n + 1 ≤ length lines = omega (arith, h.count) in
     let here : n < length (ends_of 0 lines) = omega (arith, h.count, ends_of-length 0 lines) in
     ap (λ (es : List ℕ). get_or es n d) h.ends_are ∙ get_or_default (ends_of 0 lines) n d 0 here
-    ∙ ap (λ (k : ℕ). get_or (0 ∷ ends_of 0 lines) k 0) (sym (add-one n)) ∙ ends_of-start 0 (n + 1) lines below ∙ zero-add (length (text_of_lines (take (n + 1) lines)))
+    ∙ ap (λ (k : ℕ). get_or (0 ∷ ends_of 0 lines) k 0) (sym (add-one n))
+    ∙ ends_of-start 0 (n + 1) lines below ∙ zero-add (length (text_of_lines (take (n + 1) lines)))

@@ -1,5 +1,6 @@
 -- The canonical text of a chord that is one keystroke longer.
-use Rattle.std.proofs.Common.{◌≡◌, ℕ, List, [], ◌∷◌, ◌++◌, refl, sym, ap, ◌∙◌, append_assoc, append-nil, length, ◌<◌, arith}
+use Rattle.std.proofs.Common.{◌≡◌, ℕ, List, [], ◌∷◌, ◌++◌, refl, sym, ap, ◌∙◌, append_assoc, append-nil}
+use Rattle.std.proofs.Common.{length, ◌<◌, arith}
 use Rattle.kb_keys.specs.declared.keystroke.Keystroke.{Keystroke}
 use Rattle.kb_keys.specs.Keystroke.{spelling}
 use Rattle.kb_keys.specs.Chord.{chord_spelling}
@@ -20,13 +21,15 @@ chord_spelling_more (p ∷ q ∷ ps) key some =
     ∙ sym (append_assoc (spelling p) (32 ∷ chord_spelling (q ∷ ps)) (32 ∷ spelling key))
 
 -- the beginning of the line of a first press
-pub key_text_first : (pressed : List Keystroke) (key : Keystroke) (text : List ℕ) → length pressed ≡ 0 → text ≡ codes "key " ++ spelling key → text ≡ key_text pressed key
+pub key_text_first : (pressed : List Keystroke) (key : Keystroke) (text : List ℕ) → length pressed ≡ 0
+    → text ≡ codes "key " ++ spelling key → text ≡ key_text pressed key
 key_text_first [] key text none made = made
 key_text_first (p ∷ ps) key text none made = absurd (omega arith)
 
 -- the same of a later press
 pub key_text_more : (pressed : List Keystroke) (key : Keystroke) (text : List ℕ) → (length pressed ≡ 0 → ⊥)
-    → text ≡ ((codes "key " ++ chord_spelling pressed) ++ 32 ∷ []) ++ spelling key → text ≡ key_text pressed key
+    → text ≡ ((codes "key " ++ chord_spelling pressed) ++ 32 ∷ []) ++ spelling key
+    → text ≡ key_text pressed key
 key_text_more pressed key text some made =
     made
     ∙ append_assoc (codes "key " ++ chord_spelling pressed) (32 ∷ []) (spelling key)

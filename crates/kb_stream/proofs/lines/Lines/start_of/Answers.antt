@@ -12,7 +12,8 @@ returns-clause-start c =
     let h = hold _ _ _ c.self.invariant c.self.view_is in
     let some : c.args.place - 1 < length c.self.inside.ends.items = omega (arith, h.count) in
     let next : c.args.place - 1 + 1 ≡ c.args.place = omega arith in
-    c.index.ensures ∙ held_start _ _ _ _ _ h some ∙ ap (λ n. length (text_of_lines (take n c.args.self.now))) next
+    c.index.ensures ∙ held_start _ _ _ _ _ h some
+    ∙ ap (λ n. length (text_of_lines (take n c.args.self.now))) next
 
 pub returns-clause-within : goal.returns-clause-within
 returns-clause-within c =
