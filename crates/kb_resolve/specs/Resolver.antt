@@ -1,5 +1,6 @@
 -- The rule that pressed keystrokes choose.
-use Rattle.std.specs.Prelude.{◌≡◌, ◌<◌, List, [], ◌∷◌, ◌++◌, length, Bool, true, ◌&&◌, nat_lt, if◌then◌else◌, Option, None, Some, All}
+use Rattle.std.specs.Prelude.{◌≡◌, ◌<◌, List, [], ◌∷◌, ◌++◌, length, Bool, true, ◌&&◌, nat_lt}
+use Rattle.std.specs.Prelude.{if◌then◌else◌, Option, None, Some, All}
 use Rattle.std.specs.Option.{option_or}
 use Rattle.kb_context.specs.Scopes.{Keys}
 use Rattle.kb_when.specs.Clause.{Clause}
@@ -42,7 +43,8 @@ Matches pressed keys rule =
     (rest : List Keystroke) × (rule.chord ≡ pressed ++ rest) × (when_holds keys rule.when ≡ true)
 
 -- the rule stands at a position and matches, and none below it does
-pub record IsLastMatch (pressed : List Keystroke) (keys : Keys) (rules : List Rule) (rule : Rule) : Type 0 where
+pub record IsLastMatch (pressed : List Keystroke) (keys : Keys) (rules : List Rule)
+    (rule : Rule) : Type 0 where
   pub above : List Rule
   pub below : List Rule
   pub whole : rules ≡ above ++ rule ∷ below

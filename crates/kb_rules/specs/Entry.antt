@@ -1,5 +1,6 @@
 -- The rule that an element of a rule file is, or the number of its first fault.
-use Rattle.std.specs.Prelude.{ℕ, not, Bool, List, Option, None, Some, Result, Ok, Err, if◌then◌else◌, codes, nat_eq}
+use Rattle.std.specs.Prelude.{ℕ, not, Bool, List, Option, None, Some, Result, Ok, Err, if◌then◌else◌, codes}
+use Rattle.std.specs.Prelude.{nat_eq, option_map}
 use Rattle.std.specs.List.{list_all, starts_with}
 use Rattle.kb_context.specs.Blank.{is_blank}
 use Rattle.kb_context.specs.Reading.{◌>>=◌, or_fault, or_default, unless}
@@ -14,6 +15,8 @@ use Rattle.kb_when.specs.Clause.{Clause}
 use Rattle.kb_when.specs.ClauseText.{clause_in}
 use Rattle.serde_json.specs.Data.{Data, Members}
 use Rattle.serde_json.specs.Find.{get_member, as_object, as_str}
+use Rattle.serde_json.specs.View.{view}
+use Rattle.kb_rules.specs.declared.entry.Parts.{Parts}
 use Rattle.kb_rules.specs.declared.rule.Rule.{Rule}
 use Rattle.kb_rules.specs.Whole.{is_whole}
 
@@ -64,15 +67,51 @@ args_of member = or_default None (λ args. unless 41 (is_whole args) (Some args)
 
 -- ---- the whole element
 
--- the rule that the members at a place are; the faults come in this order
-unfoldable pub rule_of : ℕ → Members → Result Rule ℕ
-rule_of place members = do
-  command ← command_of (get_member (codes "command") members)
-  chord ← keystrokes_of (get_member (codes "key") members)
-  when ← condition_of (get_member (codes "when") members)
-  args ← args_of (get_member (codes "args") members)
-  Ok (record { chord = chord; command = command; when = when; args = args; place = place })
+-- the members that a rule is read from, each if it is there
+pub record Found : Type 0 where
+  pub command : Option Data
+  pub key : Option Data
+  pub when : Option Data
+  pub args : Option Data
+
+abbrev pub found_in : Members → Found
+found_in members = record {
+  command = get_member (codes "command") members;
+  key = get_member (codes "key") members;
+  when = get_member (codes "when") members;
+  args = get_member (codes "args") members;
+}
+
+-- the same of those that were taken out of an object
+abbrev pub found_of : Parts → Found
+found_of parts = record {
+  command = option_map view parts.command;
+  key = option_map view parts.key;
+  when = option_map view parts.when;
+  args = option_map view parts.args;
+}
+
+-- the command and the keystrokes that start it; the faults come in this order
+unfoldable pub binding_of : Option Data → Option Data → Result (List ℕ × List Keystroke) ℕ
+binding_of command key = do
+  identifier ← command_of command
+  keystrokes ← keystrokes_of key
+  Ok (identifier, keystrokes)
+
+-- the condition and the arguments, in this order
+unfoldable pub terms_of : Option Data → Option Data → Result (Option Clause × Option Data) ℕ
+terms_of when args = do
+  condition ← condition_of when
+  arguments ← args_of args
+  Ok (condition, arguments)
+
+-- the rule that these are, at a place; the faults come in this order
+unfoldable pub rule_of : ℕ → Found → Result Rule ℕ
+rule_of place found = do
+  binding ← binding_of found.command found.key
+  terms ← terms_of found.when found.args
+  Ok (record { chord = binding.1; command = binding.0; when = terms.0; args = terms.1; place = place })
 
 -- the rule that the element at a place is, or the number of its first fault
 abbrev pub entry_of : ℕ → Data → Result Rule ℕ
-entry_of place d = or_fault 41 (as_object d) >>= rule_of place
+entry_of place d = or_fault 41 (as_object d) >>= λ members. rule_of place (found_in members)

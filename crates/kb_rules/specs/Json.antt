@@ -3,7 +3,8 @@ use Rattle.std.specs.Prelude.{◌≡◌, refl}
 use Rattle.std.proofs.Common.{ap}
 use Rattle.std.specs.Coded.{Coded, coded_bool, coded_ℤ, coded_list, coded_ℕ}
 use base.Stored.{Gv, gnil, gnum, gcons, num, coded_float}
-use Rattle.serde_json.specs.Data.{Num, unsigned, negative, float, Data, null, boolean, number, string, array, object, Items, no_items, item, Members, no_members, member}
+use Rattle.serde_json.specs.Data.{Num, unsigned, negative, float, Data, null, boolean, number, string}
+use Rattle.serde_json.specs.Data.{array, object, Items, no_items, item, Members, no_members, member}
 
 abbrev head : Gv → Gv
 head gnil = gnil
@@ -58,13 +59,15 @@ mutual
 
   inj_items : (x y : Items) → of_items x ≡ of_items y → x ≡ y
   inj_items no_items no_items p = refl
-  inj_items (item d ds) (item e es) p = λ i. item (inj_data d e (ap head p) i) (inj_items ds es (ap tail p) i)
+  inj_items (item d ds) (item e es) p =
+      λ i. item (inj_data d e (ap head p) i) (inj_items ds es (ap tail p) i)
   inj_items _ _ p = cc
 
   inj_members : (x y : Members) → of_members x ≡ of_members y → x ≡ y
   inj_members no_members no_members p = refl
   inj_members (member k d ms) (member l e ns) p =
-      λ i. member ((coded_list coded_ℕ).inj k l (ap head p) i) (inj_data d e (ap (λ g. head (tail g)) p) i) (inj_members ms ns (ap (λ g. tail (tail g)) p) i)
+      λ i. member ((coded_list coded_ℕ).inj k l (ap head p) i) (inj_data d e (ap (λ g. head (tail g)) p) i)
+      (inj_members ms ns (ap (λ g. tail (tail g)) p) i)
   inj_members _ _ p = cc
 
 abbrev pub coded_data : Coded Data

@@ -10,7 +10,7 @@ ghost use Rattle.kb_when.specs.ClauseText.{clause_in};
 ghost use Rattle.serde_json.specs.View.{view, members_view};
 ghost use Rattle.kb_rules.specs.Entry.{by_number, failure_by_number, is_removal, text_of, required_text};
 ghost use Rattle.kb_rules.specs.Entry.{command_of, keystrokes_of, when_of, condition_of, args_of, rule_of};
-ghost use Rattle.kb_rules.specs.Entry.{entry_of};
+ghost use Rattle.kb_rules.specs.Entry.{binding_of, terms_of, found_of, found_in, entry_of};
 
 use crate::json::Json;
 use crate::rule::Rule;
@@ -22,31 +22,46 @@ use kb_when::{Clause, WhenFault};
 use serde_json::{Map, Value};
 use std::alloc::Global;
 
+/// The members that a rule is read from, each if it is there.
+#[derive(Drop)]
+struct Parts {
+    command: Option<Value>,
+    key: Option<Value>,
+    when: Option<Value>,
+    args: Option<Value>,
+}
+
 /// The rule that an element is, with the place that it stands at, or the number of the element's first
 /// fault. Its texts and arguments are moved out of it.
 pub(crate) fn read_entry(alloc: Global, entry: Value, place: usize) -> Result<Rule, Failure<u32>>
     ensures { Gives (λ rule. rule) result (entry_of place (view entry)) }
 {
     match members_in(entry) {
-        Some(members) => read_rule(alloc, members, place),
+        Some(members) => read_rule(alloc, parts_of(members), place),
         None => Err(Failure::Fault(FileFault::WrongShape.number())),
     }
 }
 
-/// The rule that members are.
-#[tactic(auto, unfolding(crate::specs::Entry::rule_of))]
-fn read_rule(alloc: Global, members: Map<String, Value>, place: usize) -> Result<Rule, Failure<u32>>
-    ensures { Gives (λ rule. rule) result (rule_of place (members_view members.entries)) }
+/// The members that a rule is read from, taken out of an object.
+fn parts_of(members: Map<String, Value>) -> Parts
+    ensures { found_of result ≡ found_in (members_view members.entries) }
 {
     let mut members = members;
-    let command = take_member(&mut members, "command");
-    let key = take_member(&mut members, "key");
-    let when = take_member(&mut members, "when");
-    let args = take_member(&mut members, "args");
-    let command = read_command(command).map_err(Failure::Fault)?;
-    let chord = read_keystrokes(alloc, key).map_err(Failure::Fault)?;
-    let when = read_condition(alloc, when)?;
-    let args = read_args(args).map_err(Failure::Fault)?;
+    Parts {
+        command: take_member(&mut members, "command"),
+        key: take_member(&mut members, "key"),
+        when: take_member(&mut members, "when"),
+        args: take_member(&mut members, "args"),
+    }
+}
+
+/// The rule that these members are.
+#[tactic(auto, unfolding(crate::specs::Entry::rule_of))]
+fn read_rule(alloc: Global, parts: Parts, place: usize) -> Result<Rule, Failure<u32>>
+    ensures { Gives (λ rule. rule) result (rule_of place (found_of parts)) }
+{
+    let (command, chord) = read_binding(alloc, parts.command, parts.key).map_err(Failure::Fault)?;
+    let (when, args) = read_terms(alloc, parts.when, parts.args)?;
     Ok(Rule {
         chord,
         command,
@@ -54,6 +69,34 @@ fn read_rule(alloc: Global, members: Map<String, Value>, place: usize) -> Result
         args,
         place,
     })
+}
+
+/// The command, and the keystrokes that start it.
+#[tactic(auto, unfolding(crate::specs::Entry::binding_of))]
+fn read_binding(
+    alloc: Global,
+    command: Option<Value>,
+    key: Option<Value>,
+) -> Result<(Text, Chord), u32>
+    ensures { result ≡ binding_of (option_map view command) (option_map view key) }
+{
+    let command = read_command(command)?;
+    let chord = read_keystrokes(alloc, key)?;
+    Ok((command, chord))
+}
+
+/// The condition and the arguments.
+#[tactic(auto, unfolding(crate::specs::Entry::terms_of))]
+fn read_terms(
+    alloc: Global,
+    when: Option<Value>,
+    args: Option<Value>,
+) -> Result<(Option<Clause>, Option<Json>), Failure<u32>>
+    ensures { Gives (λ terms. terms) result (terms_of (option_map view when) (option_map view args)) }
+{
+    let when = read_condition(alloc, when)?;
+    let args = read_args(args).map_err(Failure::Fault)?;
+    Ok((when, args))
 }
 
 /// The text that a value is.
