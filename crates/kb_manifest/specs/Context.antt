@@ -2,6 +2,8 @@
 use Rattle.std.specs.Prelude.{Option, Some, None, option_map, Result}
 use Rattle.serde_json.specs.Data.{Data, null, boolean, number, string, array, object}
 use Rattle.serde_json.specs.Find.{as_i64, as_str}
+use Rattle.kb_context.specs.declared.failure.Failure.{Failure}
+use Rattle.kb_context.specs.declared.failure.Failure.TheVariants.{NoMemory, Fault}
 use Rattle.kb_context.specs.declared.value.ContextValue.{ContextValue}
 use Rattle.kb_context.specs.declared.value.ContextValue.TheVariants.{Truth, Number, Text, Texts, Names}
 use Rattle.kb_context.specs.Reading.{or_fault}
@@ -20,3 +22,16 @@ value_of (object ms) = Some (Names (names_of ms))
 
 abbrev pub context_of : Data → Result ContextValue FileFault
 context_of d = or_fault WrongShape (value_of d)
+
+-- how the reading may fail: only a list or an object is put together, so memory is refused for no other value
+abbrev pub IsFault : Failure FileFault → Type 0
+IsFault NoMemory = ⊥
+IsFault (Fault fault) = Unit {0}
+
+abbrev pub MayFail : Data → Failure FileFault → Type 0
+MayFail null failure = IsFault failure
+MayFail (boolean b) failure = ⊥
+MayFail (number n) failure = IsFault failure
+MayFail (string s) failure = ⊥
+MayFail (array ds) failure = Unit {0}
+MayFail (object ms) failure = Unit {0}

@@ -1,12 +1,12 @@
 //! Context values, read from JSON.
-ghost use Rattle.std.specs.Prelude.{◌≡◌, IfOk};
+ghost use Rattle.std.specs.Prelude.{◌≡◌, IfOk, IfErr};
 ghost use Rattle.serde_json.specs.Find.{as_str};
 ghost use Rattle.serde_json.specs.View.{view, items_view, members_view};
 ghost use Rattle.kb_context.specs.Failure.{Gives};
 ghost use Rattle.kb_context.specs.Reading.{or_fault};
 ghost use Rattle.kb_manifest.specs.declared.fault.FileFault.TheVariants.{WrongShape};
 ghost use Rattle.kb_manifest.specs.Parts.{each, listed, names_of};
-ghost use Rattle.kb_manifest.specs.Context.{context_of};
+ghost use Rattle.kb_manifest.specs.Context.{context_of, MayFail};
 
 use crate::fault::FileFault;
 use crate::parts::text_in;
@@ -18,10 +18,11 @@ use std::alloc::Global;
 /// texts, or the names of an object's members, whatever their values. The kinds are those that the
 /// documentation of when clause contexts has; what a number and a list may hold is our decision.
 ///
-/// `WrongShape` (41) for `null`, any other number, and a list with an element that is no text.
-/// `NoMemory` where memory was refused.
+/// Errors: `WrongShape` (41) for `null`, any other number, and a list with an element that is no text;
+/// or `NoMemory`, where a list or an object is put together.
 pub fn read_context(alloc: Global, value: Value) -> Result<ContextValue, Failure<FileFault>>
-    ensures { Gives (λ value. value) result (context_of (view value)) }
+    ensures exact { Gives (λ value. value) result (context_of (view value)) }
+    ensures memory { IfErr result (MayFail (view value)) }
 {
     match value {
         Value::Null => Err(Failure::Fault(FileFault::WrongShape)),
