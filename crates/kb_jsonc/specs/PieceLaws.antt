@@ -15,8 +15,11 @@ LengthStays = (text plain : List ℕ) → plain_text text ≡ Ok plain → lengt
 
 -- each byte keeps its place, and becomes a space where it doesn't stay
 abbrev pub OnlyBlanks : Type 0
-OnlyBlanks = (text plain : List ℕ) → plain_text text ≡ Ok plain → (i : ℕ) → (slice_index plain i ≡ slice_index text i) ⊎ (slice_index plain i ≡ space)
+OnlyBlanks = (text plain : List ℕ) → plain_text text ≡ Ok plain
+    → (i : ℕ) → (slice_index plain i ≡ slice_index text i) ⊎ (slice_index plain i ≡ space)
 
 -- a block comment goes to the first end mark
 abbrev pub EndsFirst : Type 0
-EndsFirst = (bs : List ℕ) (n : ℕ) → block_len bs ≡ Some (n + 2) → (slice_index bs n ≡ star) × (slice_index bs (n + 1) ≡ slash) × ((i : ℕ) → i < n → slice_index bs i ≡ star → slice_index bs (i + 1) ≡ slash → ⊥)
+EndsFirst = (bs : List ℕ) (n : ℕ) → block_len bs ≡ Some (n + 2)
+    → (slice_index bs n ≡ star) × (slice_index bs (n + 1) ≡ slash)
+    × ((i : ℕ) → i < n → slice_index bs i ≡ star → slice_index bs (i + 1) ≡ slash → ⊥)

@@ -1,5 +1,7 @@
 -- The pieces that a text is cut into.
-use Rattle.std.specs.Prelude.{◌≡◌, ℕ, zero, suc, ◌+◌, ◌-◌, ◌<◌, ◌≤◌, ◌==◌, ◌&&◌, not, Bool, false, if◌then◌else◌, List, [], ◌∷◌, length, take, drop, slice_index, Option, Some, None, option_map, Result, Ok, Err}
+use Rattle.std.specs.Prelude.{◌≡◌, ℕ, zero, suc, ◌+◌, ◌-◌, ◌<◌, ◌≤◌, ◌==◌, ◌&&◌, not, Bool, false}
+use Rattle.std.specs.Prelude.{if◌then◌else◌, List, [], ◌∷◌, length, take, drop, slice_index, Option, Some}
+use Rattle.std.specs.Prelude.{None, option_map, Result, Ok, Err}
 use Rattle.std.specs.List.{prefix_len}
 use Rattle.std.specs.Str.{IsUtf8}
 use Rattle.kb_jsonc.specs.declared.fault.JsoncFault.{JsoncFault}
@@ -22,13 +24,17 @@ bytes_of (single b) = b ∷ []
 abbrev pub string_len : List ℕ → Option ℕ
 string_len [] = None
 string_len (b ∷ []) = if b == quote then Some 1 else None
-string_len (b ∷ c ∷ bs) = if b == quote then Some 1 else if b == backslash then option_map (λ n. n + 2) (string_len bs) else option_map (λ n. n + 1) (string_len (c ∷ bs))
+string_len (b ∷ c ∷ bs) =
+    if b == quote then Some 1
+    else if b == backslash then option_map (λ n. n + 2) (string_len bs)
+    else option_map (λ n. n + 1) (string_len (c ∷ bs))
 
 -- how far the block comment goes, with its end mark: the first
 abbrev pub block_len : List ℕ → Option ℕ
 block_len [] = None
 block_len (b ∷ []) = None
-block_len (b ∷ c ∷ bs) = if b == star && c == slash then Some 2 else option_map (λ n. n + 1) (block_len (c ∷ bs))
+block_len (b ∷ c ∷ bs) =
+    if b == star && c == slash then Some 2 else option_map (λ n. n + 1) (block_len (c ∷ bs))
 
 -- how far the line goes, without its end
 abbrev pub line_len : List ℕ → ℕ
@@ -43,7 +49,8 @@ unfoldable pub first_piece : ℕ → List ℕ → Result Piece JsoncFault
 first_piece b bs =
     if b == quote then or_fault OpenString (option_map (λ n. quoted (b ∷ take n bs)) (string_len bs))
     else if b == slash && begins slash bs then Ok (comment (b ∷ take (line_len bs) bs))
-    else if b == slash && begins star bs then or_fault OpenComment (option_map (λ n. comment (b ∷ take (n + 1) bs)) (block_len (drop 1 bs)))
+    else if b == slash && begins star bs then
+    or_fault OpenComment (option_map (λ n. comment (b ∷ take (n + 1) bs)) (block_len (drop 1 bs)))
     else Ok (single b)
 
 -- the piece that stands first in a text that isn't empty
@@ -53,7 +60,8 @@ first_of text = first_piece (slice_index text 0) (drop 1 text)
 -- the pieces of what follows the first n bytes
 abbrev pub pieces_past : ℕ → List ℕ → Result (List Piece) JsoncFault
 pieces_past n [] = Ok []
-pieces_past zero (b ∷ bs) = first_piece b bs >>= λ piece. pieces_past (length (bytes_of piece) - 1) bs >>= λ rest. Ok (piece ∷ rest)
+pieces_past zero (b ∷ bs) =
+    first_piece b bs >>= λ piece. pieces_past (length (bytes_of piece) - 1) bs >>= λ rest. Ok (piece ∷ rest)
 pieces_past (suc n) (b ∷ bs) = pieces_past n bs
 
 -- the pieces of a text, which is cut from the left

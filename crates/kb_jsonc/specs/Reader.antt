@@ -27,7 +27,8 @@ plain_value text = if list_all is_blank text then Ok (array no_items) else or_fa
 unfoldable pub value_of : List ℕ → Result Data JsoncFault
 value_of bytes = if is_utf8 bytes then plain_text (without_mark bytes) >>= plain_value else Err NotUtf8
 
--- an error of `serde_json` is told as refused memory where it is that, and only there; any other is the text's
+-- an error of `serde_json` is told as refused memory where it is that, and only there; any other is the
+-- text's syntax
 abbrev pub TellsError : Error → Failure JsoncFault → Type 0
 TellsError error NoMemory = IsMemory error
 TellsError error (Fault fault) = (IsMemory error → ⊥) × (fault ≡ Syntax)

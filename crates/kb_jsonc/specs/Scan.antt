@@ -1,5 +1,6 @@
 -- What the pass over a text keeps.
-use Rattle.std.specs.Prelude.{◌≡◌, ℕ, ◌<◌, ◌≤◌, ◌==◌, ◌&&◌, false, if◌then◌else◌, List, ◌++◌, length, slice_index, slice_set, take, drop, Option, Some, None, IfSome, Result, Ok}
+use Rattle.std.specs.Prelude.{◌≡◌, ℕ, ◌<◌, ◌≤◌, ◌==◌, ◌&&◌, false, if◌then◌else◌, List, ◌++◌, length}
+use Rattle.std.specs.Prelude.{slice_index, slice_set, take, drop, Option, Some, None, IfSome, Result, Ok}
 use Rattle.std.specs.Str.{IsUtf8}
 use Rattle.kb_jsonc.specs.declared.fault.JsoncFault.{JsoncFault}
 use Rattle.kb_jsonc.specs.declared.scan.Scan.{Scan}

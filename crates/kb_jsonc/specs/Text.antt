@@ -1,5 +1,6 @@
 -- The plain text of a text: its comments are made blank, and then its trailing commas, all at once.
-use Rattle.std.specs.Prelude.{ℕ, ◌==◌, ◌&&◌, Bool, if◌then◌else◌, List, [], ◌∷◌, ◌++◌, map, Option, Some, None, Result, Ok}
+use Rattle.std.specs.Prelude.{ℕ, ◌==◌, ◌&&◌, Bool, if◌then◌else◌, List, [], ◌∷◌, ◌++◌, map, Option, Some}
+use Rattle.std.specs.Prelude.{None, Result, Ok}
 use Rattle.kb_jsonc.specs.declared.fault.JsoncFault.{JsoncFault}
 use Rattle.kb_context.specs.Reading.{◌>>=◌}
 use Rattle.kb_context.specs.Blank.{is_blank}
@@ -22,7 +23,8 @@ abbrev pub plain_of : Option ℕ → List Piece → List ℕ
 plain_of before [] = []
 plain_of before (quoted bytes ∷ ps) = bytes ++ plain_of (Some quote) ps
 plain_of before (comment bytes ∷ ps) = map blanked bytes ++ plain_of before ps
-plain_of before (single b ∷ ps) = (if is_trailing before b (next_of ps) then space else b) ∷ plain_of (if is_blank b then before else Some b) ps
+plain_of before (single b ∷ ps) =
+    (if is_trailing before b (next_of ps) then space else b) ∷ plain_of (if is_blank b then before else Some b) ps
 
 unfoldable pub plain_text : List ℕ → Result (List ℕ) JsoncFault
 plain_text text = pieces text >>= λ ps. Ok (plain_of None ps)

@@ -1,5 +1,6 @@
 //! How far a string or a comment goes.
-ghost use Rattle.std.specs.Prelude.{◌≡◌, ◌-◌, ◌<◌, ◌≤◌, length, slice_index, Ok, IfOk, IfErr, IfSome, MatchOption};
+ghost use Rattle.std.specs.Prelude.{◌≡◌, ◌-◌, ◌<◌, ◌≤◌, length, slice_index, Ok, IfOk, IfErr, IfSome};
+ghost use Rattle.std.specs.Prelude.{MatchOption};
 ghost use Rattle.kb_jsonc.specs.Bytes.{slash};
 ghost use Rattle.kb_jsonc.specs.Pieces.{single, string_len, block_len, line_len, first_of, OpensComment};
 

@@ -19,9 +19,7 @@ use std::alloc::Global;
 /// order mark at the start is dropped, a file of nothing but white space and comments is the empty
 /// list, and up to 127 brackets may stand open at once.
 ///
-/// # Errors
-///
-/// The first of these that holds: `NotUtf8` (1) where the bytes are no UTF-8 text; `OpenComment` (2)
+/// Errors: the first of these that holds: `NotUtf8` (1) where the bytes are no UTF-8 text; `OpenComment` (2)
 /// or `OpenString` (3) where a block comment or a string has no end, whichever stands first; `Syntax`
 /// (4) where what is left is no JSON text, has a number out of range, or nests deeper. `NoMemory` (5)
 /// where memory was refused on the way to that answer.

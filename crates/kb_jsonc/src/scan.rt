@@ -3,7 +3,8 @@
 //! That a comma is trailing shows only at the next byte that isn't blank. So the pass remembers the
 //! place of the last comma that may be, and goes back to that place alone. Every other byte is passed
 //! once, and those of a comment a second time to make them blank: the time is linear.
-ghost use Rattle.std.specs.Prelude.{◌≡◌, ◌<◌, length, slice_index, drop, Ok, Err, IfOk, IfErr, OnOk, true, false};
+ghost use Rattle.std.specs.Prelude.{◌≡◌, ◌<◌, length, slice_index, drop, Ok, Err, IfOk, IfErr, OnOk};
+ghost use Rattle.std.specs.Prelude.{true, false};
 ghost use Rattle.std.specs.Str.{IsUtf8};
 ghost use Rattle.kb_context.specs.Blank.{is_blank};
 ghost use Rattle.kb_jsonc.specs.Bytes.{quote, slash, comma, closes};

@@ -19,9 +19,7 @@ use std::alloc::Global;
 /// the commas of `[,]` and `[1,,]` stay. Each byte keeps its place, so that a place in the plain text
 /// is one in the file.
 ///
-/// # Errors
-///
-/// `OpenComment` (2) or `OpenString` (3) where a block comment or a string has no end, whichever
+/// Errors: `OpenComment` (2) or `OpenString` (3) where a block comment or a string has no end, whichever
 /// stands first. `NoMemory` (5) where memory was refused for the one copy of the text.
 pub fn plain(alloc: Global, text: &str) -> Result<String, Failure<JsoncFault>>
     ensures exact { Gives string_bytes result (plain_text text.now) }

@@ -1,5 +1,6 @@
 -- A modifier's words, and the modifier that a text begins with.
-use Rattle.std.specs.Prelude.{ℕ, ◌+◌, List, Bool, cond, ◌||◌, ◌==◌, Option, None, Some, option_map, bytes_eq, codes, drop, take, position}
+use Rattle.std.specs.Prelude.{ℕ, ◌+◌, List, Bool, cond, ◌||◌, ◌==◌, Option, None, Some, option_map}
+use Rattle.std.specs.Prelude.{bytes_eq, codes, drop, take, position}
 use Rattle.kb_keys.specs.declared.modifier.Modifier.{Modifier}
 use Rattle.kb_keys.specs.declared.modifier.Modifier.TheVariants.{Ctrl, Shift, Alt, Meta}
 use Rattle.kb_keys.specs.KeyName.{lowered}

@@ -1,8 +1,10 @@
 //! Keystrokes that are pressed one after another.
-ghost use Rattle.std.specs.Prelude.{◌≡◌, ◌<◌, ◌≤◌, ◌+◌, ◌↔◌, length, List, [], ◌∷◌, ◌++◌, IfOk, OnOk, Ok, string_bytes, option_to_list, IsTrue, IsSome};
+ghost use Rattle.std.specs.Prelude.{◌≡◌, ◌<◌, ◌≤◌, ◌+◌, ◌↔◌, length, List, [], ◌∷◌, ◌++◌, IfOk, OnOk, Ok};
+ghost use Rattle.std.specs.Prelude.{string_bytes, option_to_list, IsTrue, IsSome};
 ghost use Rattle.std.specs.Str.{IsUtf8};
 ghost use Rattle.kb_keys.specs.Keystroke.{KnownKeys};
-ghost use Rattle.kb_keys.specs.Chord.{chord_limit, chord_of, steps_of, with_step, chord_spelling, spelling_after, begins_with};
+ghost use Rattle.kb_keys.specs.Chord.{chord_limit, chord_of, steps_of, with_step, chord_spelling};
+ghost use Rattle.kb_keys.specs.Chord.{spelling_after, begins_with};
 
 use crate::key_fault::KeyFault;
 use crate::keystroke::Keystroke;
@@ -37,7 +39,8 @@ impl Model for Chord {
 
     ghost use Rattle.std.proofs.Common.{ap, sym};
 
-    ghost inverse_ok = { λ a h. ap (λ n. record { strokes = record { items = a.strokes.items; capacity = n } }) (sym h.1) };
+    ghost inverse_ok = { λ a h.
+        ap (λ n. record { strokes = record { items = a.strokes.items; capacity = n } }) (sym h.1) };
 }
 
 impl Chord {
@@ -53,9 +56,8 @@ impl Chord {
     /// Reads a chord text: key texts (`Keystroke::parse`) between spaces. Only U+0020 separates
     /// them (our decision); several count as one, and those at the ends are ignored.
     ///
-    /// A text that holds nothing but spaces is `EmptyKey`, more than `LIMIT` key texts are
-    /// `TooManySteps`, and else the fault is that of the first key text that has one. It takes no
-    /// memory.
+    /// Errors: `EmptyKey` (12) for a text that holds nothing but spaces; `TooManySteps` (11) for more
+    /// than `LIMIT` key texts; else that of the first key text that has one. It takes no memory.
     pub fn parse(alloc: Global, text: &str) -> Result<Chord, KeyFault>
         ensures { result ≡ chord_of text.now }
     {
@@ -82,7 +84,8 @@ impl Chord {
     /// back, but for the chord without keystrokes, whose text is empty.
     pub fn text(&self, alloc: Global) -> Result<String, NoMemory>
         ensures spelling { IfOk result (λ text. string_bytes text ≡ chord_spelling self.now) }
-        ensures reads_back { 0 < length self.now → IfOk result (λ text. chord_of (string_bytes text) ≡ Ok self.now) }
+        ensures reads_back { 0 < length self.now
+            → IfOk result (λ text. chord_of (string_bytes text) ≡ Ok self.now) }
     {
         let mut text = String::new(alloc);
         write_strokes(self.as_slice(), &mut text)?;
@@ -163,7 +166,8 @@ impl Chord {
 /// Appends the canonical text of keystrokes to a line, as `Chord::text` gives it. Without memory
 /// the line may have got a part of it.
 pub fn write_strokes(strokes: &[Keystroke], line: &mut String) -> Result<(), NoMemory>
-    ensures spelling { OnOk result (string_bytes line.new ≡ string_bytes line.old ++ chord_spelling strokes.now) }
+    ensures spelling { OnOk result
+        (string_bytes line.new ≡ string_bytes line.old ++ chord_spelling strokes.now) }
     ensures known { OnOk result (KnownKeys strokes.now) }
 {
     let Some((first, more)) = strokes.split_first() else {
@@ -176,7 +180,8 @@ pub fn write_strokes(strokes: &[Keystroke], line: &mut String) -> Result<(), NoM
 
 /// Appends a space and the canonical text of each of these keystrokes to a line.
 fn write_more(more: &[Keystroke], line: &mut String) -> Result<(), NoMemory>
-    ensures spelling { OnOk result (string_bytes line.new ≡ string_bytes line.old ++ spelling_after more.now) }
+    ensures spelling { OnOk result
+        (string_bytes line.new ≡ string_bytes line.old ++ spelling_after more.now) }
     ensures known { OnOk result (KnownKeys more.now) }
 {
     for stroke in more {

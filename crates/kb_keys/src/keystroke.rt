@@ -1,5 +1,6 @@
 //! A key with its modifiers.
-ghost use Rattle.std.specs.Prelude.{◌≡◌, ◌<◌, ◌≤◌, ◌+◌, [], ◌++◌, length, string_bytes, string_len, Ok, IfOk, OnOk, OnErr, if◌then◌else◌};
+ghost use Rattle.std.specs.Prelude.{◌≡◌, ◌<◌, ◌≤◌, ◌+◌, [], ◌++◌, length, string_bytes, string_len, Ok};
+ghost use Rattle.std.specs.Prelude.{IfOk, OnOk, OnErr, if◌then◌else◌};
 ghost use Rattle.std.specs.String.{string_capacity};
 ghost use Rattle.kb_keys.specs.KeyName.{key_count};
 ghost use Rattle.kb_keys.specs.Keystroke.{keystroke_of, spelling, split_of, ReadsFromLeft};
@@ -28,9 +29,9 @@ impl Keystroke {
     /// more than once, and ASCII letter case does not count (`-` as the sign and repeated
     /// modifiers are our decision). The text is neither split at spaces nor trimmed.
     ///
-    /// An empty rest is `EmptyKey`, and another rest that is no key's name is `UnknownKey`. So
-    /// `ctrl` alone is `UnknownKey`, `ctrl+` is `EmptyKey`, and `ctrl--` is `ctrl` with `-`.
-    /// It takes no memory.
+    /// Errors: `EmptyKey` (12) for an empty rest, and `UnknownKey` (10) for another one that is no key's
+    /// name. So `ctrl` alone is `UnknownKey`, `ctrl+` is `EmptyKey`, and `ctrl--` is `ctrl` with `-`. It
+    /// takes no memory.
     #[tactic(auto, unfolding(crate::specs::Keystroke::keystroke_of), using(crate::proofs::KeystrokeLaw::reads_from_left))]
     pub fn parse(text: &str) -> Result<Keystroke, KeyFault>
         ensures value { result ≡ keystroke_of text.now }
