@@ -1,5 +1,6 @@
 -- The words for the files of a load, its faults, and the numbers of a session's.
-use Rattle.std.specs.Prelude.{ℕ, List, codes}
+use Rattle.std.specs.Prelude.{ℕ, List, Result, Ok, Err, codes, alloc_error}
+use Rattle.std.specs.declared.alloc.AllocError.{AllocError}
 use Rattle.kb_context.specs.declared.failure.Failure.{Failure}
 use Rattle.kb_context.specs.declared.failure.Failure.TheVariants.{NoMemory, Fault}
 use Rattle.kb_context.specs.declared.refusal.Refusal.{Refusal}
@@ -21,6 +22,11 @@ refused_file file refusal = record { file = file; refusal = refusal }
 abbrev pub failure_of : LoadFile → Failure Refusal → Failure LoadFault
 failure_of file NoMemory = NoMemory
 failure_of file (Fault refusal) = Fault (refused_file file refusal)
+
+-- the fault that a failure is, or refused memory
+abbrev pub fault_in : {F : Type 0} → Failure F → Result F AllocError
+fault_in NoMemory = Err alloc_error
+fault_in (Fault fault) = Ok fault
 
 abbrev pub session_number : SessionFault → ℕ
 session_number session.NoMemory = 5

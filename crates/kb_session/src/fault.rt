@@ -3,6 +3,7 @@ ghost use Rattle.std.specs.Prelude.{◌≡◌};
 ghost use Rattle.kb_session.specs.Fault as fault;
 
 use kb_context::{Failure, NoMemory, Refusal};
+use std::alloc::AllocError;
 use std::fmt;
 use thiserror::Error;
 
@@ -55,6 +56,16 @@ pub(crate) fn failure_of(file: LoadFile, failure: Failure<Refusal>) -> Failure<L
     match failure {
         Failure::NoMemory => Failure::NoMemory,
         Failure::Fault(refusal) => Failure::Fault(LoadFault { file, refusal }),
+    }
+}
+
+/// The fault that a failure is, or refused memory. It takes no memory.
+pub(crate) fn fault_in<F>(failure: Failure<F>) -> Result<F, NoMemory>
+    ensures { result ≡ fault.fault_in failure }
+{
+    match failure {
+        Failure::NoMemory => Err(AllocError),
+        Failure::Fault(fault) => Ok(fault),
     }
 }
 

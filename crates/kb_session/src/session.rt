@@ -10,7 +10,7 @@ ghost use Rattle.kb_session.specs.declared.fault.SessionFault.TheVariants.{NoMem
 ghost use Rattle.kb_stream.specs.Fold.{after_all};
 ghost use Rattle.kb_trace.specs.Lines as line;
 
-use crate::fault::{LoadFault, LoadFile, SessionFault, failure_of};
+use crate::fault::{LoadFault, LoadFile, SessionFault, failure_of, fault_in};
 use crate::inputs::Inputs;
 use crate::press::press_key;
 use kb_context::{ContextValue, Failure, NoMemory, Refusal, ScopeFault};
@@ -21,7 +21,7 @@ use kb_resolve::{ChordState, Resolver};
 use kb_rules::{RuleList, RuleSet, Warning};
 use kb_stream::Lines;
 use kb_trace::{Answer, Event, lines};
-use std::alloc::{AllocError, Global};
+use std::alloc::Global;
 use std::collections::VecDeque;
 use std::marker::Model;
 
@@ -242,8 +242,7 @@ impl Session {
         lines::set_line(&mut self.trace, scope, key)?;
         match self.core.scopes_mut().set(scope, key, value) {
             Ok(()) => Ok(Answer::Did),
-            Err(Failure::Fault(fault)) => self.refuse_instead(mark, fault),
-            Err(Failure::NoMemory) => Err(AllocError),
+            Err(failure) => self.refuse_instead(mark, fault_in(failure)?),
         }
     }
 
@@ -318,8 +317,7 @@ impl Session {
                 self.take_rules(user)?;
                 Ok(Answer::Did)
             }
-            Err(Failure::Fault(refusal)) => self.refuse(refusal),
-            Err(Failure::NoMemory) => Err(AllocError),
+            Err(failure) => self.refuse(fault_in(failure)?),
         }
     }
 
