@@ -1,27 +1,82 @@
--- What is read of a file. The bytes that a reader has left are known of a reader over memory, and not of a file.
-use Rattle.std.specs.Prelude.{◌≡◌, ◌⊎◌, ◌≤◌, ◌<◌, ℕ, List, Option, Some, None, IfSome, length, ⊤}
-use Rattle.kb_ending.specs.Report.{out_of_memory}
-use Rattle.kb_ending.specs.declared.files.ReadFault.{ReadFault}
-use Rattle.kb_ending.specs.declared.files.ReadFault.TheVariants.{NoMemory, Failed, TooLong}
-use Rattle.kb_ending.specs.declared.outcome.Ending.{Ending}
-use Rattle.kb_ending.specs.declared.outcome.Ending.TheVariants.{CannotRead}
+-- What is read of a file. What is held at a path is known of files over memory, and not of those of a system.
+use Rattle.std.specs.Prelude.{◌≡◌, ◌≤◌, ◌<◌, ⊤, ℕ, List, Option, Some, None, Result, Ok, Err, MatchResult}
+use Rattle.std.specs.Prelude.{length}
+use Rattle.std.specs.Borrow.{Bor}
+use Rattle.std.specs.IoError.{error_kind}
+use Rattle.std.specs.declared.io.Error.{Error}
+use Rattle.std.specs.declared.io.ErrorKind.{ErrorKind}
+use Rattle.std.specs.declared.io.ErrorKind.TheVariants.{OutOfMemory}
+use Rattle.kb_context.specs.declared.failure.Failure.{Failure}
+use Rattle.kb_context.specs.declared.failure.Failure.TheVariants as failure
+use Rattle.kb_stream.specs.declared.reading.ReadFault.{ReadFault}
+use Rattle.kb_stream.specs.declared.reading.ReadFault.TheVariants.{TooLong, Failed}
+use Rattle.kb_ending.specs.Report.{file_stop}
+use Rattle.kb_ending.specs.declared.outcome.Stop.{Stop}
 
 -- the most bytes of a file
 abbrev pub file_limit : ℕ
 file_limit = 16777216
 
--- these bytes are all that the reader had, and no more than the limit
-pub record IsWhole (had : Option (List ℕ)) (bytes : List ℕ) : Type 0 where
-  pub all : IfSome had (λ known. known ≡ bytes)
-  pub within : length bytes ≤ file_limit
+-- what there is at a path: nothing is known, it doesn't open for a reason, or there is a file of these bytes
+pub data Held : Type 0 where
+  unknown : Held
+  refuses : ErrorKind → Held
+  holds : List ℕ → Held
 
--- a reader that gave too much had more than the limit
-abbrev pub FailsToRead : Option (List ℕ) → ReadFault → Type 0
-FailsToRead had NoMemory = ⊤
-FailsToRead had Failed = ⊤
-FailsToRead had TooLong = IfSome had (λ known. file_limit < length known)
+-- an open answers what there is
+abbrev pub Opens : {F : Type 0} → (F → Option (List ℕ)) → Held → Result F Error → Type 0
+Opens remaining unknown r = ⊤
+Opens remaining (refuses kind) r = MatchResult r (λ file. ⊥) (λ e. error_kind e ≡ kind)
+Opens remaining (holds bytes) r = MatchResult r (λ file. remaining file ≡ Some bytes) (λ e. ⊥)
 
--- a run ends so where the file that it names is not had; one that names no file has no such end
-abbrev pub EndsFor : Option (List ℕ) → Ending → Type 0
-EndsFor None end = ⊥
-EndsFor (Some path) end = (end ≡ CannotRead path) ⊎ (end ≡ out_of_memory)
+-- why a file was not opened, by what the system says
+abbrev pub failure_of : ErrorKind → Failure ReadFault
+failure_of OutOfMemory = failure.NoMemory
+failure_of _ = failure.Fault Failed
+
+-- reading a file of these bytes may be refused memory, or fail; it is too long past the limit alone
+abbrev pub FailsOn : List ℕ → Failure ReadFault → Type 0
+FailsOn bytes failure.NoMemory = ⊤
+FailsOn bytes (failure.Fault Failed) = ⊤
+FailsOn bytes (failure.Fault TooLong) = file_limit < length bytes
+
+-- what reading what is held there may answer, with the bytes seen by view
+abbrev pub HasRead : {B : Type 0} → Held → (B → List ℕ) → Result B (Failure ReadFault) → Type 0
+HasRead unknown view r = MatchResult r (λ got. length (view got) ≤ file_limit) (λ failed. ⊤)
+HasRead (refuses kind) view r = MatchResult r (λ got. ⊥) (λ failed. failed ≡ failure_of kind)
+HasRead (holds bytes) view r =
+    MatchResult r (λ got. (view got ≡ bytes) × (length bytes ≤ file_limit)) (FailsOn bytes)
+
+-- the run stops for what reading the file of a path answered
+pub record StopsReading (held : Held) (path : Bor (List ℕ)) (stop : Stop) : Type 0 where
+  pub failed : Failure ReadFault
+  pub reading : HasRead {B = List ℕ} held (λ bytes. bytes) (Err failed)
+  pub stop_is : stop ≡ file_stop path failed
+
+-- the run stops for what opening the file of a path answered
+pub record StopsOpening (held : Held) (path : Bor (List ℕ)) (stop : Stop) : Type 0 where
+  pub error : Error
+  pub opening : Opens {F = Unit {0}} (λ file. None) held (Err error)
+  pub stop_is : stop ≡ file_stop path (failure_of (error_kind error))
+
+abbrev pub GivesBytes : {B : Type 0} → Held → (B → List ℕ) → Option B → Type 0
+GivesBytes held view None = ⊥
+GivesBytes held view (Some got) = HasRead held view (Ok got)
+
+abbrev pub GivesFile : {F : Type 0} → Held → (F → Option (List ℕ)) → Option F → Type 0
+GivesFile held remaining None = ⊥
+GivesFile held remaining (Some file) = Opens remaining held (Ok file)
+
+-- the bytes of the file that an option names, and none where it names no file
+abbrev pub NamesBytes : {B : Type 0} → (List ℕ → Held) → (B → List ℕ) → Option (Bor (List ℕ))
+    → Result (Option B) Stop → Type 0
+NamesBytes held view None r = MatchResult r (λ got. got ≡ None) (λ stop. ⊥)
+NamesBytes held view (Some path) r =
+    MatchResult r (GivesBytes (held path.now) view) (StopsReading (held path.now) path)
+
+-- the file that an option names, open for reading
+abbrev pub NamesFile : {F : Type 0} → (List ℕ → Held) → (F → Option (List ℕ)) → Option (Bor (List ℕ))
+    → Result (Option F) Stop → Type 0
+NamesFile held remaining None r = MatchResult r (λ got. got ≡ None) (λ stop. ⊥)
+NamesFile held remaining (Some path) r =
+    MatchResult r (GivesFile (held path.now) remaining) (StopsOpening (held path.now) path)

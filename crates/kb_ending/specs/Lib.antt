@@ -1,3 +1,3 @@
 pub mod Files
-pub mod ReadFaults
 pub mod Report
+pub mod Voice

@@ -1,72 +1,75 @@
 -- The exit status and the line with which a run ends.
-use Rattle.std.specs.Prelude.{ℕ, Bool, true, false, List, [], ◌++◌, Result, Ok, Err, codes, decimal}
-use Rattle.kb_files.specs.Fault.{file_name, file_number}
+use Rattle.std.specs.Prelude.{ℕ, Bool, true, false, List, ◌++◌, Option, Some, None, Result, Ok, Err, codes, decimal}
+use Rattle.std.specs.Borrow.{Bor}
+use Rattle.kb_context.specs.Faults.{fault_name}
+use Rattle.kb_context.specs.declared.failure.Failure.{Failure}
+use Rattle.kb_context.specs.declared.failure.Failure.TheVariants as failure
+use Rattle.kb_rules.specs.declared.warning.Warning.{Warning}
 use Rattle.kb_session.specs.Fault.{load_file_word}
-use Rattle.kb_files.specs.declared.fault.FileFault.{FileFault}
 use Rattle.kb_session.specs.declared.fault.LoadFile.{LoadFile}
 use Rattle.kb_session.specs.declared.fault.LoadFault.{LoadFault}
-use Rattle.kb_session.specs.declared.fault.LoadFault.TheVariants as load
 use Rattle.kb_script.specs.declared.fault.ScriptFault.{ScriptFault}
 use Rattle.kb_script.specs.declared.fault.ScriptFault.TheVariants as script
-use Rattle.kb_ending.specs.declared.files.ReadFault.{ReadFault}
-use Rattle.kb_ending.specs.declared.files.ReadFault.TheVariants as read
-use Rattle.kb_ending.specs.declared.outcome.Ending.{Ending}
-use Rattle.kb_ending.specs.declared.outcome.Ending.TheVariants.{Ran, CannotRead, Load, Script}
+use Rattle.kb_stream.specs.declared.reading.ReadFault.{ReadFault}
+use Rattle.kb_ending.specs.declared.outcome.Stop.{Stop}
+use Rattle.kb_ending.specs.declared.outcome.Stop.TheVariants.{CannotRead, Load, Script, NoMemory}
 
 -- ---- statuses
 
-abbrev pub load_status : LoadFault → ℕ
-load_status load.NoMemory = 4
-load_status (load.Refused file fault) = 3
+abbrev pub stop_status : Stop → ℕ
+stop_status (CannotRead path) = 3
+stop_status (Load fault) = 3
+stop_status (Script fault) = 4
+stop_status NoMemory = 4
 
-abbrev pub status_of : Ending → ℕ
-status_of Ran = 0
-status_of (CannotRead path) = 3
-status_of (Load fault) = load_status fault
-status_of (Script fault) = 4
+abbrev pub status_of : Result (Unit {0}) Stop → ℕ
+status_of (Ok done) = 0
+status_of (Err stop) = stop_status stop
 
 -- ---- lines
 
-abbrev pub refusal_line : LoadFile → FileFault → List ℕ
-refusal_line file fault = codes "load refused: " ++ (load_file_word file ++ (codes " "
-    ++ (decimal (file_number fault) ++ (codes " " ++ file_name fault))))
+-- a load's fault: the file, the fault's number and name, and what its detail says, where it has one
+abbrev pub refusal_line : LoadFile → ℕ → Option (List ℕ) → List ℕ
+refusal_line file number None = codes "load refused: " ++ (load_file_word file ++ (codes " "
+    ++ (decimal number ++ (codes " " ++ fault_name number))))
+refusal_line file number (Some detail) = codes "load refused: " ++ (load_file_word file ++ (codes " "
+    ++ (decimal number ++ (codes " " ++ (fault_name number ++ (codes " " ++ detail))))))
 
 abbrev pub load_line : LoadFault → List ℕ
-load_line load.NoMemory = codes "stopped: out of memory"
-load_line (load.Refused file fault) = refusal_line file fault
+load_line fault = refusal_line fault.file fault.refusal.number fault.refusal.detail
 
 abbrev pub script_line : ScriptFault → List ℕ
-script_line script.NoMemory = codes "stopped: out of memory"
 script_line script.Stopped = codes "stopped: out of memory"
 script_line script.TooLong = codes "script: too long"
 script_line script.ReadFailed = codes "script: read failed"
 script_line script.WriteFailed = codes "script: write failed"
 
-abbrev pub line_of : Ending → List ℕ
-line_of Ran = []
-line_of (CannotRead path) = codes "cannot read " ++ path
-line_of (Load fault) = load_line fault
-line_of (Script fault) = script_line fault
+abbrev pub stop_line : Stop → List ℕ
+stop_line (CannotRead path) = codes "cannot read " ++ path.now
+stop_line (Load fault) = load_line fault
+stop_line (Script fault) = script_line fault
+stop_line NoMemory = codes "stopped: out of memory"
 
 -- of an entry of the user's rules that was left out: the warning's number, and the entry's place
-abbrev pub warning_line : ℕ → ℕ → List ℕ
-warning_line number place = codes "warning " ++ (decimal number
-    ++ (codes " user keybindings " ++ decimal place))
+abbrev pub warning_line : Warning → List ℕ
+warning_line warning = codes "warning " ++ (decimal warning.number
+    ++ (codes " user keybindings " ++ decimal warning.place))
 
--- ---- endings
+-- ---- what stops a run
 
-abbrev pub out_of_memory : Ending
-out_of_memory = Script script.NoMemory
+abbrev pub load_stop : Failure LoadFault → Stop
+load_stop failure.NoMemory = NoMemory
+load_stop (failure.Fault fault) = Load fault
 
-abbrev pub file_ending : List ℕ → ReadFault → Ending
-file_ending path read.NoMemory = out_of_memory
-file_ending path read.Failed = CannotRead path
-file_ending path read.TooLong = CannotRead path
+abbrev pub file_stop : Bor (List ℕ) → Failure ReadFault → Stop
+file_stop path failure.NoMemory = NoMemory
+file_stop path (failure.Fault fault) = CannotRead path
 
 -- what is left of the trace in its buffer is written after the script: where that fails, a script that
 -- ran, or found no memory, ends as one whose write failed
-abbrev pub script_ending : Result (Unit {0}) ScriptFault → Bool → Ending
-script_ending (Ok done) true = Ran
-script_ending (Ok done) false = Script script.WriteFailed
-script_ending (Err script.NoMemory) false = Script script.WriteFailed
-script_ending (Err fault) is_flushed = Script fault
+abbrev pub script_stop : Result (Unit {0}) (Failure ScriptFault) → Bool → Result (Unit {0}) Stop
+script_stop (Ok done) true = Ok tt
+script_stop (Ok done) false = Err (Script script.WriteFailed)
+script_stop (Err failure.NoMemory) true = Err NoMemory
+script_stop (Err failure.NoMemory) false = Err (Script script.WriteFailed)
+script_stop (Err (failure.Fault fault)) is_flushed = Err (Script fault)

@@ -1,81 +1,89 @@
 //! The files that the command line names.
-ghost use Rattle.std.specs.Prelude.{◌≡◌, ◌≤◌, ◌↔◌, IfOk, IfErr, IfSome, IsSome, MatchResult, length, option_map};
-ghost use Rattle.kb_ending.specs.Files.{IsWhole, FailsToRead, EndsFor, file_limit};
+ghost use Rattle.std.specs.Prelude.{◌≡◌, option_map};
+ghost use Rattle.std.specs.IoError.{error_kind};
+ghost use Rattle.kb_ending.specs.Files.{Opens, HasRead, failure_of, NamesBytes, NamesFile};
 
-use crate::outcome::Ending;
-use crate::report::file_ending;
-use kb_context::Text;
+use crate::outcome::Stop;
+use crate::report::file_stop;
+use kb_context::Failure;
+use kb_stream::{ReadFault, read_within};
 use std::alloc::Global;
 use std::io::{ErrorKind, Read};
 use std::rt::Files;
 use std::{fs, io};
 
 /// The most bytes of a file. Our decision.
-pub const FILE_LIMIT: u64 = 16_777_216;
+pub const FILE_LIMIT: usize = 16_777_216;
 
-/// Why a file was not read.
-#[derive(Clone, Copy, Debug, PartialEq, Eq)]
-pub enum ReadFault {
-    /// Memory was refused.
-    NoMemory,
-    /// There is no such file, or a read failed.
-    Failed,
-    /// The file has more bytes than [`FILE_LIMIT`].
-    TooLong,
+/// Files by their paths, as a run opens them.
+pub trait FileSource {
+    ghost use Rattle.std.specs.Prelude.{ℕ, List};
+    ghost use Rattle.kb_ending.specs.Files.{Held, unknown};
+
+    type File: Read + Drop;
+
+    /// What there is at a path, where that is known.
+    ghost held: { Self → List ℕ → Held } = { λ _ _. unknown };
+
+    /// Opens the file of a path for reading.
+    fn open(&self, path: &str) -> io::Result<Self::File>
+        ensures { Opens Self.File.remaining (held self.now path.now) result };
 }
 
-impl From<io::Error> for ReadFault {
-    ghost use Rattle.kb_ending.specs.ReadFaults.{Explains};
+/// The files of the system, of which nothing is known.
+#[derive(Clone, Copy)]
+pub struct SystemFiles<'a, R> {
+    pub rt: &'a R,
+}
 
-    ghost from_gives = { Explains };
+impl<R: Files> FileSource for SystemFiles<'_, R> {
+    type File = R::File;
 
-    fn from(error: io::Error) -> ReadFault {
-        match error.kind() {
-            ErrorKind::OutOfMemory => ReadFault::NoMemory,
-            _ => ReadFault::Failed,
-        }
+    fn open(&self, path: &str) -> io::Result<R::File> {
+        fs::open(self.rt, path)
     }
 }
 
-/// All that a reader gives, if it is at most [`FILE_LIMIT`] bytes. One byte more is asked for, to
-/// tell.
-///
-/// Errors: `Failed` where a read fails, `TooLong` past the limit, `NoMemory`.
-pub fn read_whole<R: Read + Drop>(alloc: Global, reader: R) -> Result<Vec<u8>, ReadFault>
-    ensures ok { IfOk result (λ bytes. IsWhole (R.remaining reader) bytes.items) }
-    ensures err { IfErr result (FailsToRead (R.remaining reader)) }
+/// Why a file was not opened: where the system found no memory, that, and else the file.
+fn open_failure(error: &io::Error) -> Failure<ReadFault>
+    ensures { result ≡ failure_of (error_kind error.now) }
 {
-    let mut bytes = Vec::new(alloc);
-    reader.take(FILE_LIMIT + 1).read_to_end(&mut bytes)?;
-    if bytes.len() as u64 > FILE_LIMIT {
-        return Err(ReadFault::TooLong);
+    match error.kind() {
+        ErrorKind::OutOfMemory => Failure::NoMemory,
+        _ => Failure::Fault(ReadFault::Failed),
     }
-    Ok(bytes)
 }
 
-fn read_file<R: Files>(rt: &R, alloc: Global, path: &str) -> Result<Vec<u8>, ReadFault>
-    ensures { IfOk result (λ bytes. length bytes.items ≤ file_limit) }
+/// All bytes of the file at a path, if it is at most [`FILE_LIMIT`] bytes.
+fn read_file<F: FileSource>(
+    files: &F,
+    alloc: Global,
+    path: &str,
+) -> Result<Vec<u8>, Failure<ReadFault>>
+    ensures { HasRead (F.held files.now path.now) (λ bytes. bytes.items) result }
 {
-    read_whole(alloc, fs::open(rt, path)?)
+    match files.open(path) {
+        Ok(mut file) => read_within(alloc, &mut file, FILE_LIMIT),
+        Err(error) => Err(open_failure(&error)),
+    }
 }
 
 /// The bytes of the file that an option names, and none where it names no file.
 ///
 /// Errors: how the run ends, where the file is not read.
-pub fn bytes_named<R: Files>(
-    rt: &R,
+pub fn bytes_named<'a, F: FileSource>(
+    files: &F,
     alloc: Global,
-    path: &Option<Text>,
-) -> Result<Option<Vec<u8>>, Ending>
-    ensures named { MatchResult result (λ bytes. IsSome bytes ↔ IsSome path.now) (EndsFor path.now) }
-    ensures within { IfOk result (λ bytes. IfSome bytes (λ bytes. length bytes.items ≤ file_limit)) }
+    path: Option<&'a str>,
+) -> Result<Option<Vec<u8>>, Stop<'a>>
+    ensures { NamesBytes (F.held files.now) (λ bytes. bytes.items) path.entry result }
 {
     let Some(path) = path else {
         return Ok(None);
     };
-    match read_file(rt, alloc, path.as_str()) {
+    match read_file(files, alloc, path) {
         Ok(bytes) => Ok(Some(bytes)),
-        Err(fault) => Err(file_ending(alloc, path.as_str(), fault)?),
+        Err(failure) => Err(file_stop(path, failure)),
     }
 }
 
@@ -92,18 +100,17 @@ pub fn lent(bytes: &Option<Vec<u8>>) -> Option<&[u8]>
 /// The file that an option names, open for reading, and none where it names no file.
 ///
 /// Errors: how the run ends, where the file does not open.
-pub fn file_named<R: Files>(
-    rt: &R,
-    alloc: Global,
-    path: &Option<Text>,
-) -> Result<Option<R::File>, Ending>
-    ensures { MatchResult result (λ file. IsSome file ↔ IsSome path.now) (EndsFor path.now) }
+pub fn file_named<'a, F: FileSource>(
+    files: &F,
+    path: Option<&'a str>,
+) -> Result<Option<F::File>, Stop<'a>>
+    ensures { NamesFile (F.held files.now) F.File.remaining path.entry result }
 {
     let Some(path) = path else {
         return Ok(None);
     };
-    match fs::open(rt, path.as_str()) {
+    match files.open(path) {
         Ok(file) => Ok(Some(file)),
-        Err(error) => Err(file_ending(alloc, path.as_str(), ReadFault::from(error))?),
+        Err(error) => Err(file_stop(path, open_failure(&error))),
     }
 }

@@ -5,7 +5,9 @@
 pub mod files;
 pub mod outcome;
 pub mod report;
+pub mod voice;
 
-pub use files::{FILE_LIMIT, ReadFault, bytes_named, file_named, lent, read_whole};
-pub use outcome::Ending;
-pub use report::{OUT_OF_MEMORY, STOPPED, ending, file_ending, script_ending, warning_line};
+pub use files::{FILE_LIMIT, FileSource, SystemFiles, bytes_named, file_named, lent};
+pub use outcome::Stop;
+pub use report::{WarningLine, ending, file_stop, script_stop};
+pub use voice::{Console, SystemConsole, Voice};

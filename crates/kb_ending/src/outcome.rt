@@ -1,40 +1,43 @@
-//! How a run of the program ended.
+//! Why a run of the program stopped before its end.
 ghost use Rattle.std.specs.Prelude.{◌≡◌};
 
-use kb_context::{NoMemory, Text};
+use kb_context::{Failure, NoMemory};
 use kb_script::ScriptFault;
 use kb_session::LoadFault;
 
-/// How a run ended, once the command line was read.
+/// Why a run stopped before its end, once the command line was read.
 #[derive(Debug, Drop)]
-pub enum Ending {
-    /// The script ran to its end, and the whole trace was written.
-    Ran,
+pub enum Stop<'a> {
     /// A file that the command line names was not read: its path, as given.
-    CannotRead(Text),
+    CannotRead(&'a str),
     /// No session was loaded.
     Load(LoadFault),
-    /// The script did not run to its end, or the program itself found no memory.
+    /// The script did not run to its end, or not all of the trace was written.
     Script(ScriptFault),
+    /// Memory was refused.
+    NoMemory,
 }
 
-/// A program that finds no memory ends as a script that finds none.
-impl From<NoMemory> for Ending {
-    ghost use Rattle.kb_ending.specs.Report.{out_of_memory};
+impl From<NoMemory> for Stop<'_> {
+    ghost use Rattle.kb_ending.specs.declared.outcome.Stop.TheVariants as stop;
 
-    ghost from_gives = { λ _ end. end ≡ out_of_memory };
+    ghost from_gives = { λ _ made. made ≡ stop.NoMemory };
 
-    fn from(_refused: NoMemory) -> Ending {
-        Ending::Script(ScriptFault::NoMemory)
+    fn from(_refused: NoMemory) -> Self {
+        Stop::NoMemory
     }
 }
 
-impl From<LoadFault> for Ending {
-    ghost use Rattle.kb_ending.specs.declared.outcome.Ending.TheVariants.{Load};
+/// A load that was refused memory is refused memory, and any other fault of it stands.
+impl From<Failure<LoadFault>> for Stop<'_> {
+    ghost use Rattle.kb_ending.specs.Report.{load_stop};
 
-    ghost from_gives = { λ fault end. end ≡ Load fault };
+    ghost from_gives = { λ failure made. made ≡ load_stop failure };
 
-    fn from(fault: LoadFault) -> Ending {
-        Ending::Load(fault)
+    fn from(failure: Failure<LoadFault>) -> Self {
+        match failure {
+            Failure::NoMemory => Stop::NoMemory,
+            Failure::Fault(fault) => Stop::Load(fault),
+        }
     }
 }

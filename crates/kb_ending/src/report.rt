@@ -2,99 +2,124 @@
 //!
 //! The statuses and the lines are our decision: 0 where the script ran, 3 where a file is refused, and
 //! 4 for a run that stopped. A command line that is refused has status 2, which is not told here.
-ghost use Rattle.std.specs.Prelude.{◌≡◌, IfOk, string_bytes};
+ghost use Rattle.std.specs.Prelude.{◌≡◌};
 ghost use Rattle.kb_ending.specs.Report as report;
 
-use crate::files::ReadFault;
-use crate::outcome::Ending;
-use kb_context::{NoMemory, Text};
-use kb_files::FileFault;
+use crate::outcome::Stop;
+use kb_context::Failure;
 use kb_rules::Warning;
 use kb_script::ScriptFault;
-use kb_session::{LoadFault, LoadFile};
-use std::alloc::Global;
+use kb_session::LoadFault;
+use kb_stream::ReadFault;
+use std::fmt;
 
-/// The status of a run that stopped, as one that finds no memory does.
-pub const STOPPED: u8 = 4;
+/// Shows the line for standard error of a run that stopped, without a line feed.
+impl fmt::Display for Stop<'_> {
+    ghost use Rattle.std.specs.Prelude.{Some};
+    ghost use Rattle.kb_ending.specs.Report.{stop_line};
 
-/// The line of a run that finds no memory.
-pub const OUT_OF_MEMORY: &str = "stopped: out of memory";
+    ghost output = { λ stop. Some (stop_line stop) };
 
-fn refusal(alloc: Global, file: LoadFile, fault: FileFault) -> Result<String, NoMemory>
-    ensures { IfOk result (λ line. string_bytes line ≡ report.refusal_line file fault) }
-{
-    let number = fault.number();
-    let name = fault.name();
-    format!(in alloc; "load refused: {file} {number} {name}")
+    fn fmt<W: fmt::Write>(&self, f: &mut fmt::Formatter<W>) -> fmt::Result {
+        match self {
+            Stop::CannotRead(path) => write!(f, "cannot read {path}"),
+            Stop::Load(fault) => {
+                let line = LoadLine(fault);
+                write!(f, "{line}")
+            }
+            Stop::Script(fault) => f.write_str(script_line(*fault)),
+            Stop::NoMemory => f.write_str("stopped: out of memory"),
+        }
+    }
+}
+
+/// Shows the line of a refused load: the file, the fault's number and name, and its detail, where it has
+/// one.
+#[derive(Clone, Copy)]
+struct LoadLine<'a>(&'a LoadFault);
+
+impl fmt::Display for LoadLine<'_> {
+    ghost use Rattle.std.specs.Prelude.{Some};
+    ghost use Rattle.kb_ending.specs.Report.{load_line};
+
+    ghost output = { λ line. Some (load_line line.0.now) };
+
+    fn fmt<W: fmt::Write>(&self, f: &mut fmt::Formatter<W>) -> fmt::Result {
+        let file = self.0.file;
+        let number = self.0.refusal.number;
+        let name = self.0.refusal.name();
+        match &self.0.refusal.detail {
+            Some(detail) => {
+                let detail = detail.as_str();
+                write!(f, "load refused: {file} {number} {name} {detail}")
+            }
+            None => write!(f, "load refused: {file} {number} {name}"),
+        }
+    }
 }
 
 fn script_line(fault: ScriptFault) -> &'static str
     ensures { result.now ≡ report.script_line fault }
 {
     match fault {
-        ScriptFault::NoMemory | ScriptFault::Stopped => OUT_OF_MEMORY,
+        ScriptFault::Stopped => "stopped: out of memory",
         ScriptFault::TooLong => "script: too long",
         ScriptFault::ReadFailed => "script: read failed",
         ScriptFault::WriteFailed => "script: write failed",
     }
 }
 
-/// The exit status of a run, and its line for standard error, without a line feed; the line is empty
-/// where the script ran.
-///
-/// Errors: `NoMemory`.
-pub fn ending(alloc: Global, end: &Ending) -> Result<(u8, String), NoMemory>
-    ensures status { IfOk result (λ said. said.0 ≡ report.status_of end.now) }
-    ensures line { IfOk result (λ said. string_bytes said.1 ≡ report.line_of end.now) }
+/// The exit status of a run that ended so. A run that stopped is shown by its line on standard error, and
+/// one that ran says nothing. It takes no memory.
+pub fn ending(end: &Result<(), Stop<'_>>) -> u8
+    ensures { result ≡ report.status_of end.now }
 {
     match end {
-        Ending::Ran => Ok((0, String::new(alloc))),
-        Ending::CannotRead(path) => {
-            let path = path.as_str();
-            Ok((3, format!(in alloc; "cannot read {path}")?))
-        }
-        Ending::Load(LoadFault::NoMemory) => Ok((STOPPED, String::from_str(alloc, OUT_OF_MEMORY)?)),
-        Ending::Load(LoadFault::Refused(file, fault)) => Ok((3, refusal(alloc, *file, *fault)?)),
-        Ending::Script(fault) => Ok((STOPPED, String::from_str(alloc, script_line(*fault))?)),
+        Ok(()) => 0,
+        Err(Stop::CannotRead(_)) | Err(Stop::Load(_)) => 3,
+        Err(Stop::Script(_)) | Err(Stop::NoMemory) => 4,
     }
 }
 
-/// The line for standard error of an entry that a load left out of the user's rules, without a line
+/// Shows the line for standard error of an entry that a load left out of the user's rules, without a line
 /// feed.
-///
-/// Errors: `NoMemory`.
-pub fn warning_line(alloc: Global, warning: &Warning) -> Result<String, NoMemory>
-    ensures { IfOk result (λ line. string_bytes line
-        ≡ report.warning_line warning.now.number warning.now.place) }
-{
-    let number = warning.number;
-    let place = warning.place;
-    format!(in alloc; "warning {number} user keybindings {place}")
+#[derive(Clone, Copy, Debug)]
+pub struct WarningLine<'a>(pub &'a Warning);
+
+impl fmt::Display for WarningLine<'_> {
+    ghost use Rattle.std.specs.Prelude.{Some};
+    ghost use Rattle.kb_ending.specs.Report.{warning_line};
+
+    ghost output = { λ line. Some (warning_line line.0.now) };
+
+    fn fmt<W: fmt::Write>(&self, f: &mut fmt::Formatter<W>) -> fmt::Result {
+        let number = self.0.number;
+        let place = self.0.place;
+        write!(f, "warning {number} user keybindings {place}")
+    }
 }
 
-/// How a run ends that did not read the file of this path, which is as the command line gives it.
-///
-/// Errors: `NoMemory`, for the copy of the path.
-pub fn file_ending(alloc: Global, path: &str, fault: ReadFault) -> Result<Ending, NoMemory>
-    ensures { IfOk result (λ end. end ≡ report.file_ending path.now fault) }
+/// How a run ends that did not read the file of this path, which is as the command line gives it. It
+/// takes no memory.
+pub fn file_stop<'a>(path: &'a str, failure: Failure<ReadFault>) -> Stop<'a>
+    ensures { result ≡ report.file_stop path.entry failure }
 {
-    match fault {
-        ReadFault::NoMemory => Ok(Ending::Script(ScriptFault::NoMemory)),
-        ReadFault::Failed | ReadFault::TooLong => Ok(Ending::CannotRead(Text::from_str(
-            alloc, path,
-        )?)),
+    match failure {
+        Failure::NoMemory => Stop::NoMemory,
+        Failure::Fault(_) => Stop::CannotRead(path),
     }
 }
 
 /// How a run ends, by what the script answered and by whether what was left of the trace in its
 /// buffer was written after it. A write that fails there counts as one that failed in the script,
-/// where the script answered that it ran or that it found no memory.
-pub fn script_ending(ran: Result<(), ScriptFault>, is_flushed: bool) -> Ending
-    ensures { result ≡ report.script_ending ran is_flushed }
+/// where the script answered that it ran or that it found no memory. It takes no memory.
+pub fn script_stop<'a>(ran: Result<(), Failure<ScriptFault>>, is_flushed: bool) -> Result<(), Stop<'a>>
+    ensures { result ≡ report.script_stop ran is_flushed }
 {
     match (ran, is_flushed) {
-        (Ok(()), true) => Ending::Ran,
-        (Ok(()) | Err(ScriptFault::NoMemory), false) => Ending::Script(ScriptFault::WriteFailed),
-        (Err(fault), _) => Ending::Script(fault),
+        (Ok(()), true) => Ok(()),
+        (Ok(()), false) | (Err(Failure::NoMemory), false) => Err(Stop::Script(ScriptFault::WriteFailed)),
+        (Err(Failure::NoMemory), true) => Err(Stop::NoMemory),
+        (Err(Failure::Fault(fault)), _) => Err(Stop::Script(fault)),
     }
 }

@@ -1,9 +1,11 @@
 -- What the bytes of a script tell a session.
-use Rattle.std.specs.Prelude.{ℕ, ◌+◌, ◌-◌, Bool, false, not, ◌&&◌, ◌||◌, List, [], ◌∷◌, ◌++◌, Option, Some, None, option_map, Result, Ok, Err, codes, ◌==◌, nat_eq, nat_lt, length, take, slice_get, if◌then◌else◌, option_to_list}
+use Rattle.std.specs.Prelude.{ℕ, ◌+◌, ◌-◌, Bool, false, not, ◌&&◌, List, [], ◌∷◌, ◌++◌, codes, ◌==◌}
+use Rattle.std.specs.Prelude.{Option, Some, None, option_map, option_to_list, Result, Ok, Err}
+use Rattle.std.specs.Prelude.{nat_eq, nat_lt, length, take, slice_get, if◌then◌else◌}
 use Rattle.std.specs.List.{slice_split, before_first, after_first, position_or_len, list_any, list_all}
 use Rattle.std.specs.Str.{bytes_eq, is_utf8}
+use Rattle.kb_context.specs.Blank.{is_blank}
 use Rattle.kb_context.specs.declared.value.ContextValue.{ContextValue}
-use Rattle.kb_files.specs.declared.fault.FileFault.{FileFault}
 use Rattle.kb_files.specs.Context.{context_in}
 use Rattle.kb_keys.specs.declared.key_fault.KeyFault.{KeyFault}
 use Rattle.kb_keys.specs.declared.keystroke.Keystroke.{Keystroke}
@@ -24,7 +26,8 @@ is_return (Some b) = b == 13
 
 -- a line without the carriage return at its end
 abbrev pub without_return : List ℕ → List ℕ
-without_return line = if is_return (slice_get line (length line - 1)) then take (length line - 1) line else line
+without_return line =
+    if is_return (slice_get line (length line - 1)) then take (length line - 1) line else line
 
 -- no line feed stands behind the last line
 abbrev pub without_returns : List (List ℕ) → List (List ℕ)
@@ -44,15 +47,12 @@ lines_behind (Some rest) = lines_of rest
 -- the first word, and what follows the space behind it, where there is a space
 abbrev pub split_word : List ℕ → Option (List ℕ × List ℕ)
 split_word text =
-    if nat_lt (position_or_len is_space text) (length text) then Some (before_first is_space text, after_first is_space text) else None
+    if nat_lt (position_or_len is_space text) (length text)
+    then Some (before_first is_space text, after_first is_space text) else None
 
 -- a word isn't empty, and no space is in it
 abbrev pub is_word : List ℕ → Bool
 is_word text = not (nat_eq (length text) 0) && not (list_any is_space text)
-
--- space, tab, CR and LF alone
-abbrev pub is_blank : List ℕ → Bool
-is_blank text = list_all (λ b. b == 32 || b == 9 || b == 13 || b == 10) text
 
 -- key KEY
 abbrev pub pressed_event : Result Keystroke KeyFault → Option Event
@@ -72,14 +72,16 @@ unset_event None = None
 unset_event (Some parts) =
     if is_word parts.0 && is_word parts.1 then Some (event.UnsetKey parts.0 parts.1) else None
 
--- set SCOPE KEY JSON, where the JSON text isn't blank and is a context value
-abbrev pub value_event : List ℕ → List ℕ → Result ContextValue FileFault → Option Event
-value_event name key (Ok value) = Some (event.SetKey name key value)
-value_event name key (Err fault) = None
+-- the value that is read, where one is
+abbrev pub value_in : {F : Type 0} → Result ContextValue F → Option ContextValue
+value_in (Ok value) = Some value
+value_in (Err fault) = None
 
+-- set SCOPE KEY JSON, where the JSON text isn't blank and is a context value
 abbrev pub assignment : List ℕ → List ℕ → List ℕ → Option Event
 assignment name key json =
-    if is_word name && (is_word key && not (is_blank json)) then value_event name key (context_in json) else None
+    if is_word name && (is_word key && not (list_all is_blank json))
+    then option_map (event.SetKey name key) (value_in (context_in json)) else None
 
 abbrev pub keyed_event : List ℕ → Option (List ℕ × List ℕ) → Option Event
 keyed_event name None = None
@@ -105,7 +107,8 @@ lone_told word = if bytes_eq word (codes "reload") then Some (reload []) else No
 abbrev pub word_told : List ℕ → Option (List ℕ × List ℕ) → Option Told
 word_told text None = lone_told text
 word_told text (Some parts) =
-    if bytes_eq parts.0 (codes "reload") then Some (reload parts.1) else option_map happens (event_told parts.0 parts.1)
+    if bytes_eq parts.0 (codes "reload") then Some (reload parts.1)
+    else option_map happens (event_told parts.0 parts.1)
 
 -- what a line tells, where it can be read
 abbrev pub said_told : List ℕ → Option Told

@@ -1,85 +1,88 @@
 -- What running a script leaves: what was read, what the session did, and what was written.
-use Rattle.std.specs.Prelude.{◌≡◌, ◌<◌, ℕ, true, false, List, [], ◌∷◌, ◌++◌, Option, IfSome, length}
-use Rattle.std.specs.Io.KnownBytes.{Keeps, Appends}
+use Rattle.std.specs.Prelude.{◌≡◌, ℕ, true, false, List, Option, IfSome, Result, Ok, Err}
+use Rattle.std.specs.Io.KnownBytes.{Keeps}
+use Rattle.kb_context.specs.declared.failure.Failure.{Failure}
+use Rattle.kb_context.specs.declared.failure.Failure.TheVariants.{NoMemory, Fault}
 use Rattle.kb_script.specs.declared.fault.ScriptFault.{ScriptFault}
-use Rattle.kb_script.specs.declared.fault.ScriptFault.TheVariants as fault
-use Rattle.kb_script.specs.declared.script_run.RunFault.{RunFault}
-use Rattle.kb_script.specs.declared.script_run.RunFault.TheVariants as run
-use Rattle.kb_stream.specs.Reading.{IsRead}
+use Rattle.kb_script.specs.declared.fault.ScriptFault.TheVariants.{Stopped, TooLong, ReadFailed, WriteFailed}
 use Rattle.kb_script.specs.Script.{told_of}
-use Rattle.kb_session.specs.Session.{Seen, after_all, Stops}
-use Rattle.kb_session.specs.State.{Told, lines_of, lines_of_all}
-use Rattle.kb_stream.specs.Writing.{AppendsPart, text_of_lines}
+use Rattle.kb_session.specs.Session.{Halts}
+use Rattle.kb_session.specs.State.{State, Told, next}
+use Rattle.kb_stream.specs.Fold.{Traced}
+use Rattle.kb_stream.specs.FoldWriting.{RunsAndWrites, StopsAndWrites, LacksLines}
+use Rattle.kb_stream.specs.Reading.{IsRead, FailsToRead}
+use Rattle.kb_stream.specs.declared.reading.ReadFault.{ReadFault}
+use Rattle.kb_stream.specs.declared.reading.ReadFault.TheVariants as read
+use Rattle.kb_stream.specs.declared.writing.WriteRefused.{WriteRefused}
 
--- the text that a run of what is told adds to the trace
-abbrev pub text_of : List Told → Seen → List ℕ
-text_of told old = text_of_lines (lines_of_all told old.state)
+-- the most bytes of a script
+abbrev pub script_limit : ℕ
+script_limit = 16777216
 
--- the session took what it was told, and the writer got their lines
-pub record RunsAndWrites (told : List Told) (old new : Seen) (before after : Option (List ℕ)) : Type 0 where
-  pub session : new ≡ after_all told old
-  pub written : Appends before after (text_of told old)
-
--- the session took the first of what it was told and then stopped, and the writer got the lines of those that it took
-pub record StopsAndWrites (told : List Told) (old new : Seen) (before after : Option (List ℕ)) : Type 0 where
-  pub done : List Told
-  pub rest : List Told
-  pub whole : told ≡ done ++ rest
-  pub session : Stops (after_all done old) new
-  pub written : Appends before after (text_of done old)
-
--- the session took the first of what it was told, and the writer got the lines of all of these but the last, and of that one's a part
-pub record LacksLines (told : List Told) (old new : Seen) (before after : Option (List ℕ)) : Type 0 where
-  pub done : List Told
-  pub last : Told
-  pub rest : List Told
-  pub whole : told ≡ done ++ last ∷ rest
-  pub session : new ≡ after_all (done ++ last ∷ []) old
-  pub written : Option (List ℕ)
-  pub lines_done : Appends before written (text_of done old)
-  pub part_of_last : AppendsPart written after (text_of_lines (lines_of last (after_all done old).state))
-
--- the fault of what is told, run and written
-abbrev pub FailsAmong : RunFault → List Told → Seen → Seen → Option (List ℕ) → Option (List ℕ) → Type 0
-FailsAmong run.NoMemory told old new before after = StopsAndWrites told old new before after
-FailsAmong run.Write told old new before after = LacksLines told old new before after
+-- why what is told broke off: memory was refused, and the writer has the lines of all that was taken; or the
+-- writer lacks lines of the last that was taken
+abbrev pub BreaksOff : Failure WriteRefused → List Told → Traced State → Traced State
+    → Option (List ℕ) → Option (List ℕ) → Type 0
+BreaksOff NoMemory told old new before after = StopsAndWrites next Halts told old new before after
+BreaksOff (Fault refused) told old new before after = LacksLines next told old new before after
 
 -- the script was read to its end, the session took all that it tells, and the writer got their lines
-pub record Ran (limit : ℕ) (had left : Option (List ℕ)) (old new : Seen) (before after : Option (List ℕ)) : Type 0 where
+pub record Ran (had left : Option (List ℕ)) (old new : Traced State) (before after : Option (List ℕ))
+    : Type 0 where
   pub script : List ℕ
-  pub read : IsRead had left limit script
-  pub running : old.stopped ≡ false
-  pub ran : RunsAndWrites (told_of script) old new before after
+  pub read : IsRead had left script_limit script
+  pub was_running : old.state.stopped ≡ false
+  pub ran : RunsAndWrites next (told_of script) old new before after
 
 -- nothing ran, and nothing is written
-pub record NothingRan (old new : Seen) (before after : Option (List ℕ)) : Type 0 where
+pub record NothingRan (old new : Traced State) (before after : Option (List ℕ)) : Type 0 where
   pub session : new ≡ old
   pub written : Keeps before after
 
 -- the session was stopped before, which shows once the script is read
-pub record WasStopped (limit : ℕ) (had left : Option (List ℕ)) (old new : Seen) (before after : Option (List ℕ)) : Type 0 where
+pub record WasStopped (had left : Option (List ℕ)) (old new : Traced State) (before after : Option (List ℕ))
+    : Type 0 where
   pub script : List ℕ
-  pub read : IsRead had left limit script
-  pub stopped : old.stopped ≡ true
+  pub read : IsRead had left script_limit script
+  pub stopped : old.state.stopped ≡ true
   pub nothing : NothingRan old new before after
 
--- memory was refused, in the reading or in a line; where the reader's bytes are known, what is told is that of its script
-pub record MemoryRefused (had : Option (List ℕ)) (old new : Seen) (before after : Option (List ℕ)) : Type 0 where
+-- memory was refused, in the reading or in a line; where the reader's bytes are known, what is told is that
+-- of its script. A session that was stopped before ran nothing
+pub record MemoryRefused (had : Option (List ℕ)) (old new : Traced State) (before after : Option (List ℕ))
+    : Type 0 where
   pub script : List ℕ
   pub all : IfSome had (λ bytes. bytes ≡ script)
-  pub stopped : StopsAndWrites (told_of script) old new before after
+  pub stops : StopsAndWrites next Halts (told_of script) old new before after
+  pub stays : old.state.stopped ≡ true → NothingRan old new before after
 
 -- the writer did not get all lines of a line of the script, which is the last that was run
-pub record WriteRefused (limit : ℕ) (had left : Option (List ℕ)) (old new : Seen) (before after : Option (List ℕ)) : Type 0 where
+pub record LinesLacked (had left : Option (List ℕ)) (old new : Traced State) (before after : Option (List ℕ))
+    : Type 0 where
   pub script : List ℕ
-  pub read : IsRead had left limit script
-  pub running : old.stopped ≡ false
-  pub lacks : LacksLines (told_of script) old new before after
+  pub read : IsRead had left script_limit script
+  pub was_running : old.state.stopped ≡ false
+  pub lacks : LacksLines next (told_of script) old new before after
+
+-- the script was not read, for a reason of the reader's
+pub record NotRead (fault : Failure ReadFault) (had left : Option (List ℕ)) (old new : Traced State)
+    (before after : Option (List ℕ)) : Type 0 where
+  pub reader : FailsToRead fault had left script_limit
+  pub nothing : NothingRan old new before after
 
 -- what each fault leaves
-abbrev pub Fails : ScriptFault → ℕ → Option (List ℕ) → Option (List ℕ) → Seen → Seen → Option (List ℕ) → Option (List ℕ) → Type 0
-Fails fault.NoMemory limit had left old new before after = MemoryRefused had old new before after
-Fails fault.Stopped limit had left old new before after = WasStopped limit had left old new before after
-Fails fault.TooLong limit had left old new before after = NothingRan old new before after × IfSome had (λ bytes. limit < length bytes)
-Fails fault.ReadFailed limit had left old new before after = NothingRan old new before after
-Fails fault.WriteFailed limit had left old new before after = WriteRefused limit had left old new before after
+abbrev pub Fails : Failure ScriptFault → Option (List ℕ) → Option (List ℕ) → Traced State → Traced State
+    → Option (List ℕ) → Option (List ℕ) → Type 0
+Fails NoMemory had left old new before after = MemoryRefused had old new before after
+Fails (Fault Stopped) had left old new before after = WasStopped had left old new before after
+Fails (Fault TooLong) had left old new before after =
+    NotRead (Fault read.TooLong) had left old new before after
+Fails (Fault ReadFailed) had left old new before after =
+    NotRead (Fault read.Failed) had left old new before after
+Fails (Fault WriteFailed) had left old new before after = LinesLacked had left old new before after
+
+-- what an answer leaves
+abbrev pub Answers : Result (Unit {0}) (Failure ScriptFault) → Option (List ℕ) → Option (List ℕ)
+    → Traced State → Traced State → Option (List ℕ) → Option (List ℕ) → Type 0
+Answers (Ok done) had left old new before after = Ran had left old new before after
+Answers (Err failure) had left old new before after = Fails failure had left old new before after

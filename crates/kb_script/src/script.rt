@@ -1,11 +1,13 @@
 //! The lines of a script, and what each one tells a session.
-ghost use Rattle.std.specs.Prelude.{◌≡◌, ◌<◌, ◌∷◌, false, true, IfOk, IfSome, MatchOption, option_map, position, length};
+ghost use Rattle.std.specs.Prelude.{◌≡◌, ◌<◌, ◌∷◌, false, true, None, Ok};
+ghost use Rattle.std.specs.Prelude.{IfOk, IfSome, MatchOption, option_map, position, length};
 ghost use Rattle.std.specs.List.{list_any};
 ghost use Rattle.std.specs.Str.{is_utf8};
 ghost use Rattle.kb_script.specs.Script as script;
-ghost use Rattle.kb_script.specs.ScriptLine.{told_by};
+ghost use Rattle.kb_script.specs.ScriptLine.{told_by, TakesAs};
+ghost use Rattle.kb_trace.specs.declared.event.Event.TheVariants as event;
 
-use kb_context::{NoMemory, ReadError, Text};
+use kb_context::{ContextValue, Failure, NoMemory, Refusal, Text, is_blank_text};
 use kb_files::read_context_text;
 use kb_keys::Keystroke;
 use kb_trace::Event;
@@ -44,7 +46,8 @@ pub fn read_line<'a>(
 /// return right before the line feed is no part of the line.
 #[tactic(auto, using(crate::proofs::LineLemmas::first_line, crate::proofs::LineLemmas::only_line))]
 pub fn split_line(bytes: &[u8]) -> (&[u8], Option<&[u8]>)
-    ensures lines { script.lines_of bytes.now ≡ result.0.now ∷ script.lines_behind (option_map (λ rest. rest.now) result.1) }
+    ensures lines { script.lines_of bytes.now
+        ≡ result.0.now ∷ script.lines_behind (option_map (λ rest. rest.now) result.1) }
     ensures shorter { IfSome result.1 (λ rest. length rest.now < length bytes.now) }
 {
     match find_line_feed(bytes) {
@@ -80,7 +83,8 @@ fn read_said<'a>(alloc: Global, line: &'a [u8]) -> Result<Option<ScriptLine<'a>>
 /// The text of a line, if its bytes are UTF-8.
 #[tactic(auto, using(crate::proofs::LineLemmas::is_text, crate::proofs::LineLemmas::is_no_text))]
 fn text_of(line: &[u8]) -> Option<&str>
-    ensures { MatchOption result (is_utf8 line.now ≡ false) (λ text. (text.now ≡ line.now) × (is_utf8 line.now ≡ true)) }
+    ensures { MatchOption result (is_utf8 line.now ≡ false)
+        (λ text. (text.now ≡ line.now) × (is_utf8 line.now ≡ true)) }
 {
     match str::from_utf8(line) {
         Ok(text) => Some(text),
@@ -90,7 +94,8 @@ fn text_of(line: &[u8]) -> Option<&str>
 
 /// What a line tells by its first word.
 fn read_words<'a>(alloc: Global, text: &'a str) -> Result<Option<ScriptLine<'a>>, NoMemory>
-    ensures { IfOk result (λ said. option_map told_by said ≡ script.word_told text.now (script.split_word text.now)) }
+    ensures { IfOk result (λ said. option_map told_by said
+        ≡ script.word_told text.now (script.split_word text.now)) }
 {
     let Some((word, rest)) = split_word(text) else {
         return Ok(read_lone(text));
@@ -204,24 +209,39 @@ fn read_assignment(
 ) -> Result<Option<Event>, NoMemory>
     ensures { IfOk result (λ event. event ≡ script.assignment scope.now key.now json.now) }
 {
-    if !is_word(scope) || !is_word(key) || is_blank(json) {
+    if !is_word(scope) || !is_word(key) || is_blank_text(json) {
         return Ok(None);
     }
-    let value = match read_context_text(alloc, json) {
-        Ok(value) => value,
-        Err(ReadError::Fault(_)) => return Ok(None),
-        Err(ReadError::NoMemory) => return Err(AllocError),
+    let value = value_read(read_context_text(alloc, json))?;
+    assigned(alloc, scope, key, value)
+}
+
+/// The value that was read. A text that is no context value gives none, and a read that was refused
+/// memory gives that. It takes no memory.
+fn value_read(read: Result<ContextValue, Failure<Refusal>>) -> Result<Option<ContextValue>, NoMemory>
+    ensures { TakesAs read result }
+{
+    match read {
+        Ok(value) => Ok(Some(value)),
+        Err(Failure::Fault(_)) => Ok(None),
+        Err(Failure::NoMemory) => Err(AllocError),
+    }
+}
+
+/// The event that a key gets a value, where there is a value. Without one it takes no memory.
+fn assigned(
+    alloc: Global,
+    scope: &str,
+    key: &str,
+    value: Option<ContextValue>,
+) -> Result<Option<Event>, NoMemory>
+    ensures event { IfOk result (λ made. made ≡ option_map (event.SetKey scope.now key.now) value) }
+    ensures none { value ≡ None → result ≡ Ok None }
+{
+    let Some(value) = value else {
+        return Ok(None);
     };
     let scope = Text::from_str(alloc, scope)?;
     let key = Text::from_str(alloc, key)?;
     Ok(Some(Event::SetKey(scope, key, value)))
-}
-
-/// Whether a text has nothing but white space: space, tab, CR and LF.
-fn is_blank(text: &str) -> bool
-    ensures { result ≡ script.is_blank text.now }
-{
-    text.as_bytes()
-        .iter()
-        .all(|byte| matches!(*byte, b' ' | b'\t' | b'\r' | b'\n'))
 }

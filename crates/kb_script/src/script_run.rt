@@ -1,18 +1,22 @@
 //! Runs the script that a reader gives, and writes its lines of the trace to a writer.
-ghost use Rattle.std.specs.Prelude.{◌≡◌, ◌^◌, ◌<◌, ◌≤◌, ◌+◌, ◌∷◌, [], false, OnOk, IfErr, option_to_list, length, drop};
+ghost use Rattle.std.specs.Prelude.{◌≡◌, ◌^◌, ◌<◌, ◌≤◌, ◌+◌, false, OnOk, OnErr, IfErr};
+ghost use Rattle.std.specs.Prelude.{option_to_list, length, drop};
 ghost use Rattle.std.specs.Io.KnownBytes.{Appends};
-ghost use Rattle.kb_stream.specs.Reading.{ConsumesAtMost};
 ghost use Rattle.kb_script.specs.Script as script;
-ghost use Rattle.kb_session.specs.State.{happens, reload};
+ghost use Rattle.kb_script.specs.ScriptRun.{Answers, BreaksOff, script_limit};
+ghost use Rattle.kb_session.specs.Session.{Halts};
+ghost use Rattle.kb_session.specs.State.{next};
+ghost use Rattle.kb_stream.specs.Fold.{after_all};
+ghost use Rattle.kb_stream.specs.FoldWriting.{RunsAndWrites};
+ghost use Rattle.kb_stream.specs.Reading.{ConsumesAtMost};
 ghost use Rattle.kb_stream.specs.Writing.{AppendsPart, text_of_lines};
-ghost use Rattle.kb_script.specs.ScriptRun.{Ran, Fails, RunsAndWrites, FailsAmong};
 
 use crate::fault::ScriptFault;
 use crate::script::{ScriptLine, read_line, split_line};
+use kb_context::{Failure, NoMemory};
 use kb_session::Session;
-use kb_stream::{ReadFault, read_within, write_lines};
-use kb_trace::Event;
-use std::alloc::Global;
+use kb_stream::{ReadFault, WriteRefused, read_within, write_whole};
+use std::alloc::{AllocError, Global};
 use std::io::{Read, Write};
 
 /// How many bytes a script may have (our decision).
@@ -32,35 +36,28 @@ pub fn run_script<R: Read, W: Write>(
     reader: &mut R,
     writer: &mut W,
     session: &mut Session,
-) -> Result<(), ScriptFault>
-    ensures ok { OnOk result (Ran SCRIPT_LIMIT (R.remaining reader.old) (R.remaining reader.new) session.old session.new (W.contents writer.old) (W.contents writer.new)) }
-    ensures err { IfErr result (λ fault. Fails fault SCRIPT_LIMIT (R.remaining reader.old) (R.remaining reader.new) session.old session.new (W.contents writer.old) (W.contents writer.new)) }
-    ensures asked { ConsumesAtMost (R.remaining reader.old) (R.remaining reader.new) (SCRIPT_LIMIT + 1) }
+) -> Result<(), Failure<ScriptFault>>
+    ensures left { Answers result (R.remaining reader.old) (R.remaining reader.new)
+        session.old session.new (W.contents writer.old) (W.contents writer.new) }
+    ensures asked { ConsumesAtMost (R.remaining reader.old) (R.remaining reader.new) (script_limit + 1) }
 {
     let script = match read_within(alloc, reader, SCRIPT_LIMIT) {
         Ok(script) => script,
-        Err(ReadFault::TooLong) => return Err(ScriptFault::TooLong),
-        Err(ReadFault::Failed) => return Err(ScriptFault::ReadFailed),
-        Err(ReadFault::NoMemory) => {
+        Err(Failure::Fault(ReadFault::TooLong)) => return Err(Failure::Fault(ScriptFault::TooLong)),
+        Err(Failure::Fault(ReadFault::Failed)) => return Err(Failure::Fault(ScriptFault::ReadFailed)),
+        Err(Failure::NoMemory) => {
             session.stop();
-            return Err(ScriptFault::NoMemory);
+            return Err(Failure::NoMemory);
         }
     };
     if session.is_stopped() {
-        return Err(ScriptFault::Stopped);
+        return Err(Failure::Fault(ScriptFault::Stopped));
     }
     match run_lines(alloc, script.as_slice(), writer, session) {
         Ok(()) => Ok(()),
-        Err(RunFault::NoMemory) => Err(ScriptFault::NoMemory),
-        Err(RunFault::Write) => Err(ScriptFault::WriteFailed),
+        Err(Failure::NoMemory) => Err(Failure::NoMemory),
+        Err(Failure::Fault(WriteRefused)) => Err(Failure::Fault(ScriptFault::WriteFailed)),
     }
-}
-
-/// Why the lines of a script did not run to their end.
-#[derive(Clone, Copy, Debug, PartialEq, Eq)]
-pub enum RunFault {
-    NoMemory,
-    Write,
 }
 
 /// Runs the lines of a script, the first of which has the number 1.
@@ -70,11 +67,13 @@ fn run_lines<W: Write>(
     bytes: &[u8],
     writer: &mut W,
     session: &mut Session,
-) -> Result<(), RunFault>
-    requires running { session.old.stopped ≡ false }
+) -> Result<(), Failure<WriteRefused>>
+    requires running { session.old.state.stopped ≡ false }
     requires short { length bytes.now < 2 ^ 32 }
-    ensures ok { OnOk result (RunsAndWrites (script.told_of bytes.now) session.old session.new (W.contents writer.old) (W.contents writer.new)) }
-    ensures err { IfErr result (λ fault. FailsAmong fault (script.told_of bytes.now) session.old session.new (W.contents writer.old) (W.contents writer.new)) }
+    ensures ok { OnOk result (RunsAndWrites next (script.told_of bytes.now)
+        session.old session.new (W.contents writer.old) (W.contents writer.new)) }
+    ensures err { IfErr result (λ failure. BreaksOff failure (script.told_of bytes.now)
+        session.old session.new (W.contents writer.old) (W.contents writer.new)) }
 {
     let mut rest = bytes;
     let mut number = 1u64;
@@ -89,66 +88,73 @@ fn run_lines<W: Write>(
     }
 }
 
-/// Runs one line of a script.
-#[tactic(auto, using(crate::proofs::ScriptRuns::no_run, crate::proofs::ScriptRuns::stop_now))]
+/// Runs one line of a script: the session does what it tells, and then the lines that this added to the
+/// trace are written.
+#[tactic(auto, using(crate::proofs::ScriptRuns::one_line))]
 fn run_line<W: Write>(
     alloc: Global,
     number: u64,
     line: &[u8],
     writer: &mut W,
     session: &mut Session,
-) -> Result<(), RunFault>
-    requires { session.old.stopped ≡ false }
-    ensures ok { OnOk result (RunsAndWrites (option_to_list (script.line_told number line.now)) session.old session.new (W.contents writer.old) (W.contents writer.new)) }
-    ensures err { IfErr result (λ fault. FailsAmong fault (option_to_list (script.line_told number line.now)) session.old session.new (W.contents writer.old) (W.contents writer.new)) }
+) -> Result<(), Failure<WriteRefused>>
+    requires { session.old.state.stopped ≡ false }
+    ensures ok { OnOk result (RunsAndWrites next (option_to_list (script.line_told number line.now))
+        session.old session.new (W.contents writer.old) (W.contents writer.new)) }
+    ensures on { OnOk result (session.new.state.stopped ≡ false) }
+    ensures err { IfErr result (λ failure. BreaksOff failure
+        (option_to_list (script.line_told number line.now))
+        session.old session.new (W.contents writer.old) (W.contents writer.new)) }
+{
+    let before = session.trace().len();
+    match obey(alloc, number, line, session) {
+        Ok(()) => {}
+        Err(_) => return Err(Failure::NoMemory),
+    }
+    match write_from(before, writer, session) {
+        Ok(()) => Ok(()),
+        Err(refused) => Err(Failure::Fault(refused)),
+    }
+}
+
+/// Has the session do what a line tells, if it tells something. Where memory is refused, also to reading
+/// the line, the session is stopped.
+fn obey(
+    alloc: Global,
+    number: u64,
+    line: &[u8],
+    session: &mut Session,
+) -> Result<(), NoMemory>
+    requires { session.old.state.stopped ≡ false }
+    ensures ok { OnOk result (session.new
+        ≡ after_all next (option_to_list (script.line_told number line.now)) session.old) }
+    ensures err { OnErr result (Halts session.old.state session.new.state) }
+    ensures trace { OnErr result (session.new.trace ≡ session.old.trace) }
 {
     match read_line(alloc, number, line) {
-        Ok(Some(ScriptLine::Event(event))) => run_event(event, writer, session),
-        Ok(Some(ScriptLine::Reload(text))) => run_reload(text, writer, session),
+        Ok(Some(ScriptLine::Event(event))) => match session.handle(event) {
+            Ok(_) => Ok(()),
+            Err(_) => Err(AllocError),
+        },
+        Ok(Some(ScriptLine::Reload(text))) => match session.reload_user(text.as_bytes()) {
+            Ok(_) => Ok(()),
+            Err(_) => Err(AllocError),
+        },
         Ok(None) => Ok(()),
         Err(_) => {
             session.stop();
-            Err(RunFault::NoMemory)
+            Err(AllocError)
         }
     }
 }
 
-/// Has the session handle an event, and writes the lines that this adds to the trace.
-#[tactic(auto, using(crate::proofs::ScriptRuns::one_told))]
-fn run_event<W: Write>(event: Event, writer: &mut W, session: &mut Session) -> Result<(), RunFault>
-    requires { session.old.stopped ≡ false }
-    ensures ok { OnOk result (RunsAndWrites (happens event ∷ []) session.old session.new (W.contents writer.old) (W.contents writer.new)) }
-    ensures err { IfErr result (λ fault. FailsAmong fault (happens event ∷ []) session.old session.new (W.contents writer.old) (W.contents writer.new)) }
-{
-    let before = session.trace().len();
-    match session.handle(event) {
-        Ok(_) => write_from(before, writer, session),
-        Err(_) => Err(RunFault::NoMemory),
-    }
-}
-
-/// Has the session read the user's rules anew, and writes the lines that this adds to the trace.
-#[tactic(auto, using(crate::proofs::ScriptRuns::one_told))]
-fn run_reload<W: Write>(text: &str, writer: &mut W, session: &mut Session) -> Result<(), RunFault>
-    requires { session.old.stopped ≡ false }
-    ensures ok { OnOk result (RunsAndWrites (reload text.now ∷ []) session.old session.new (W.contents writer.old) (W.contents writer.new)) }
-    ensures err { IfErr result (λ fault. FailsAmong fault (reload text.now ∷ []) session.old session.new (W.contents writer.old) (W.contents writer.new)) }
-{
-    let before = session.trace().len();
-    match session.reload_user(text.as_bytes()) {
-        Ok(_) => write_from(before, writer, session),
-        Err(_) => Err(RunFault::NoMemory),
-    }
-}
-
 /// Writes the lines of the trace from a place on.
-fn write_from<W: Write>(from: usize, writer: &mut W, session: &Session) -> Result<(), RunFault>
+fn write_from<W: Write>(from: usize, writer: &mut W, session: &Session) -> Result<(), WriteRefused>
     requires { from ≤ length session.now.trace }
-    ensures ok { OnOk result (Appends (W.contents writer.old) (W.contents writer.new) (text_of_lines (drop from session.now.trace))) }
-    ensures err { IfErr result (λ fault. (fault ≡ RunFault.Write) × AppendsPart (W.contents writer.old) (W.contents writer.new) (text_of_lines (drop from session.now.trace))) }
+    ensures ok { OnOk result (Appends (W.contents writer.old) (W.contents writer.new)
+        (text_of_lines (drop from session.now.trace))) }
+    ensures err { OnErr result (AppendsPart (W.contents writer.old) (W.contents writer.new)
+        (text_of_lines (drop from session.now.trace))) }
 {
-    match write_lines(writer, &session.trace()[from..]) {
-        Ok(()) => Ok(()),
-        Err(_) => Err(RunFault::Write),
-    }
+    write_whole(writer, session.trace().text_from(from))
 }

@@ -5,7 +5,8 @@ use Rattle.kb_script.proofs.script_run.run_lines.Given as goal
 
 abbrev pub invariant-loop-after : goal.invariant-loop-after
 invariant-loop-after g l =
-    RunsUpTo (told_of l.bytes) l.fn.session l.session (g.W.Write.contents l.fn.writer) (g.W.Write.contents l.writer) (told_from l.number (lines_of l.rest))
+    RunsUpTo (told_of l.bytes) l.fn.session l.session (g.W.Write.contents l.fn.writer)
+    (g.W.Write.contents l.writer) (told_from l.number (lines_of l.rest))
     × (l.number + length l.rest ≤ length l.bytes + 1)
 
 abbrev pub decreases-loop-after : goal.decreases-loop-after
