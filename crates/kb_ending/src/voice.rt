@@ -1,6 +1,6 @@
 //! What a run says on standard error.
-ghost use Rattle.std.specs.Prelude.{◌≡◌, [], ◌∷◌, ◌++◌, IfSome};
-ghost use Rattle.kb_ending.specs.Voice.{Says, said_by};
+ghost use Rattle.std.specs.Prelude.{◌≡◌, true, [], ◌∷◌, ◌++◌, IfSome};
+ghost use Rattle.kb_ending.specs.Voice.{Says, heard_by};
 
 use std::fmt::Display;
 use std::io;
@@ -41,7 +41,7 @@ pub struct Voice<C: Drop> {
 impl<C: Console + Drop> Voice<C> {
     /// A console that was told nothing yet.
     pub fn new(console: C) -> Voice<C>
-        ensures { said_by C.said result ≡ C.said console }
+        ensures { heard_by C.said result ≡ record { whole = true; said = C.said console } }
     {
         Voice {
             console,
@@ -52,7 +52,7 @@ impl<C: Console + Drop> Voice<C> {
     /// Says a line, with a line feed behind it.
     pub fn say<D: Display + Drop>(&mut self, line: D)
         ensures { IfSome (D.output line)
-            (λ text. Says (said_by C.said self.old) (said_by C.said self.new) (text ++ 10 ∷ [])) }
+            (λ text. Says (heard_by C.said self.old) (heard_by C.said self.new) (text ++ 10 ∷ [])) }
     {
         let is_heard = self.console.say(line).is_ok();
         self.heard = self.heard && is_heard;

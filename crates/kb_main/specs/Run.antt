@@ -3,13 +3,20 @@ use Rattle.std.specs.Prelude.{◌≡◌, ◌⊎◌, ⊤, ℕ, Bool, true, false,
 use Rattle.std.specs.Prelude.{Option, Some, None, Result, Ok, Err, unwrap_or}
 use Rattle.std.specs.Borrow.{Bor}
 use Rattle.std.specs.Io.KnownBytes.{Keeps, append_known}
+use Rattle.clap.specs.Words.{kind_of}
+use Rattle.clap.specs.declared.error.kind.ErrorKind.TheVariants.{InvalidValue}
 use Rattle.kb_context.specs.declared.failure.Failure.{Failure}
 use Rattle.kb_ending.specs.Files.{Held, NamesBytes, StopsReading, StopsOpening, Opens}
-use Rattle.kb_ending.specs.Report.{warning_line, script_stop}
-use Rattle.kb_ending.specs.Voice.{Says}
+use Rattle.kb_ending.specs.Report.{warning_line, stop_line, script_stop}
+use Rattle.kb_ending.specs.Voice.{Heard, Says}
 use Rattle.kb_ending.specs.declared.outcome.Stop.{Stop}
 use Rattle.kb_ending.specs.declared.outcome.Stop.TheVariants.{CannotRead, Load, Script, NoMemory}
 use Rattle.kb_options.specs.declared.given.Options.{Options}
+use Rattle.kb_options.specs.declared.given.OptionsFault.{OptionsFault}
+use Rattle.kb_options.specs.declared.given.OptionsFault.TheVariants.{Line}
+use Rattle.kb_options.specs.declared.given.OptionsFault.TheVariants as options
+use Rattle.kb_options.specs.declared.given.WordsFault.{WordsFault}
+use Rattle.kb_options.specs.declared.given.WordsFault.TheVariants as words
 use Rattle.kb_rules.specs.declared.warning.Warning.{Warning}
 use Rattle.kb_script.specs.ScriptRun.{Answers}
 use Rattle.kb_script.specs.declared.fault.ScriptFault.{ScriptFault}
@@ -36,6 +43,11 @@ pub record Plays (had left : Option (List ℕ)) (old new : Traced State) (before
   pub flushes : Flushes is_flushed written has
   pub end_is : end ≡ script_stop ran is_flushed
 
+-- the same, with whatever is left of the script's bytes
+abbrev pub PlaysAny : Option (List ℕ) → Traced State → Traced State → Option (List ℕ) → Option (List ℕ)
+    → Result (Unit {0}) Stop → Type 0
+PlaysAny script old new before has end = (left : Option (List ℕ)) × Plays script left old new before has end
+
 -- ---- standard error
 
 -- the lines of what a load left out
@@ -44,64 +56,103 @@ warning_text warnings = flat_map (λ warning. warning_line warning ++ 10 ∷ [])
 
 -- ---- the run
 
+-- standard error and standard output, before a run and behind it
+pub record Streams : Type 0 where
+  pub said_before : Heard
+  pub said : Heard
+  pub had : Option (List ℕ)
+  pub has : Option (List ℕ)
+
+-- nothing was said or printed
+pub record Silent (o : Streams) : Type 0 where
+  pub said : o.said ≡ o.said_before
+  pub printed : (left : List ℕ) × (o.had ≡ append_known o.has left)
+
+-- the script was reached: each entry that the load left out is said in its line, and the script was played
+pub record Played (meant : Result (Traced State) LoadFault) (script : Option (List ℕ)) (o : Streams)
+    (end : Result (Unit {0}) Stop) : Type 0 where
+  pub session : Traced State
+  pub loaded_is : meant ≡ Ok session
+  pub warned : Says o.said_before o.said (warning_text session.state.user.warnings)
+  pub new : Traced State
+  pub plays : PlaysAny script session new o.had o.has end
+
+-- why nothing was loaded
+abbrev pub FailsToLoad : Result (Traced State) LoadFault → Stop → Type 0
+FailsToLoad meant (CannotRead path) = ⊥
+FailsToLoad meant (Load fault) = meant ≡ Err fault
+FailsToLoad meant (Script fault) = ⊥
+FailsToLoad meant NoMemory = ⊤
+
+pub record NotLoaded (meant : Result (Traced State) LoadFault) (o : Streams) (end : Result (Unit {0}) Stop)
+    : Type 0 where
+  pub stop : Stop
+  pub end_is : end ≡ Err stop
+  pub why : FailsToLoad meant stop
+  pub silent : Silent o
+
+-- what a run does with what its files hold
+abbrev pub Runs : Result (Traced State) LoadFault → Option (List ℕ) → Streams → Result (Unit {0}) Stop → Type 0
+Runs meant script o end = NotLoaded meant o end ⊎ Played meant script o end
+
+-- the script's bytes, where they are known: those of its file, or of standard input
+abbrev pub script_bytes : {F : Type 0} → (F → Option (List ℕ)) → Option F → Option (List ℕ) → Option (List ℕ)
+script_bytes remaining None input = input
+script_bytes remaining (Some file) input = remaining file
+
+-- ---- the files
+
 -- the bytes that an option's file gave, where it names one
 abbrev pub HasBytes : (List ℕ → Held) → Option (Bor (List ℕ)) → Option (List ℕ) → Type 0
 HasBytes held named bytes = NamesBytes {B = List ℕ} held (λ got. got) named (Ok bytes)
 
--- the script's bytes, where they are known: those of the file that its option names, or of standard input
+-- the bytes that the script has, of the file that an option names, or of standard input
 abbrev pub HasScript : (List ℕ → Held) → Option (Bor (List ℕ)) → Option (List ℕ) → Option (List ℕ) → Type 0
 HasScript held None input script = script ≡ input
-HasScript held (Some path) input script = Opens {F = Option (List ℕ)} (λ known. known) (held path.now) (Ok script)
+HasScript held (Some path) input script =
+    Opens {F = Option (List ℕ)} (λ known. known) (held path.now) (Ok script)
 
--- the files were had, and what they hold was loaded
-pub record Loads (held : List ℕ → Held) (given : Options) (r : Result (Traced State) LoadFault) : Type 0 where
+-- all files were had, and what they hold was run
+pub record FilesRun (held : List ℕ → Held) (given : Options) (input : Option (List ℕ)) (o : Streams)
+    (end : Result (Unit {0}) Stop) : Type 0 where
   pub layout : Option (List ℕ)
   pub user : Option (List ℕ)
+  pub script : Option (List ℕ)
   pub layout_had : HasBytes held given.layout layout
   pub user_had : HasBytes held given.user user
-  pub loaded_is : loaded layout (unwrap_or user []) ≡ r
+  pub script_had : HasScript held given.script input script
+  pub runs : Runs (loaded layout (unwrap_or user [])) script o end
 
--- what a run sees of the outside: what its files hold, what standard input has left, what was said on standard
--- error before and behind it, and what standard output had and has
-pub record Outside : Type 0 where
-  pub held : List ℕ → Held
-  pub input : Option (List ℕ)
-  pub said_before : Option (List ℕ)
-  pub said : Option (List ℕ)
-  pub had : Option (List ℕ)
-  pub has : Option (List ℕ)
-
--- the script was reached: each entry that the load left out is said in its line, and the script was played
-pub record PlaysLoaded (given : Options) (o : Outside) (end : Result (Unit {0}) Stop) : Type 0 where
-  pub session : Traced State
-  pub loads : Loads o.held given (Ok session)
-  pub warned : Says o.said_before o.said (warning_text session.state.user.warnings)
-  pub script : Option (List ℕ)
-  pub script_had : HasScript o.held given.script o.input script
-  pub script_left : Option (List ℕ)
-  pub new : Traced State
-  pub plays : Plays script script_left session new o.had o.has end
-
--- why the script was not reached
-abbrev pub StopsBefore : (List ℕ → Held) → Options → Stop → Type 0
-StopsBefore held given (CannotRead path) =
-    ((given.layout ≡ Some path) × StopsReading (held path.now) path (CannotRead path))
-    ⊎ (((given.user ≡ Some path) × StopsReading (held path.now) path (CannotRead path))
-    ⊎ ((given.script ≡ Some path) × StopsOpening (held path.now) path (CannotRead path)))
-StopsBefore held given (Load fault) = Loads held given (Err fault)
-StopsBefore held given (Script fault) = ⊥
-StopsBefore held given NoMemory = ⊤
-
--- the script was not reached: nothing was said before the line of the end, and nothing printed
-pub record NotPlayed (given : Options) (o : Outside) (end : Result (Unit {0}) Stop) : Type 0 where
+-- a file was not had: one that an option names wasn't read, or didn't open
+pub record FileMissing (held : List ℕ → Held) (given : Options) (o : Streams) (end : Result (Unit {0}) Stop)
+    : Type 0 where
   pub stop : Stop
   pub end_is : end ≡ Err stop
-  pub why : StopsBefore o.held given stop
-  pub silent : Says o.said_before o.said []
-  pub kept : Keeps o.had o.has
+  pub path : Bor (List ℕ)
+  pub why : ((given.layout ≡ Some path) × StopsReading (held path.now) path stop)
+      ⊎ (((given.user ≡ Some path) × StopsReading (held path.now) path stop)
+      ⊎ ((given.script ≡ Some path) × StopsOpening (held path.now) path stop))
+  pub silent : Silent o
 
-abbrev pub CarriesOut : Options → Outside → Result (Unit {0}) Stop → Type 0
-CarriesOut given o end = NotPlayed given o end ⊎ PlaysLoaded given o end
+abbrev pub CarriesOut : (List ℕ → Held) → Options → Option (List ℕ) → Streams → Result (Unit {0}) Stop → Type 0
+CarriesOut held given input o end = FileMissing held given o end ⊎ FilesRun held given input o end
+
+-- the line of the end was said, where there is one
+abbrev pub Reports : Result (Unit {0}) Stop → Heard → Heard → Type 0
+Reports (Ok done) before now = now ≡ before
+Reports (Err stop) before now = Says before now (stop_line stop ++ 10 ∷ [])
+
+-- ---- the command line
+
+-- there are no words: one is no text, which is a refused line, or memory was refused
+abbrev pub IsNoWords : WordsFault → OptionsFault → Type 0
+IsNoWords words.NotText (Line e) = kind_of e ≡ InvalidValue
+IsNoWords words.NotText options.NoMemory = ⊥
+IsNoWords words.NoMemory fault = fault ≡ options.NoMemory
+
+abbrev pub HasNoWords : OptionsFault → Type 0
+HasNoWords (Line e) = kind_of e ≡ InvalidValue
+HasNoWords options.NoMemory = ⊤
 
 -- the exit statuses of the program
 abbrev pub IsStatus : ℕ → Type 0

@@ -2,9 +2,10 @@
 #![tactic(auto)]
 
 mod run;
+mod system;
 
 use std::process::ExitCode;
 
 fn main(rt: HostRuntime) -> ExitCode {
-    run::program(&rt, rt.alloc())
+    system::program(&rt, rt.alloc())
 }

@@ -1,8 +1,10 @@
 //! A run of the program over any files, streams and console. Nothing here asks the system, so that the
 //! clauses say what is said and printed, by what the files hold and the streams give.
+ghost use Rattle.std.specs.Prelude.{◌≡◌, [], option_map, unwrap_or};
 ghost use Rattle.std.specs.Io.Buffered.{writer_contents, writer_inner};
-ghost use Rattle.kb_ending.specs.Voice.{Says, said_by};
-ghost use Rattle.kb_main.specs.Run.{CarriesOut, Plays, warning_text};
+ghost use Rattle.kb_ending.specs.Voice.{Says, heard_by};
+ghost use Rattle.kb_main.specs.Run.{CarriesOut, Runs, Plays, PlaysAny, script_bytes, warning_text};
+ghost use Rattle.kb_session.specs.Session.{loaded};
 
 use kb_ending::{
     Console, FileSource, Stop, Voice, WarningLine, bytes_named, file_named, lent, script_stop,
@@ -16,7 +18,7 @@ use std::io::{BufWriter, Read, Write};
 
 // Says a line for each entry that a load left out.
 fn say_warnings<C: Console + Drop>(warnings: &[Warning], voice: &mut Voice<C>)
-    ensures { Says (said_by C.said voice.old) (said_by C.said voice.new) (warning_text warnings.now) }
+    ensures { Says (heard_by C.said voice.old) (heard_by C.said voice.new) (warning_text warnings.now) }
 {
     for warning in warnings {
         voice.say(WarningLine(warning));
@@ -38,10 +40,55 @@ fn play<'a, I: Read, O: Write + Drop>(
     script_stop(ran, is_flushed)
 }
 
+// Runs the script of a file, where there is one, and else of standard input.
+fn play_any<'a, S: Read + Drop, I: Read, O: Write + Drop>(
+    alloc: Global,
+    script: Option<S>,
+    input: &mut I,
+    trace: &mut BufWriter<O>,
+    session: &mut Session,
+) -> Result<(), Stop<'a>>
+    ensures { PlaysAny (script_bytes S.remaining script (I.remaining input.old)) session.old session.new
+        (writer_contents O.contents trace.old) (O.contents (writer_inner trace.new)) result }
+{
+    match script {
+        Some(mut file) => play(alloc, &mut file, trace, session),
+        None => play(alloc, input, trace, session),
+    }
+}
+
+// Loads a session of what the files hold, says what that left out, and runs the script.
+#[tactic(auto, using(crate::proofs::RunLemmas::loading))]
+fn run_loaded<'a, S: Read + Drop, I: Read, O: Write + Drop, C: Console + Drop>(
+    alloc: Global,
+    inputs: Inputs<'_>,
+    script: Option<S>,
+    input: &mut I,
+    trace: &mut BufWriter<O>,
+    voice: &mut Voice<C>,
+) -> Result<(), Stop<'a>>
+    ensures { Runs (loaded (option_map (λ layout. layout.now) inputs.entry.layout) inputs.entry.user.now)
+        (script_bytes S.remaining script (I.remaining input.old)) (record {
+        said_before = heard_by C.said voice.old;
+        said = heard_by C.said voice.new;
+        had = writer_contents O.contents trace.old;
+        has = O.contents (writer_inner trace.new);
+    }) result }
+{
+    match Session::load(alloc, inputs) {
+        Ok(mut session) => {
+            say_warnings(session.warnings(), voice);
+            play_any(alloc, script, input, trace, &mut session)
+        }
+        Err(failure) => Err(Stop::from(failure)),
+    }
+}
+
 /// Carries out what the command line asks for. All files are read or opened before the load; what the
 /// load left out is said before the script runs.
 ///
 /// Errors: why the run stopped before its end.
+#[tactic(auto, using(crate::proofs::RunLemmas::files))]
 pub fn carry_out<'a, F: FileSource, I: Read, O: Write + Drop, C: Console + Drop>(
     alloc: Global,
     given: Options<'a>,
@@ -50,11 +97,9 @@ pub fn carry_out<'a, F: FileSource, I: Read, O: Write + Drop, C: Console + Drop>
     trace: &mut BufWriter<O>,
     voice: &mut Voice<C>,
 ) -> Result<(), Stop<'a>>
-    ensures { CarriesOut given.entry (record {
-        held = F.held files.now;
-        input = I.remaining input.old;
-        said_before = said_by C.said voice.old;
-        said = said_by C.said voice.new;
+    ensures { CarriesOut (F.held files.now) given.entry (I.remaining input.old) (record {
+        said_before = heard_by C.said voice.old;
+        said = heard_by C.said voice.new;
         had = writer_contents O.contents trace.old;
         has = O.contents (writer_inner trace.new);
     }) result }
@@ -64,12 +109,17 @@ pub fn carry_out<'a, F: FileSource, I: Read, O: Write + Drop, C: Console + Drop>
     let script = file_named(files, given.script)?;
     let inputs = Inputs {
         layout: lent(&layout),
-        user: lent(&user).unwrap_or(&[]),
+        user: lent_or_empty(&user),
     };
-    let mut session = Session::load(alloc, inputs)?;
-    say_warnings(session.warnings(), voice);
-    match script {
-        Some(mut file) => play(alloc, &mut file, trace, &mut session),
-        None => play(alloc, input, trace, &mut session),
+    run_loaded(alloc, inputs, script, input, trace, voice)
+}
+
+// The bytes of a file, or none where there is no file.
+fn lent_or_empty(bytes: &Option<Vec<u8>>) -> &[u8]
+    ensures { result.now ≡ unwrap_or (option_map (λ bytes. bytes.items) bytes.now) [] }
+{
+    match bytes {
+        Some(bytes) => bytes.as_slice(),
+        None => &[],
     }
 }

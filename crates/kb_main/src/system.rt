@@ -1,8 +1,9 @@
 //! The program over its system: the thin rest that rows of the built program show.
-ghost use Rattle.std.specs.Prelude.{◌≡◌, ◌⊎◌, IfErr};
+ghost use Rattle.std.specs.Prelude.{◌≡◌, IfOk, IfErr};
 ghost use Rattle.std.specs.Process.{exit_status};
 ghost use Rattle.kb_ending.specs.Report.{status_of};
-ghost use Rattle.kb_main.specs.Run.{HasNoWords, IsStatus};
+ghost use Rattle.kb_ending.specs.Voice.{heard_by};
+ghost use Rattle.kb_main.specs.Run.{HasNoWords, IsNoWords, Reports, IsStatus};
 
 use crate::run::carry_out;
 use kb_context::NoMemory;
@@ -46,7 +47,7 @@ fn no_words(alloc: Global, fault: WordsFault) -> Result<OptionsFault, NoMemory>
 // Says how the run ended, and gives its exit status.
 fn report<C: Console + Drop>(end: &Result<(), Stop<'_>>, voice: &mut Voice<C>) -> u8
     ensures status { result ≡ status_of end.now }
-    ensures line { Reports end.now (said_by C.said voice.old) (said_by C.said voice.new) }
+    ensures line { Reports end.now (heard_by C.said voice.old) (heard_by C.said voice.new) }
 {
     if let Err(stop) = end {
         voice.say(stop);
