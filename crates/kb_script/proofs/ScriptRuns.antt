@@ -2,14 +2,22 @@
 use Rattle.std.proofs.Common.{◌≡◌, true, false, ℕ, ◌+◌, List, [], ◌∷◌, ◌++◌, refl, sym, ap, ◌∙◌, subst}
 use Rattle.std.proofs.Common.{append_assoc, append-nil, length, drop, ◌<◌, arith}
 use Rattle.std.proofs.Math.Seq.{drop-append_seam}
-use Rattle.std.specs.Prelude.{Option, Some, None, option_to_list}
+use Rattle.std.specs.Prelude.{Option, Some, None, option_to_list, Result, Ok, Err}
 use Rattle.std.specs.Io.KnownBytes.{Appends, Keeps}
 use Rattle.kb_context.specs.declared.failure.Failure.{Failure}
 use Rattle.kb_context.specs.declared.failure.Failure.TheVariants.{NoMemory, Fault}
 use Rattle.kb_script.specs.Script.{line_told, told_from, told_of}
 use Rattle.kb_script.specs.ScriptRun.{BreaksOff, MemoryRefused, NothingRan}
-use Rattle.kb_session.specs.Session.{Halts, halt, half_done}
-use Rattle.kb_session.specs.State.{State, Told, next, next_unless, step_on}
+use Rattle.kb_context.specs.declared.refusal.Refusal.{Refusal}
+use Rattle.kb_files.specs.UserFile.{user_rules}
+use Rattle.kb_rules.specs.RuleList.{Listed}
+use Rattle.kb_session.specs.Session.{Halts, HaltsAt, FailsAt, halt, half_done}
+use Rattle.kb_session.specs.State.{State, Told, happens, reload, next, step_unless, step_on}
+use Rattle.kb_session.specs.State.{taken_unless, reloaded, refusal_of}
+use Rattle.kb_session.specs.declared.fault.SessionFault.{SessionFault}
+use Rattle.kb_session.specs.declared.fault.SessionFault.TheVariants as session
+use Rattle.kb_trace.specs.declared.event.Event.{Event}
+use Rattle.kb_trace.specs.declared.event.Event.TheVariants as event
 use Rattle.kb_stream.specs.Fold.{Traced, after_all, fold}
 use Rattle.kb_stream.specs.FoldWriting.{RunsAndWrites, StopsAndWrites, LacksLines}
 use Rattle.kb_stream.specs.Writing.{text_of_lines, AppendsPart}
@@ -124,14 +132,63 @@ pub line_stops : (told : List Told) (old new : Traced State) (a : Option (List �
 line_stops told old new a halts same = f.stop_now next Halts told old new a a halts same (keeps_same a)
 
 -- a session that takes what it is told runs on
+taken_runs : (refusal : Option Refusal) (e : Event) (s : State)
+    → (taken_unless refusal e s).state.stopped ≡ s.stopped
+taken_runs (Some refusal) e s = refl
+taken_runs None (event.Key key) s = refl
+taken_runs None (event.Focus name) s = refl
+taken_runs None (event.SetKey name key value) s = refl
+taken_runs None (event.UnsetKey name key) s = refl
+taken_runs None (event.Unread number) s = refl
+
+reloaded_runs : (rules : Result Listed Refusal) (s : State) → (reloaded rules s).state.stopped ≡ s.stopped
+reloaded_runs (Ok user) s = refl
+reloaded_runs (Err refusal) s = refl
+
+step_on_runs : (told : Told) (s : State) → (step_on told s).state.stopped ≡ s.stopped
+step_on_runs (happens e) s = taken_runs (refusal_of e s) e s
+step_on_runs (reload bytes) s = reloaded_runs (user_rules bytes) s
+
 next_runs : (told : Told) (s : State) → s.stopped ≡ false → (next told s).state.stopped ≡ false
-unfolding step_on
-next_runs told s running = subst (λ b. (next_unless b told s).state.stopped ≡ false) (sym running) running
+next_runs told s running =
+    subst (λ b. (step_unless b told s).state.stopped ≡ false) (sym running) (step_on_runs told s ∙ running)
 
 pub runs_on : (told : Option Told) (old new : Traced State) → new ≡ after_all next (option_to_list told) old
     → old.state.stopped ≡ false → new.state.stopped ≡ false
 runs_on None old new session running = ap (λ s. s.state.stopped) session ∙ running
 runs_on (Some told) old new session running = ap (λ s. s.state.stopped) session ∙ next_runs told old.state running
+
+-- what a session that was running is where memory was refused
+pub halted : (old new : Traced State) → new ≡ halt old → Halts old.state new.state
+halted old new is =
+    ap (λ s. s.state) is ∙ ap (λ s. half_done s.state.core s.state.pressed old.state) (sym is)
+
+halts_at : (told : Told) (old new : Traced State) → HaltsAt told old new
+    → Halts old.state new.state × (new.trace ≡ old.trace)
+halts_at (happens (event.Key key)) old new halts = halts
+halts_at (happens (event.Focus name)) old new halts = (halted old new halts, ap (λ s. s.trace) halts)
+halts_at (happens (event.SetKey name key value)) old new halts = (halted old new halts, ap (λ s. s.trace) halts)
+halts_at (happens (event.UnsetKey name key)) old new halts = (halted old new halts, ap (λ s. s.trace) halts)
+halts_at (happens (event.Unread number)) old new halts = (halted old new halts, ap (λ s. s.trace) halts)
+halts_at (reload bytes) old new halts = (halted old new halts, ap (λ s. s.trace) halts)
+
+fails_at : (fault : SessionFault) (told : Told) (old new : Traced State) → old.state.stopped ≡ false
+    → FailsAt fault told old new → Halts old.state new.state × (new.trace ≡ old.trace)
+fails_at session.NoMemory told old new running fails = halts_at told old new fails.1
+fails_at session.Stopped told old new running fails = absurd (apart (sym running ∙ fails.0))
+  where
+    apart : false ≡ true → ⊥
+    apart e = cc
+
+pub fails_state : (fault : SessionFault) (told : Told) (old new : Traced State) → old.state.stopped ≡ false
+    → FailsAt fault told old new → Halts old.state new.state
+fails_state fault told old new running fails = (fails_at fault told old new running fails).0
+
+pub fails_trace : (fault : SessionFault) (told : Told) (old new : Traced State) → old.state.stopped ≡ false
+    → FailsAt fault told old new → new.trace ≡ old.trace
+fails_trace fault told old new running fails = (fails_at fault told old new running fails).1
+
+pub ruleset halting = (fails_state, fails_trace, halted)
 
 pub ruleset one_line = (line_on, line_lacks, line_stops)
 
@@ -140,11 +197,8 @@ pub refuse_now : (had : Option (List ℕ)) (old new : Traced State) (a : Option 
     → MemoryRefused had old new a a
 refuse_now had old new a is = by had
   where
-    halts : Halts old.state new.state
-    halts = ap (λ s. s.state) is ∙ ap (λ s. half_done s.state.core old.state) (sym is)
-
     stops : (script : List ℕ) → StopsAndWrites next Halts (told_of script) old new a a
-    stops script = line_stops (told_of script) old new a halts (ap (λ s. s.trace) is)
+    stops script = line_stops (told_of script) old new a (halted old new is) (ap (λ s. s.trace) is)
 
     stays : old.state.stopped ≡ true → NothingRan old new a a
     stays stopped = record {

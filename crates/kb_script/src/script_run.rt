@@ -119,6 +119,7 @@ fn run_line<W: Write>(
 
 /// Has the session do what a line tells, if it tells something. Where memory is refused, also to reading
 /// the line, the session is stopped.
+#[tactic(auto, using(crate::proofs::ScriptRuns::halting))]
 fn obey(
     alloc: Global,
     number: u64,
