@@ -1,26 +1,27 @@
 //! What single calls answer, as text.
-use kb_context::{ContextValue, NoMemory, ReadError, Text};
-use kb_files::{FileFault, read_context_text};
+use kb_context::{ContextValue, Failure, NoMemory, Refusal, Text, fault_name};
+use kb_files::read_context_text;
 use kb_jsonc::{JsoncFault, plain, read};
 use kb_keys::{Chord, KeyFault, Keystroke};
 use serde_json::Value;
 use std::alloc::{AllocError, Global};
 
 /// A fault, as the engine lists it.
-pub fn fault(alloc: Global, number: u32, name: &str) -> Result<String, NoMemory> {
+pub(crate) fn fault(alloc: Global, number: u32) -> Result<String, NoMemory> {
+    let name = fault_name(number);
     format!(in alloc; "{number} {name}")
 }
 
-pub fn truth(alloc: Global, truth: bool) -> Result<String, NoMemory> {
+pub(crate) fn truth(alloc: Global, truth: bool) -> Result<String, NoMemory> {
     format!(in alloc; "{truth}")
 }
 
 fn key_fault(alloc: Global, wrong: KeyFault) -> Result<String, NoMemory> {
-    fault(alloc, wrong.number(), wrong.name())
+    fault(alloc, wrong.number())
 }
 
 /// The spelling of a chord.
-pub fn chord(alloc: Global, text: &str) -> Result<String, NoMemory> {
+pub(crate) fn chord(alloc: Global, text: &str) -> Result<String, NoMemory> {
     match Chord::parse(alloc, text) {
         Ok(chord) => chord.text(alloc),
         Err(wrong) => key_fault(alloc, wrong),
@@ -28,15 +29,18 @@ pub fn chord(alloc: Global, text: &str) -> Result<String, NoMemory> {
 }
 
 /// The spelling of a keystroke.
-pub fn stroke(alloc: Global, text: &str) -> Result<String, NoMemory> {
+pub(crate) fn stroke(alloc: Global, text: &str) -> Result<String, NoMemory> {
     match Keystroke::parse(text) {
         Ok(stroke) => stroke.text(alloc),
         Err(wrong) => key_fault(alloc, wrong),
     }
 }
 
-fn json_fault(alloc: Global, wrong: JsoncFault) -> Result<String, NoMemory> {
-    fault(alloc, wrong.number(), wrong.name())
+fn json_fault(alloc: Global, wrong: Failure<JsoncFault>) -> Result<String, NoMemory> {
+    match wrong {
+        Failure::Fault(wrong) => fault(alloc, wrong.number()),
+        Failure::NoMemory => Err(AllocError),
+    }
 }
 
 fn json_text(alloc: Global, value: &Value) -> Result<String, NoMemory> {
@@ -47,7 +51,7 @@ fn json_text(alloc: Global, value: &Value) -> Result<String, NoMemory> {
 }
 
 /// The value of a JSON text with comments.
-pub fn json(alloc: Global, bytes: &[u8]) -> Result<String, NoMemory> {
+pub(crate) fn json(alloc: Global, bytes: &[u8]) -> Result<String, NoMemory> {
     match read(alloc, bytes) {
         Ok(value) => json_text(alloc, &value),
         Err(wrong) => json_fault(alloc, wrong),
@@ -55,7 +59,7 @@ pub fn json(alloc: Global, bytes: &[u8]) -> Result<String, NoMemory> {
 }
 
 /// A JSON text without its comments, between bars.
-pub fn bare(alloc: Global, text: &str) -> Result<String, NoMemory> {
+pub(crate) fn bare(alloc: Global, text: &str) -> Result<String, NoMemory> {
     match plain(alloc, text) {
         Ok(text) => format!(in alloc; "|{text}|"),
         Err(wrong) => json_fault(alloc, wrong),
@@ -63,10 +67,10 @@ pub fn bare(alloc: Global, text: &str) -> Result<String, NoMemory> {
 }
 
 /// What is wrong with a file.
-pub fn file_fault(alloc: Global, wrong: ReadError<FileFault>) -> Result<String, NoMemory> {
+pub(crate) fn file_fault(alloc: Global, wrong: Failure<Refusal>) -> Result<String, NoMemory> {
     match wrong {
-        ReadError::Fault(wrong) => fault(alloc, wrong.number(), wrong.name()),
-        ReadError::NoMemory => Err(AllocError),
+        Failure::Fault(wrong) => fault(alloc, wrong.number),
+        Failure::NoMemory => Err(AllocError),
     }
 }
 
@@ -80,7 +84,7 @@ fn list(alloc: Global, kind: &str, texts: &[Text]) -> Result<String, NoMemory> {
 }
 
 /// A context value.
-pub fn shown(alloc: Global, value: &ContextValue) -> Result<String, NoMemory> {
+pub(crate) fn shown(alloc: Global, value: &ContextValue) -> Result<String, NoMemory> {
     match value {
         ContextValue::Truth(truth) => format!(in alloc; "truth {truth}"),
         ContextValue::Number(number) => format!(in alloc; "number {number}"),
@@ -94,7 +98,7 @@ pub fn shown(alloc: Global, value: &ContextValue) -> Result<String, NoMemory> {
 }
 
 /// The context value that a JSON text with comments is.
-pub fn context(alloc: Global, text: &str) -> Result<String, NoMemory> {
+pub(crate) fn context(alloc: Global, text: &str) -> Result<String, NoMemory> {
     match read_context_text(alloc, text) {
         Ok(value) => shown(alloc, &value),
         Err(wrong) => file_fault(alloc, wrong),

@@ -1,15 +1,18 @@
 //! Clauses: their faults, their trees, and whether they hold.
 use crate::answers::{fault, truth};
-use kb_context::{NoMemory, Scopes};
+use kb_context::{Failure, NoMemory, Scopes};
 use kb_when::{Clause, WhenFault};
-use std::alloc::Global;
+use std::alloc::{AllocError, Global};
 
-fn when_fault(alloc: Global, wrong: WhenFault) -> Result<String, NoMemory> {
-    fault(alloc, wrong.number(), wrong.name())
+fn when_fault(alloc: Global, wrong: Failure<WhenFault>) -> Result<String, NoMemory> {
+    match wrong {
+        Failure::Fault(wrong) => fault(alloc, wrong.number()),
+        Failure::NoMemory => Err(AllocError),
+    }
 }
 
 /// Whether a clause holds.
-pub fn when(alloc: Global, text: &str, scopes: &Scopes) -> Result<String, NoMemory> {
+pub(crate) fn when(alloc: Global, text: &str, scopes: &Scopes) -> Result<String, NoMemory> {
     match Clause::parse(alloc, text) {
         Ok(clause) => truth(alloc, clause.holds(scopes)?),
         Err(wrong) => when_fault(alloc, wrong),
@@ -37,7 +40,7 @@ fn digits(
 }
 
 /// Whether a clause holds for each of some scopes with the focus.
-pub fn choices(
+pub(crate) fn choices(
     alloc: Global,
     names: &str,
     text: &str,
@@ -52,15 +55,16 @@ pub fn choices(
 fn add_fault_of(alloc: Global, text: &str, said: &mut String) -> Result<(), NoMemory> {
     match Clause::parse(alloc, text) {
         Ok(_) => said.push_str("ok"),
-        Err(wrong) => {
+        Err(Failure::Fault(wrong)) => {
             let number = wrong.number();
             write!(said, "{number}")
         }
+        Err(Failure::NoMemory) => Err(AllocError),
     }
 }
 
 /// The number of a text's fault, and those of the text with each of some tokens behind it.
-pub fn behind(alloc: Global, tokens: &str, text: &str) -> Result<String, NoMemory> {
+pub(crate) fn behind(alloc: Global, tokens: &str, text: &str) -> Result<String, NoMemory> {
     let mut said = String::new(alloc);
     let text = format!(in alloc; "{text} ")?;
     let text = text.as_str();
@@ -92,7 +96,7 @@ fn same_as(alloc: Global, first: &Clause, second: &str) -> Result<String, NoMemo
 }
 
 /// Whether two clauses are one tree.
-pub fn same(alloc: Global, text: &str) -> Result<String, NoMemory> {
+pub(crate) fn same(alloc: Global, text: &str) -> Result<String, NoMemory> {
     let (first, second) = text.split_once(" <=> ").unwrap_or((text, text));
     match Clause::parse(alloc, first) {
         Ok(first) => same_as(alloc, &first, second),

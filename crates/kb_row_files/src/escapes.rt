@@ -74,7 +74,7 @@ fn add_escape(alloc: Global, bytes: &mut Vec<u8>, escape: &str) -> Result<(), No
 }
 
 /// The bytes that a row stands for, behind others.
-pub fn bytes_of(alloc: Global, before: &[u8], text: &str) -> Result<Vec<u8>, NoMemory> {
+pub(crate) fn bytes_of(alloc: Global, before: &[u8], text: &str) -> Result<Vec<u8>, NoMemory> {
     let mut bytes = Vec::from_slice(alloc, before)?;
     for piece in text.split('⟨') {
         match piece.split_once('⟩') {
@@ -89,7 +89,7 @@ pub fn bytes_of(alloc: Global, before: &[u8], text: &str) -> Result<Vec<u8>, NoM
 }
 
 /// An answer in one line.
-pub fn shown(alloc: Global, answer: &str) -> Result<String, NoMemory> {
+pub(crate) fn shown(alloc: Global, answer: &str) -> Result<String, NoMemory> {
     if answer.is_empty() {
         return String::from_str(alloc, "⟨⟩");
     }

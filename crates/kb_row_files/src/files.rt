@@ -31,7 +31,7 @@ fn tell(rt: &HostRuntime, name: &str) -> io::Result<()> {
 }
 
 /// Tells all files.
-pub fn tell_all(rt: &HostRuntime) -> io::Result<()> {
+pub(crate) fn tell_all(rt: &HostRuntime) -> io::Result<()> {
     for name in &names(rt)? {
         tell(rt, name.as_str())?;
     }

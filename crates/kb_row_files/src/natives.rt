@@ -18,7 +18,7 @@ fn declared_by(alloc: Global, signature: &Signature) -> Result<String, NoMemory>
 }
 
 /// The parameters of a native, its budget and its depth.
-pub fn declared(alloc: Global, name: &str) -> Result<String, NoMemory> {
+pub(crate) fn declared(alloc: Global, name: &str) -> Result<String, NoMemory> {
     match Native::named(name) {
         Some(native) => declared_by(alloc, &native.signature(alloc)?),
         None => String::from_str(alloc, "no native"),
@@ -65,7 +65,7 @@ fn read_of(alloc: Global, signature: &Signature, json: &str) -> Result<String, N
 }
 
 /// The arguments that a native reads of what stands behind its name: JSON, or nothing.
-pub fn arguments(alloc: Global, text: &str) -> Result<String, NoMemory> {
+pub(crate) fn arguments(alloc: Global, text: &str) -> Result<String, NoMemory> {
     let (name, json) = text.split_once(' ').unwrap_or((text, ""));
     let Some(native) = Native::named(name) else {
         return String::from_str(alloc, "no native");

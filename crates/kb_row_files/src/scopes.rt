@@ -1,25 +1,26 @@
 //! Scopes that rows make, change and ask.
 use crate::answers::{fault, file_fault, shown};
-use kb_context::{ContextValue, NoMemory, ScopeFault, Scopes, UnknownScope};
+use kb_context::{ContextValue, Failure, NoMemory, ScopeFault, Scopes, UnknownScope};
 use kb_files::{read_context_text, read_scopes};
-use std::alloc::Global;
+use std::alloc::{AllocError, Global};
 
-fn answered(alloc: Global, answer: Result<(), ScopeFault>) -> Result<String, NoMemory> {
+fn answered(alloc: Global, answer: Result<(), Failure<ScopeFault>>) -> Result<String, NoMemory> {
     match answer {
         Ok(()) => String::from_str(alloc, "ok"),
-        Err(wrong) => fault(alloc, wrong.number(), wrong.name()),
+        Err(Failure::Fault(wrong)) => fault(alloc, wrong.number()),
+        Err(Failure::NoMemory) => Err(AllocError),
     }
 }
 
-fn known(answer: Result<(), UnknownScope>) -> Result<(), ScopeFault> {
+fn known(answer: Result<(), UnknownScope>) -> Result<(), Failure<ScopeFault>> {
     match answer {
         Ok(()) => Ok(()),
-        Err(wrong) => Err(ScopeFault::from(wrong)),
+        Err(UnknownScope) => Err(Failure::Fault(ScopeFault::UnknownScope)),
     }
 }
 
 /// Makes scopes of a layout.
-pub fn layout(
+pub(crate) fn layout(
     alloc: Global,
     bytes: &[u8],
     scopes: &mut Option<Scopes>,
@@ -33,7 +34,11 @@ pub fn layout(
     }
 }
 
-fn set_value(scopes: &mut Scopes, place: &str, value: ContextValue) -> Result<(), ScopeFault> {
+fn set_value(
+    scopes: &mut Scopes,
+    place: &str,
+    value: ContextValue,
+) -> Result<(), Failure<ScopeFault>> {
     match place.split_once(' ') {
         Some((scope, key)) => scopes.set(scope, key, value),
         None => scopes.set_root(place, value),
@@ -57,7 +62,7 @@ fn get(alloc: Global, key: &str, scopes: &Scopes) -> Result<String, NoMemory> {
 
 /// A call: `focus SCOPE`, `set SCOPE KEY := JSON`, `set KEY := JSON` of the outermost scope,
 /// `unset SCOPE KEY` or `get KEY`.
-pub fn call(alloc: Global, text: &str, scopes: &mut Scopes) -> Result<String, NoMemory> {
+pub(crate) fn call(alloc: Global, text: &str, scopes: &mut Scopes) -> Result<String, NoMemory> {
     let (word, rest) = text.split_once(' ').unwrap_or((text, ""));
     match word {
         "focus" => answered(alloc, known(scopes.focus(rest))),

@@ -5,8 +5,8 @@
 //! begins with `? ` is none of the script's: it asks something else of the session.
 use crate::escapes::{bytes_of, shown};
 use crate::streams::{Broken, Narrow};
-use kb_context::NoMemory;
-use kb_ending::{Ending, ending, lent, warning_line};
+use kb_context::{NoMemory, fault_name};
+use kb_ending::{Stop, WarningLine, lent, script_stop};
 use kb_keys::Keystroke;
 use kb_script::run_script;
 use kb_session::{Inputs, Session, SessionFault};
@@ -30,27 +30,23 @@ fn add_lines(lines: &str, told: &mut String) -> Result<(), NoMemory> {
     Ok(())
 }
 
-fn add_warnings(alloc: Global, session: &Session, told: &mut String) -> Result<(), NoMemory> {
+fn add_warnings(session: &Session, told: &mut String) -> Result<(), NoMemory> {
     for warning in session.warnings() {
-        let line = warning_line(alloc, warning)?;
-        add_answer(line.as_str(), told)?;
+        let line = WarningLine(warning);
+        write!(told, "> {line}\n")?;
     }
     Ok(())
 }
 
 fn add_trace(session: &Session, told: &mut String) -> Result<(), NoMemory> {
-    for line in session.trace() {
-        add_answer(line.as_str(), told)?;
-    }
-    Ok(())
+    let trace = session.trace().text_from(0);
+    add_lines(str::from_utf8(trace).unwrap_or("no text"), told)
 }
 
-fn add_ending(alloc: Global, end: &Ending, told: &mut String) -> Result<(), NoMemory> {
-    let (_, line) = ending(alloc, end)?;
-    if line.is_empty() {
-        Ok(())
-    } else {
-        add_answer(line.as_str(), told)
+fn add_end(end: &Result<(), Stop<'_>>, told: &mut String) -> Result<(), NoMemory> {
+    match end {
+        Ok(()) => Ok(()),
+        Err(stop) => write!(told, "> {stop}\n"),
     }
 }
 
@@ -59,11 +55,8 @@ fn run<R: Read, W: Write>(
     session: &mut Session,
     reader: &mut R,
     writer: &mut W,
-) -> Ending {
-    match run_script(alloc, reader, writer, session) {
-        Ok(()) => Ending::Ran,
-        Err(fault) => Ending::Script(fault),
-    }
+) -> Result<(), Stop<'static>> {
+    script_stop(run_script(alloc, reader, writer, session), true)
 }
 
 fn run_line(
@@ -76,7 +69,7 @@ fn run_line(
     let mut reader = script;
     let end = run(alloc, session, &mut reader, &mut out);
     add_lines(str::from_utf8(out.as_slice()).unwrap_or("no text"), told)?;
-    add_ending(alloc, &end, told)
+    add_end(&end, told)
 }
 
 // What a writer took, in one line.
@@ -95,7 +88,7 @@ fn run_read(
     let mut reader = Broken { left };
     let end = run(alloc, session, &mut reader, &mut out);
     add_taken(alloc, out.as_slice(), told)?;
-    add_ending(alloc, &end, told)
+    add_end(&end, told)
 }
 
 fn run_written(
@@ -114,7 +107,7 @@ fn run_written(
         fails: _,
     } = writer;
     add_taken(alloc, taken.as_slice(), told)?;
-    add_ending(alloc, &end, told)
+    add_end(&end, told)
 }
 
 // Runs a script whose reader or writer fails after so many bytes.
@@ -161,7 +154,7 @@ fn events_of(alloc: Global, words: &str) -> Result<Vec<Event>, NoMemory> {
 
 fn add_fault(fault: SessionFault, told: &mut String) -> Result<(), NoMemory> {
     let number = fault.number();
-    let name = fault.name();
+    let name = fault_name(number);
     write!(told, "> {number} {name}\n")
 }
 
@@ -203,7 +196,7 @@ fn ask(
 ) -> Result<(), NoMemory> {
     let (word, rest) = question.split_once(' ').unwrap_or((question, ""));
     match word {
-        "warnings" => add_warnings(alloc, session, told),
+        "warnings" => add_warnings(session, told),
         "trace" => add_trace(session, told),
         "handle" => handle(session, rest, told),
         "run" => run_all(alloc, session, rest, told),
@@ -286,15 +279,15 @@ fn tell_loaded(
 ) -> Result<(), NoMemory> {
     match Session::load(alloc, Inputs { layout, user }) {
         Ok(mut session) => {
-            add_warnings(alloc, &session, told)?;
+            add_warnings(&session, told)?;
             play(alloc, &mut session, lines, told)
         }
-        Err(fault) => add_ending(alloc, &Ending::Load(fault), told),
+        Err(failure) => add_end(&Err(Stop::from(failure)), told),
     }
 }
 
 /// Tells a session. The load is answered below the lines of the files.
-pub fn tell(alloc: Global, lines: &str, told: &mut String) -> Result<(), NoMemory> {
+pub(crate) fn tell(alloc: Global, lines: &str, told: &mut String) -> Result<(), NoMemory> {
     add_file_lines(lines, told)?;
     let layout = file_in(alloc, lines, "layout")?;
     let user = file_in(alloc, lines, "user")?;

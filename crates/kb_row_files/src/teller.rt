@@ -112,7 +112,7 @@ fn tell_block(
 }
 
 /// A file, as it has to be.
-pub fn retold(alloc: Global, file: &str) -> Result<String, NoMemory> {
+pub(crate) fn retold(alloc: Global, file: &str) -> Result<String, NoMemory> {
     let mut told = String::new(alloc);
     let mut scopes = None;
     for block in file.split("\n\n") {

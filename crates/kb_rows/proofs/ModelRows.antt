@@ -13,10 +13,11 @@ use Rattle.kb_keys.specs.KeyName.{names, key_named}
 use Rattle.kb_keys.specs.Keystroke.{keystroke_of, split_of, spelling}
 use Rattle.kb_rules.specs.Entry.{entry_of, when_of}
 use Rattle.kb_rules.specs.RuleList.{Listed}
-use Rattle.kb_files.specs.declared.fault.FileFault.{FileFault}
+use Rattle.kb_context.specs.Faults.{fault_name}
+use Rattle.kb_context.specs.declared.refusal.Refusal.{Refusal}
 use Rattle.kb_script.specs.Script.{told_of}
-use Rattle.kb_script.specs.ScriptRun.{text_of}
-use Rattle.kb_session.specs.Session.{loaded_session}
+use Rattle.kb_session.specs.State.{loaded_state, next}
+use Rattle.kb_stream.specs.FoldWriting.{text_of}
 use Rattle.kb_files.specs.Layout.{window_scopes}
 use Rattle.kb_files.specs.UserFile.{user_rules}
 
@@ -25,8 +26,8 @@ abbrev lines : List (List ℕ) → List ℕ
 lines [] = []
 lines (line ∷ more) = line ++ (10 ∷ lines more)
 
-abbrev written_by : Result Listed FileFault → List ℕ → List ℕ
-written_by (Ok listed) script = text_of (told_of script) (loaded_session window_scopes listed)
+abbrev written_by : Result Listed Refusal → List ℕ → List ℕ
+written_by (Ok listed) script = text_of next (told_of script) (loaded_state window_scopes listed)
 written_by (Err fault) script = []
 
 -- what a script writes, in a session that is loaded with the user's rules

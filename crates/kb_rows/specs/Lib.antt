@@ -1,1 +1,1 @@
-pub mod Failure
+pub mod Transcript
