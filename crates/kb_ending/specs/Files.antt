@@ -1,4 +1,4 @@
--- What is read of a file. What is held at a path is known of files over memory, and not of those of a system.
+-- What is read of a file. What is held at a path is known of files over memory, and not of a system's.
 use Rattle.std.specs.Prelude.{◌≡◌, ◌≤◌, ◌<◌, ⊤, ℕ, List, Option, Some, None, Result, Ok, Err, MatchResult}
 use Rattle.std.specs.Prelude.{length}
 use Rattle.std.specs.Borrow.{Bor}

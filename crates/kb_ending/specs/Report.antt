@@ -1,5 +1,6 @@
 -- The exit status and the line with which a run ends.
-use Rattle.std.specs.Prelude.{ℕ, Bool, true, false, List, ◌++◌, Option, Some, None, Result, Ok, Err, codes, decimal}
+use Rattle.std.specs.Prelude.{ℕ, Bool, true, false, List, ◌++◌, Option, Some, None, Result, Ok, Err}
+use Rattle.std.specs.Prelude.{codes, decimal}
 use Rattle.std.specs.Borrow.{Bor}
 use Rattle.kb_context.specs.Faults.{fault_name}
 use Rattle.kb_context.specs.declared.failure.Failure.{Failure}

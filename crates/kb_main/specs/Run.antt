@@ -92,7 +92,8 @@ pub record NotLoaded (meant : Result (Traced State) LoadFault) (o : Streams) (en
   pub silent : Silent o
 
 -- what a run does with what its files hold
-abbrev pub Runs : Result (Traced State) LoadFault → Option (List ℕ) → Streams → Result (Unit {0}) Stop → Type 0
+abbrev pub Runs : Result (Traced State) LoadFault → Option (List ℕ) → Streams → Result (Unit {0}) Stop
+    → Type 0
 Runs meant script o end = NotLoaded meant o end ⊎ Played meant script o end
 
 -- the script's bytes, where they are known: those of its file, or of standard input
@@ -134,7 +135,8 @@ pub record FileMissing (held : List ℕ → Held) (given : Options) (o : Streams
       ⊎ ((given.script ≡ Some path) × StopsOpening (held path.now) path stop))
   pub silent : Silent o
 
-abbrev pub CarriesOut : (List ℕ → Held) → Options → Option (List ℕ) → Streams → Result (Unit {0}) Stop → Type 0
+abbrev pub CarriesOut : (List ℕ → Held) → Options → Option (List ℕ) → Streams → Result (Unit {0}) Stop
+    → Type 0
 CarriesOut held given input o end = FileMissing held given o end ⊎ FilesRun held given input o end
 
 -- the line of the end was said, where there is one

@@ -1,1 +1,2 @@
 pub mod ModelRows
+pub mod ScopeRows
