@@ -1,5 +1,7 @@
 -- The table of places after one more scope, and the keys of scopes put one behind the other.
-use Rattle.std.proofs.Common.{◌≡◌, ℕ, zero, suc, ◌+◌, ◌<◌, ◌≤◌, Bool, true, false, cond, nat_lt, List, [], ◌∷◌, ◌++◌, length, Option, Some, None, option_map, slice_get, is_some, IfSome, ◌⊎◌, inl, inr, refl, sym, subst, ap, ◌∙◌, arith}
+use Rattle.std.proofs.Common.{◌≡◌, ℕ, zero, suc, ◌+◌, ◌<◌, ◌≤◌, Bool, true, false, cond, nat_lt, List, []}
+use Rattle.std.proofs.Common.{◌∷◌, ◌++◌, length, Option, Some, None, option_map, slice_get, is_some, IfSome}
+use Rattle.std.proofs.Common.{◌⊎◌, inl, inr, refl, sym, subst, ap, ◌∙◌, arith}
 use Rattle.std.specs.Str.{bytes_eq}
 use Rattle.std.specs.Ordering.{nat_cmp}
 use Rattle.std.specs.Cmp.Lexicographic.{slice_cmp}
@@ -12,27 +14,36 @@ use Rattle.std.proofs.lemmas.Option.{option_and_then_some}
 use Rattle.std.proofs.lemmas.Slice.Eq.{bytes_eq-Decides}
 use Rattle.kb_context.specs.declared.layout.LayoutScope.{LayoutScope}
 use Rattle.kb_context.specs.declared.scopes.Scope.{Scope}
-use Rattle.kb_context.specs.Scopes.{Places, scope_names, parents, place_in, place_of, key_count, IsRootedList, IsRooted, IsPlaced}
+use Rattle.kb_context.specs.Scopes.{Places, scope_names, parents, place_in, place_of, key_count, IsRootedList}
+use Rattle.kb_context.specs.Scopes.{IsRooted, IsPlaced}
 use Rattle.kb_context.specs.Layout.{layout_key_count}
 use Rattle.kb_context.specs.Draft.{parent_in, after_scope, built}
 use Rattle.kb_context.proofs.OutwardLemmas.{or_else}
 
 -- ---- places
 
-later : (o : Option ℕ) (b : Bool) (m : ℕ) → option_map (λ i. suc i) (or_else o (cond b (Some m) None)) ≡ or_else (option_map (λ i. suc i) o) (cond b (Some (suc m)) None)
+later : (o : Option ℕ) (b : Bool) (m : ℕ)
+    → option_map (λ i. suc i) (or_else o (cond b (Some m) None))
+    ≡ or_else (option_map (λ i. suc i) o) (cond b (Some (suc m)) None)
 later (Some i) b m = refl
 later None true m = refl
 later None false m = refl
 
-place_in-append : (n : List ℕ) (ns : List (List ℕ)) (m : List ℕ) → place_in n (ns ++ m ∷ []) ≡ or_else (place_in n ns) (cond (bytes_eq n m) (Some (length ns)) None)
+place_in-append : (n : List ℕ) (ns : List (List ℕ)) (m : List ℕ)
+    → place_in n (ns ++ m ∷ []) ≡ or_else (place_in n ns) (cond (bytes_eq n m) (Some (length ns)) None)
 place_in-append n [] m = refl
 place_in-append n (t ∷ ns) m =
-    elim (bytes_eq n t) as (λ b. cond b (Some 0) (option_map (λ i. suc i) (place_in n (ns ++ m ∷ []))) ≡ or_else (cond b (Some 0) (option_map (λ i. suc i) (place_in n ns))) (cond (bytes_eq n m) (Some (suc (length ns))) None)) [
+    elim (bytes_eq n t) as
+    (λ b. cond b (Some 0) (option_map (λ i. suc i) (place_in n (ns ++ m ∷ [])))
+    ≡ or_else (cond b (Some 0) (option_map (λ i. suc i) (place_in n ns)))
+    (cond (bytes_eq n m) (Some (suc (length ns))) None)) [
       | true ↦ refl
-      | false ↦ ap (option_map (λ i. suc i)) (place_in-append n ns m) ∙ later (place_in n ns) (bytes_eq n m) (length ns)
+      | false ↦ ap (option_map (λ i. suc i)) (place_in-append n ns m)
+          ∙ later (place_in n ns) (bytes_eq n m) (length ns)
     ]
 
-pub scope_names-append : (ss : List Scope) (s : Scope) → scope_names (ss ++ s ∷ []) ≡ scope_names ss ++ s.name ∷ []
+pub scope_names-append : (ss : List Scope) (s : Scope)
+    → scope_names (ss ++ s ∷ []) ≡ scope_names ss ++ s.name ∷ []
 scope_names-append [] s = refl
 scope_names-append (t ∷ ss) s = ap (λ ns. t.name ∷ ns) (scope_names-append ss s)
 
@@ -44,49 +55,66 @@ not_there : {A : Type 0} (o : Option A) → is_some o ≡ false → o ≡ None
 not_there None e = refl
 not_there (Some x) e = absurd (let no : true ≡ false = e in cc)
 
-apart : (q k : List ℕ) (b : Bool) (o : Option ℕ) (m : ℕ) → bytes_eq q k ≡ b → (bytes_eq q k ≡ true → o ≡ None) → cond b (Some m) o ≡ or_else o (cond b (Some m) None)
+apart : (q k : List ℕ) (b : Bool) (o : Option ℕ) (m : ℕ) → bytes_eq q k ≡ b
+    → (bytes_eq q k ≡ true → o ≡ None) → cond b (Some m) o ≡ or_else o (cond b (Some m) None)
 apart q k true o m e h = ap (λ (p : Option ℕ). or_else p (Some m)) (sym (h e))
 apart q k false None m e h = refl
 apart q k false (Some i) m e h = refl
 
-placed_push : (ss : List Scope) (places : Places) (s : Scope) → ((n : List ℕ) → get places n ≡ place_of n ss) → contains_key places s.name ≡ false → (q : List ℕ) → get (insert places s.name (length ss)) q ≡ place_of q (ss ++ s ∷ [])
+placed_push : (ss : List Scope) (places : Places) (s : Scope)
+    → ((n : List ℕ) → get places n ≡ place_of n ss) → contains_key places s.name ≡ false → (q : List ℕ)
+    → get (insert places s.name (length ss)) q ≡ place_of q (ss ++ s ∷ [])
 placed_push ss places s h new q =
     get-insert nat_list_cmp_total places s.name (length ss) q
     ∙ ap (λ (b : Bool). cond b (Some (length ss)) (get places q)) (is_eq-slice_cmp q s.name)
-    ∙ apart q s.name (bytes_eq q s.name) (get places q) (length ss) refl (λ e. ap (get places) ((bytes_eq-Decides q s.name).0 e) ∙ not_there _ new)
+    ∙ apart q s.name (bytes_eq q s.name) (get places q) (length ss) refl
+    (λ e. ap (get places) ((bytes_eq-Decides q s.name).0 e) ∙ not_there _ new)
     ∙ ap (λ o. or_else o (cond (bytes_eq q s.name) (Some (length ss)) None)) (h q)
-    ∙ ap (λ m. or_else (place_of q ss) (cond (bytes_eq q s.name) (Some m) None)) (sym (length-map ss (λ (t : Scope). t.name)))
+    ∙ ap (λ m. or_else (place_of q ss) (cond (bytes_eq q s.name) (Some m) None))
+    (sym (length-map ss (λ (t : Scope). t.name)))
     ∙ sym (place_in-append q (scope_names ss) s.name)
     ∙ ap (place_in q) (sym (scope_names-append ss s))
 
-last_or_before : {A : Type 0} (xs : List A) (y z : A) (i : ℕ) → slice_get (xs ++ y ∷ []) i ≡ Some z → (slice_get xs i ≡ Some z) ⊎ ((i ≡ length xs) × (y ≡ z))
+last_or_before : {A : Type 0} (xs : List A) (y z : A) (i : ℕ) → slice_get (xs ++ y ∷ []) i ≡ Some z
+    → (slice_get xs i ≡ Some z) ⊎ ((i ≡ length xs) × (y ≡ z))
 last_or_before [] y z zero e = let same : y ≡ z = cc in inr (refl, same)
 last_or_before [] y z (suc i) e = absurd (let no : Bool = true in cc)
 last_or_before (x ∷ xs) y z zero e = inl e
-last_or_before (x ∷ xs) y z (suc i) e = elim (last_or_before xs y z i e) [ inl h ↦ inl h | inr p ↦ inr (ap (λ n. suc n) p.0, p.1) ]
+last_or_before (x ∷ xs) y z (suc i) e =
+    elim (last_or_before xs y z i e) [ inl h ↦ inl h | inr p ↦ inr (ap (λ n. suc n) p.0, p.1) ]
 
 some_below : (o : Option ℕ) (p n : ℕ) → IfSome o (λ q. q < n) → o ≡ Some p → p < n
 some_below None p n h e = absurd (let no : Bool = true in cc)
 some_below (Some q) p n h e = let same : q ≡ p = cc in omega arith
 
-rooted_push : (ss : List Scope) (s : Scope) → IsRooted ss → IfSome s.parent (λ p. p < length ss) → IsRooted (ss ++ s ∷ [])
+rooted_push : (ss : List Scope) (s : Scope) → IsRooted ss → IfSome s.parent (λ p. p < length ss)
+    → IsRooted (ss ++ s ∷ [])
 rooted_push ss s h below = subst IsRootedList (sym (parents-append ss s)) (λ i p e.
     elim (last_or_before (parents ss) s.parent (Some p) i e) [
       | inl was ↦ h i p was
-      | inr last ↦ subst (λ m. p < m) (sym (last.0 ∙ length-map ss (λ (t : Scope). t.parent))) (some_below s.parent p (length ss) below last.1)
+      | inr last ↦ subst (λ m. p < m) (sym (last.0 ∙ length-map ss (λ (t : Scope). t.parent)))
+          (some_below s.parent p (length ss) below last.1)
     ])
 
-IsPlaced-push : (ss : List Scope) (places : Places) (s : Scope) → IsPlaced ss places → contains_key places s.name ≡ false → IfSome s.parent (λ p. p < length ss) → IsPlaced (ss ++ s ∷ []) (insert places s.name (length ss))
-IsPlaced-push ss places s h new below = record { rooted = rooted_push ss s h.rooted below; placed = placed_push ss places s h.placed new }
+IsPlaced-push : (ss : List Scope) (places : Places) (s : Scope) → IsPlaced ss places
+    → contains_key places s.name ≡ false → IfSome s.parent (λ p. p < length ss)
+    → IsPlaced (ss ++ s ∷ []) (insert places s.name (length ss))
+IsPlaced-push ss places s h new below =
+    record { rooted = rooted_push ss s h.rooted below; placed = placed_push ss places s h.placed new }
 
 -- the table has the places with one more scope, as the code has it
-pub IsPlaced-after : (ss : List Scope) (places : Places) (s : Scope) (k : List ℕ) (n : ℕ) (more : List Scope) (table : Places) → IsPlaced ss places → contains_key places s.name ≡ false → IfSome s.parent (λ p. p < length ss) → k ≡ s.name → n ≡ length ss → more ≡ ss ++ s ∷ [] → table ≡ insert places k n → IsPlaced more table
+pub IsPlaced-after : (ss : List Scope) (places : Places) (s : Scope) (k : List ℕ) (n : ℕ)
+    (more : List Scope) (table : Places) → IsPlaced ss places → contains_key places s.name ≡ false
+    → IfSome s.parent (λ p. p < length ss) → k ≡ s.name → n ≡ length ss → more ≡ ss ++ s ∷ []
+    → table ≡ insert places k n → IsPlaced more table
 IsPlaced-after ss places s k n more table h new below named counted pushed added =
     subst (λ (us : List Scope). IsPlaced us table) (sym pushed)
-    (subst (λ (t : Places). IsPlaced (ss ++ s ∷ []) t) (sym (added ∙ ap (λ k'. insert places k' n) named ∙ ap (λ n'. insert places s.name n') counted))
+    (subst (λ (t : Places). IsPlaced (ss ++ s ∷ []) t)
+    (sym (added ∙ ap (λ k'. insert places k' n) named ∙ ap (λ n'. insert places s.name n') counted))
     (IsPlaced-push ss places s h new below))
 
-pub parent_below : (ss : List Scope) (o : Option ℕ) (p : ℕ) → o ≡ Some p → p < length ss → IfSome o (λ q. q < length ss)
+pub parent_below : (ss : List Scope) (o : Option ℕ) (p : ℕ) → o ≡ Some p → p < length ss
+    → IfSome o (λ q. q < length ss)
 parent_below ss o p e h = subst (λ (u : Option ℕ). IfSome u (λ q. q < length ss)) (sym e) h
 
 pub parent_none : (ss : List Scope) (o : Option ℕ) → o ≡ None → IfSome o (λ q. q < length ss)
@@ -99,13 +127,16 @@ none_stands : {A : Type 0} (i : ℕ) (x : A) → slice_get [] i ≡ Some x → �
 none_stands i x e = let no : Bool = true in cc
 
 pub IsPlaced-empty : (ss : List Scope) (places : Places) → ss ≡ [] → places ≡ empty → IsPlaced ss places
-IsPlaced-empty ss places e f = subst (λ (us : List Scope). IsPlaced us places) (sym e) (record { rooted = λ i p h. absurd (none_stands i (Some p) h); placed = none_placed places f })
+IsPlaced-empty ss places e f =
+    subst (λ (us : List Scope). IsPlaced us places) (sym e)
+    (record { rooted = λ i p h. absurd (none_stands i (Some p) h); placed = none_placed places f })
 
 -- ---- how many keys there are
 
 key_count-append : (ss : List Scope) (s : Scope) → key_count (ss ++ s ∷ []) ≡ key_count ss + len s.keys
 key_count-append [] s = omega arith
-key_count-append (t ∷ ss) s = let h : key_count (ss ++ s ∷ []) ≡ key_count ss + len s.keys = key_count-append ss s in omega arith
+key_count-append (t ∷ ss) s = let h : key_count (ss ++ s ∷ []) ≡ key_count ss + len s.keys =
+    key_count-append ss s in omega arith
 
 -- a scope that fits is put behind the others, and its parent has its place among them
 pub record Follows (done : List Scope) (s : LayoutScope) (more : List Scope) : Type 0 where
@@ -113,22 +144,35 @@ pub record Follows (done : List Scope) (s : LayoutScope) (more : List Scope) : T
   pub fits : parent_in s.parent done ≡ Some parent
   pub is : more ≡ done ++ record { name = s.name; parent = parent; keys = s.keys } ∷ []
 
-follows_by : (b : Bool) (done : List Scope) (s : LayoutScope) (o : Option (Option ℕ)) (more : List Scope) → parent_in s.parent done ≡ o → cond b None (option_map (λ parent. done ++ record { name = s.name; parent = parent; keys = s.keys } ∷ []) o) ≡ Some more → Follows done s more
+follows_by : (b : Bool) (done : List Scope) (s : LayoutScope) (o : Option (Option ℕ)) (more : List Scope)
+    → parent_in s.parent done ≡ o
+    → cond b None (option_map
+    (λ parent. done ++ record { name = s.name; parent = parent; keys = s.keys } ∷ [])
+    o) ≡ Some more → Follows done s more
 follows_by true done s o more p e = absurd (let no : Bool = true in cc)
 follows_by false done s None more p e = absurd (let no : Bool = true in cc)
-follows_by false done s (Some u) more p e = let same : done ++ record { name = s.name; parent = u; keys = s.keys } ∷ [] ≡ more = cc in record { parent = u; fits = p; is = sym same }
+follows_by false done s (Some u) more p e =
+    let same : done ++ record { name = s.name; parent = u; keys = s.keys } ∷ [] ≡ more = cc in
+    record { parent = u; fits = p; is = sym same }
 
-pub follows : (done : List Scope) (s : LayoutScope) (more : List Scope) → after_scope done s ≡ Some more → Follows done s more
-follows done s more e = follows_by (is_some (place_of s.name done)) done s (parent_in s.parent done) more refl e
+pub follows : (done : List Scope) (s : LayoutScope) (more : List Scope) → after_scope done s ≡ Some more
+    → Follows done s more
+follows done s more e =
+    follows_by (is_some (place_of s.name done)) done s (parent_in s.parent done) more refl e
 
-key_count-after : (done : List Scope) (s : LayoutScope) (more : List Scope) → Follows done s more → key_count more ≡ key_count done + len s.keys
-key_count-after done s more f = ap key_count f.is ∙ key_count-append done (record { name = s.name; parent = f.parent; keys = s.keys })
+key_count-after : (done : List Scope) (s : LayoutScope) (more : List Scope) → Follows done s more
+    → key_count more ≡ key_count done + len s.keys
+key_count-after done s more f =
+    ap key_count f.is ∙ key_count-append done (record { name = s.name; parent = f.parent; keys = s.keys })
 
-pub key_count-built : (done : List Scope) (ps : List LayoutScope) (ss : List Scope) → built done ps ≡ Some ss → key_count ss ≡ key_count done + layout_key_count ps
-key_count-built done [] ss e = let same : done ≡ ss = cc in let h : key_count done ≡ key_count ss = ap key_count same in omega arith
+pub key_count-built : (done : List Scope) (ps : List LayoutScope) (ss : List Scope)
+    → built done ps ≡ Some ss → key_count ss ≡ key_count done + layout_key_count ps
+key_count-built done [] ss e = let same : done ≡ ss = cc in
+    let h : key_count done ≡ key_count ss = ap key_count same in omega arith
 key_count-built done (p ∷ ps) ss e =
     option_and_then_some (λ more. built more ps) (after_scope done p) ss e (λ more h r.
-    let one : key_count more ≡ key_count done + len p.keys = key_count-after done p more (follows done p more h) in
+    let one : key_count more ≡ key_count done + len p.keys =
+    key_count-after done p more (follows done p more h) in
     let rest : key_count ss ≡ key_count more + layout_key_count ps = key_count-built more ps ss r in
     omega arith)
 

@@ -1,5 +1,6 @@
 -- What the maps of scopes answer, and one step of the search outward.
-use Rattle.std.proofs.Common.{◌≡◌, ℕ, zero, suc, ◌+◌, ◌<◌, ◌≤◌, length, List, [], ◌∷◌, ◌++◌, Bool, true, false, Option, Some, None, cond, slice_get, refl, sym, ◌∙◌, ap, arith}
+use Rattle.std.proofs.Common.{◌≡◌, ℕ, zero, suc, ◌+◌, ◌<◌, ◌≤◌, length, List, [], ◌∷◌, ◌++◌, Bool, true}
+use Rattle.std.proofs.Common.{false, Option, Some, None, cond, slice_get, refl, sym, ◌∙◌, ap, arith}
 use Rattle.std.specs.Option.{option_map_or}
 use Rattle.std.specs.Ordering.{nat_cmp, eq_by_cmp}
 use Rattle.std.specs.Cmp.Lexicographic.{slice_cmp}
@@ -15,19 +16,26 @@ abbrev pub or_else : {A : Type 0} → Option A → Option A → Option A
 or_else (Some x) y = Some x
 or_else None y = y
 
-one : {A : Type 0} (b : Bool) (v : A) (x y : Option A) → cond b (Some v) (or_else x y) ≡ or_else (cond b (Some v) x) y
+one : {A : Type 0} (b : Bool) (v : A) (x y : Option A)
+    → cond b (Some v) (or_else x y) ≡ or_else (cond b (Some v) x) y
 one true v x y = refl
 one false v x y = refl
 
-found-append : (q : List ℕ) (xs ys : List (List ℕ × ContextValue)) → find (slice_cmp nat_cmp) q (xs ++ ys) ≡ or_else (find (slice_cmp nat_cmp) q xs) (find (slice_cmp nat_cmp) q ys)
+found-append : (q : List ℕ) (xs ys : List (List ℕ × ContextValue))
+    → find (slice_cmp nat_cmp) q (xs ++ ys)
+    ≡ or_else (find (slice_cmp nat_cmp) q xs) (find (slice_cmp nat_cmp) q ys)
 found-append q [] ys = refl
-found-append q (e ∷ xs) ys = ap (cond (eq_by_cmp (slice_cmp nat_cmp) q e.0) (Some e.1)) (found-append q xs ys) ∙ one (eq_by_cmp (slice_cmp nat_cmp) q e.0) e.1 _ _
+found-append q (e ∷ xs) ys =
+    ap (cond (eq_by_cmp (slice_cmp nat_cmp) q e.0) (Some e.1)) (found-append q xs ys)
+    ∙ one (eq_by_cmp (slice_cmp nat_cmp) q e.0) e.1 _ _
 
 -- where maps are laid over one another, the inner value counts
-pub get-over : (inner outer : Keys) (q : List ℕ) → get (over inner outer) q ≡ or_else (get inner q) (get outer q)
+pub get-over : (inner outer : Keys) (q : List ℕ)
+    → get (over inner outer) q ≡ or_else (get inner q) (get outer q)
 unfolding over
 get-over inner outer q =
-    get-from_entries nat_list_cmp_total (entries inner ++ entries outer) q ∙ found-append q (entries inner) (entries outer)
+    get-from_entries nat_list_cmp_total (entries inner ++ entries outer) q
+    ∙ found-append q (entries inner) (entries outer)
     ∙ ap (λ o. or_else o (find (slice_cmp nat_cmp) q (entries outer))) (sym (get-entries inner q))
     ∙ ap (or_else (get inner q)) (sym (get-entries outer q))
 
@@ -37,27 +45,38 @@ pub record GoesOn (scopes : List Scope) (k : List ℕ) (answer : Option ContextV
   pub enough : at < fuel
   pub same : get (laid (outward scopes fuel at)) k ≡ answer
 
-module _ (scopes : List Scope) (k : List ℕ) (answer : Option ContextValue) (at : ℕ) (s : Scope) (is : slice_get scopes at ≡ Some s) where
+module _ (scopes : List Scope) (k : List ℕ) (answer : Option ContextValue) (at : ℕ) (s : Scope)
+    (is : slice_get scopes at ≡ Some s) where
   -- what is found at a scope is its own value, or that of what lies outward
-  pub step_by : (fuel : ℕ) → get (laid (outward scopes (suc fuel) at)) k ≡ or_else (get s.keys k) (get (laid (option_map_or (outward scopes fuel) s.parent [])) k)
+  pub step_by : (fuel : ℕ)
+      → get (laid (outward scopes (suc fuel) at)) k
+      ≡ or_else (get s.keys k) (get (laid (option_map_or (outward scopes fuel) s.parent [])) k)
   step_by fuel = rw is (get-over s.keys (laid (option_map_or (outward scopes fuel) s.parent [])) k)
 
-  hit_by : (v : ContextValue) (fuel : ℕ) → get s.keys k ≡ Some v → at < fuel → get (laid (outward scopes fuel at)) k ≡ answer → answer ≡ Some v
+  hit_by : (v : ContextValue) (fuel : ℕ) → get s.keys k ≡ Some v → at < fuel
+      → get (laid (outward scopes fuel at)) k ≡ answer → answer ≡ Some v
   hit_by v zero e lt h = absurd (omega arith)
-  hit_by v (suc fuel) e lt h = sym h ∙ step_by fuel ∙ ap (λ o. or_else o (get (laid (option_map_or (outward scopes fuel) s.parent [])) k)) e
+  hit_by v (suc fuel) e lt h =
+      sym h ∙ step_by fuel
+      ∙ ap (λ o. or_else o (get (laid (option_map_or (outward scopes fuel) s.parent [])) k)) e
 
-  none_by : (fuel : ℕ) → get s.keys k ≡ None → s.parent ≡ None → at < fuel → get (laid (outward scopes fuel at)) k ≡ answer → answer ≡ None
+  none_by : (fuel : ℕ) → get s.keys k ≡ None → s.parent ≡ None → at < fuel
+      → get (laid (outward scopes fuel at)) k ≡ answer → answer ≡ None
   none_by zero e p lt h = absurd (omega arith)
   none_by (suc fuel) e p lt h =
-      sym h ∙ step_by fuel ∙ ap (λ o. or_else o (get (laid (option_map_or (outward scopes fuel) s.parent [])) k)) e
+      sym h ∙ step_by fuel
+      ∙ ap (λ o. or_else o (get (laid (option_map_or (outward scopes fuel) s.parent [])) k)) e
       ∙ ap (λ o. get (laid (option_map_or (outward scopes fuel) o [])) k) p ∙ get-empty (slice_cmp nat_cmp) k
 
-  on_by : (q : ℕ) (fuel : ℕ) → get s.keys k ≡ None → s.parent ≡ Some q → q < at → at < fuel → get (laid (outward scopes fuel at)) k ≡ answer → GoesOn scopes k answer q
+  on_by : (q : ℕ) (fuel : ℕ) → get s.keys k ≡ None → s.parent ≡ Some q → q < at → at < fuel
+      → get (laid (outward scopes fuel at)) k ≡ answer → GoesOn scopes k answer q
   on_by q zero e p below lt h = absurd (omega arith)
   on_by q (suc fuel) e p below lt h = record {
     fuel = fuel;
     enough = omega arith;
-    same = sym (step_by fuel ∙ ap (λ o. or_else o (get (laid (option_map_or (outward scopes fuel) s.parent [])) k)) e ∙ ap (λ o. get (laid (option_map_or (outward scopes fuel) o [])) k) p) ∙ h;
+    same = sym (step_by fuel
+        ∙ ap (λ o. or_else o (get (laid (option_map_or (outward scopes fuel) s.parent [])) k)) e
+        ∙ ap (λ o. get (laid (option_map_or (outward scopes fuel) o [])) k) p) ∙ h;
   }
 
   pub at_hit : (v : ContextValue) → get s.keys k ≡ Some v → GoesOn scopes k answer at → answer ≡ Some v
@@ -66,26 +85,38 @@ module _ (scopes : List Scope) (k : List ℕ) (answer : Option ContextValue) (at
   pub at_none : get s.keys k ≡ None → s.parent ≡ None → GoesOn scopes k answer at → answer ≡ None
   at_none e p g = none_by g.fuel e p g.enough g.same
 
-  pub at_parent : (q : ℕ) → get s.keys k ≡ None → s.parent ≡ Some q → q < at → GoesOn scopes k answer at → GoesOn scopes k answer q
+  pub at_parent : (q : ℕ) → get s.keys k ≡ None → s.parent ≡ Some q → q < at → GoesOn scopes k answer at
+      → GoesOn scopes k answer q
   at_parent q e p below g = on_by q g.fuel e p below g.enough g.same
 
 -- ---- the way outward ends
 
-same_way : (ss : List Scope) (n m : ℕ) (o : Option ℕ) → ((q : ℕ) → o ≡ Some q → outward ss m q ≡ outward ss n q) → option_map_or (outward ss m) o [] ≡ option_map_or (outward ss n) o []
+same_way : (ss : List Scope) (n m : ℕ) (o : Option ℕ)
+    → ((q : ℕ) → o ≡ Some q → outward ss m q ≡ outward ss n q)
+    → option_map_or (outward ss m) o [] ≡ option_map_or (outward ss n) o []
 same_way ss n m None h = refl
 same_way ss n m (Some q) h = h q refl
 
-same_scope : (ss : List Scope) (n m : ℕ) (o : Option Scope) → ((s : Scope) → o ≡ Some s → option_map_or (outward ss m) s.parent [] ≡ option_map_or (outward ss n) s.parent []) → option_map_or (λ s. s.keys ∷ option_map_or (outward ss m) s.parent []) o [] ≡ option_map_or (λ s. s.keys ∷ option_map_or (outward ss n) s.parent []) o []
+same_scope : (ss : List Scope) (n m : ℕ) (o : Option Scope)
+    → ((s : Scope) → o ≡ Some s
+    → option_map_or (outward ss m) s.parent []
+    ≡ option_map_or (outward ss n) s.parent []) → option_map_or (λ s. s.keys
+    ∷ option_map_or (outward ss m) s.parent []) o [] ≡ option_map_or (λ s. s.keys
+    ∷ option_map_or (outward ss n) s.parent []) o []
 same_scope ss n m None h = refl
 same_scope ss n m (Some s) h = ap (λ (ms : List Keys). s.keys ∷ ms) (h s refl)
 
 -- where each parent stands before its scope, no more scopes are met than places up to the first
-outward_ends : (ss : List Scope) → IsRooted ss → (n m at : ℕ) → at < n → n ≤ m → outward ss m at ≡ outward ss n at
+outward_ends : (ss : List Scope) → IsRooted ss → (n m at : ℕ) → at < n → n ≤ m
+    → outward ss m at ≡ outward ss n at
 outward_ends ss rooted zero m at lt le = absurd (omega arith)
 outward_ends ss rooted (suc n) zero at lt le = absurd (omega arith)
-outward_ends ss rooted (suc n) (suc m) at lt le = same_scope ss n m (slice_get ss at) (λ s is. same_way ss n m s.parent (λ q up.
+outward_ends ss rooted (suc n) (suc m) at lt le =
+    same_scope ss n m (slice_get ss at) (λ s is. same_way ss n m s.parent (λ q up.
     let before : q < at = parent_before ss at s q rooted is up in
     outward_ends ss rooted n m q (omega arith) (omega arith)))
 
-pub no_further : (ss : List Scope) (focus : ℕ) → IsRooted ss → focus < length ss → (more : ℕ) → outward ss (length ss + more) focus ≡ outward ss (length ss) focus
-no_further ss focus rooted inside more = outward_ends ss rooted (length ss) (length ss + more) focus inside (omega arith)
+pub no_further : (ss : List Scope) (focus : ℕ) → IsRooted ss → focus < length ss → (more : ℕ)
+    → outward ss (length ss + more) focus ≡ outward ss (length ss) focus
+no_further ss focus rooted inside more =
+    outward_ends ss rooted (length ss) (length ss + more) focus inside (omega arith)

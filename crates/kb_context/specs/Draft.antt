@@ -1,5 +1,6 @@
 -- The scopes of a layout, put one behind the other.
-use Rattle.std.specs.Prelude.{◌≡◌, ℕ, if◌then◌else◌, List, [], ◌∷◌, ◌++◌, Option, Some, None, option_map, option_and_then, is_some}
+use Rattle.std.specs.Prelude.{◌≡◌, ℕ, if◌then◌else◌, List, [], ◌∷◌, ◌++◌, Option, Some, None, option_map}
+use Rattle.std.specs.Prelude.{option_and_then, is_some}
 use Rattle.kb_context.specs.declared.layout.LayoutScope.{LayoutScope}
 use Rattle.kb_context.specs.declared.scopes.Scope.{Scope}
 use Rattle.kb_context.specs.declared.fault.ScopeFault.{ScopeFault}
@@ -8,7 +9,8 @@ use Rattle.kb_context.specs.declared.failure.Failure.{Failure}
 use Rattle.kb_context.specs.declared.failure.Failure.TheVariants.{NoMemory, Fault}
 use Rattle.kb_context.specs.Scopes.{place_of}
 
--- the place of a parent, if the parent fits: the first scope has none, and each other has one that is named before it
+-- the place of a parent, if the parent fits: the first scope has none, and each other has one that is named
+-- before it
 abbrev pub parent_in : Option (List ℕ) → List Scope → Option (Option ℕ)
 parent_in (Some name) scopes = option_map (λ i. Some i) (place_of name scopes)
 parent_in None [] = Some None
@@ -18,7 +20,8 @@ parent_in None (s ∷ scopes) = None
 abbrev pub after_scope : List Scope → LayoutScope → Option (List Scope)
 after_scope done s =
     if is_some (place_of s.name done) then None
-    else option_map (λ parent. done ++ record { name = s.name; parent = parent; keys = s.keys } ∷ []) (parent_in s.parent done)
+    else option_map (λ parent. done ++ record { name = s.name; parent = parent; keys = s.keys } ∷ [])
+    (parent_in s.parent done)
 
 -- the scopes with all of these behind them, if each fits
 abbrev pub built : List Scope → List LayoutScope → Option (List Scope)

@@ -1,4 +1,5 @@
--- What a call answers that may be refused memory: what is meant, or want of memory. What is meant knows nothing of memory.
+-- What a call answers that may be refused memory: what is meant, or want of memory. What is meant knows
+-- nothing of memory.
 use Rattle.std.specs.Prelude.{◌≡◌, Option, Some, None, Result, Ok, Err}
 use Rattle.kb_context.specs.declared.failure.Failure.{Failure}
 use Rattle.kb_context.specs.declared.failure.Failure.TheVariants.{NoMemory, Fault}

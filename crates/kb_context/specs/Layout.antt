@@ -1,5 +1,6 @@
 -- What is wrong with a layout, and the scopes of a good one.
-use Rattle.std.specs.Prelude.{ℕ, ◌+◌, Bool, true, false, not, ◌&&◌, if◌then◌else◌, nat_lt, List, [], ◌∷◌, ◌++◌, Option, Some, None, option_and_then, unwrap_or, map, length}
+use Rattle.std.specs.Prelude.{ℕ, ◌+◌, Bool, true, false, not, ◌&&◌, if◌then◌else◌, nat_lt, List, [], ◌∷◌}
+use Rattle.std.specs.Prelude.{◌++◌, Option, Some, None, option_and_then, unwrap_or, map, length}
 use Rattle.std.specs.List.{list_any}
 use Rattle.std.specs.Str.{bytes_eq}
 use Rattle.std.specs.FinMap.{len}
@@ -35,7 +36,8 @@ fit before (s ∷ scopes) =
 
 -- no more scopes than the limit, names and parents that fit, and a focus that is one of the scopes
 abbrev pub is_good : Layout → Bool
-is_good l = not (nat_lt scope_limit (length l.scopes)) && (fit [] l.scopes && is_among (layout_names l.scopes) l.focus)
+is_good l = not (nat_lt scope_limit (length l.scopes))
+    && (fit [] l.scopes && is_among (layout_names l.scopes) l.focus)
 
 -- how many keys the scopes of a layout have together
 abbrev pub layout_key_count : List LayoutScope → ℕ
@@ -45,11 +47,13 @@ layout_key_count (s ∷ scopes) = len s.keys + layout_key_count scopes
 -- a layout that isn't good, and then too many keys
 abbrev pub layout_fault : Layout → Option ScopeFault
 layout_fault l =
-    if is_good l then (if nat_lt key_limit (layout_key_count l.scopes) then Some TooManyKeys else None) else Some BadLayout
+    if is_good l then (if nat_lt key_limit (layout_key_count l.scopes) then Some TooManyKeys else None)
+    else Some BadLayout
 
 -- a scope whose parent is given by its place among the names
 abbrev pub scope_of : List (List ℕ) → LayoutScope → Scope
-scope_of names s = record { name = s.name; parent = option_and_then (λ parent. place_in parent names) s.parent; keys = s.keys }
+scope_of names s = record
+    { name = s.name; parent = option_and_then (λ parent. place_in parent names) s.parent; keys = s.keys }
 
 -- the scopes of a good layout, in its order
 abbrev pub scopes_of : Layout → ScopesData

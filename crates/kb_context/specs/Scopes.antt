@@ -1,5 +1,7 @@
 -- Scopes as contracts see them, the keys that the focus sees, and what the calls change and refuse.
-use Rattle.std.specs.Prelude.{◌≡◌, ◌≢◌, ℕ, zero, suc, ◌+◌, ◌<◌, ◌≤◌, if◌then◌else◌, ◌||◌, nat_lt, List, [], ◌∷◌, ◌++◌, Option, Some, None, option_map, option_and_then, is_some, slice_get, length, map, refl, IsSomeAnd}
+use Rattle.std.specs.Prelude.{◌≡◌, ◌≢◌, ℕ, zero, suc, ◌+◌, ◌<◌, ◌≤◌, if◌then◌else◌, ◌||◌, nat_lt, List, []}
+use Rattle.std.specs.Prelude.{◌∷◌, ◌++◌, Option, Some, None, option_map, option_and_then, is_some, slice_get}
+use Rattle.std.specs.Prelude.{length, map, refl, IsSomeAnd}
 use Rattle.std.specs.Coded.{Coded, code_by, coded×, coded_ℕ, coded_list}
 use Rattle.std.specs.Option.{option_map_or}
 use Rattle.std.specs.Str.{bytes_eq}
@@ -27,7 +29,8 @@ pub record ScopesData : Type 0 where
 -- scopes are stored as the pair of their fields
 abbrev pub scopes_code : Coded Scope → Coded ScopesData
 scopes_code scope =
-    code_by (List Scope × ℕ) (coded× (coded_list scope) coded_ℕ) (λ s. (s.scopes, s.focus)) (λ p. record { scopes = p.0; focus = p.1 }) (λ _. refl)
+    code_by (List Scope × ℕ) (coded× (coded_list scope) coded_ℕ) (λ s. (s.scopes, s.focus))
+    (λ p. record { scopes = p.0; focus = p.1 }) (λ _. refl)
 
 -- ---- the keys that the focus sees
 
@@ -57,14 +60,16 @@ context s = seen_from s.scopes s.focus
 
 -- the way outward from the focus ends at the outermost scope: to go on further adds no map
 abbrev pub ReachesRoot : ScopesData → Type 0
-ReachesRoot s = (more : ℕ) → outward s.scopes (length s.scopes + more) s.focus ≡ outward s.scopes (length s.scopes) s.focus
+ReachesRoot s = (more : ℕ)
+    → outward s.scopes (length s.scopes + more) s.focus ≡ outward s.scopes (length s.scopes) s.focus
 
 -- ---- places and values
 
 -- the place of the first of these names that is the one
 abbrev pub place_in : List ℕ → List (List ℕ) → Option ℕ
 place_in name [] = None
-place_in name (first ∷ names) = if bytes_eq name first then Some 0 else option_map (λ i. suc i) (place_in name names)
+place_in name (first ∷ names) =
+    if bytes_eq name first then Some 0 else option_map (λ i. suc i) (place_in name names)
 
 abbrev pub scope_names : List Scope → List (List ℕ)
 scope_names = map (λ s. s.name)
@@ -111,14 +116,17 @@ with_focus s name = option_map_or (λ at. record s { focus = at }) (place_of nam
 
 -- the scope at a place now has this value of the key, or lacks the key, and nothing else has changed: no
 -- other key of that scope, and no other scope
-pub record ChangesOnly (old new : ScopesData) (at : ℕ) (key : List ℕ) (value : Option ContextValue) : Type 0 where
+pub record ChangesOnly (old new : ScopesData) (at : ℕ) (key : List ℕ)
+    (value : Option ContextValue) : Type 0 where
   pub there : value_at new at key ≡ value
   pub other_keys : (other : List ℕ) → other ≢ key → value_at new at other ≡ value_at old at other
-  pub other_scopes : (place : ℕ) (other : List ℕ) → place ≢ at → value_at new place other ≡ value_at old place other
+  pub other_scopes : (place : ℕ) (other : List ℕ) → place ≢ at
+      → value_at new place other ≡ value_at old place other
 
 -- the same of the scope of a name, which there is
 abbrev pub ChangesOnlyIn : ScopesData → ScopesData → List ℕ → List ℕ → Option ContextValue → Type 0
-ChangesOnlyIn old new name key value = IsSomeAnd (place_of name old.scopes) (λ at. ChangesOnly old new at key value)
+ChangesOnlyIn old new name key value =
+    IsSomeAnd (place_of name old.scopes) (λ at. ChangesOnly old new at key value)
 
 -- ---- what the calls refuse
 
@@ -138,7 +146,8 @@ set_fault_at s at key =
 
 -- the same in the scope of a name, if there is one
 abbrev pub set_fault : ScopesData → List ℕ → List ℕ → Option ScopeFault
-set_fault s name key = option_map_or (λ at. set_fault_at s at key) (place_of name s.scopes) (Some UnknownScope)
+set_fault s name key =
+    option_map_or (λ at. set_fault_at s at key) (place_of name s.scopes) (Some UnknownScope)
 
 -- ---- what holds of all scopes
 

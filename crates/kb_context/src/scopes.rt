@@ -1,5 +1,6 @@
 //! Scopes of context keys, and which of them has the focus.
-ghost use Rattle.std.specs.Prelude.{◌≡◌, ◌<◌, None, Some, length, option_copied, IfOk, IfErr, IsSome, OnOk, OnErr};
+ghost use Rattle.std.specs.Prelude.{◌≡◌, ◌<◌, None, Some, length, option_copied, IfOk, IfErr, IsSome, OnOk};
+ghost use Rattle.std.specs.Prelude.{OnErr};
 ghost use Rattle.std.specs.FinMap as map;
 ghost use Rattle.kb_context.specs.Scopes.{IsRooted, seen_from};
 
@@ -71,7 +72,9 @@ impl Model for Scopes {
 impl Scopes {
     ghost use Rattle.kb_context.specs.Failure.{IsRefusal, IsRefusalOrMemory};
     ghost use Rattle.kb_context.specs.Layout.{layout_fault, scopes_of};
-    ghost use Rattle.kb_context.specs.Scopes.{context, place_of, value_in, value_at, set_fault_at, set_fault, with_value_at, with_value, without_value, with_focus, ReachesRoot, ChangesOnly, ChangesOnlyIn};
+    ghost use Rattle.kb_context.specs.Scopes.{context, place_of, value_in, value_at, set_fault_at, set_fault};
+    ghost use Rattle.kb_context.specs.Scopes.{with_value_at, with_value, without_value, with_focus};
+    ghost use Rattle.kb_context.specs.Scopes.{ReachesRoot, ChangesOnly, ChangesOnlyIn};
 
     /// The scopes of a layout.
     ///
@@ -117,7 +120,12 @@ impl Scopes {
     }
 
     /// Gives a key a value in the scope at a place.
-    fn set_at(&mut self, at: usize, key: &str, value: ContextValue) -> Result<(), Failure<ScopeFault>>
+    fn set_at(
+        &mut self,
+        at: usize,
+        key: &str,
+        value: ContextValue,
+    ) -> Result<(), Failure<ScopeFault>>
         requires { at < length self.old.scopes }
         ensures allowed { OnOk result (set_fault_at self.old at key.now ≡ None) }
         ensures ok { OnOk result (self.new ≡ with_value_at self.old at key.now value) }
@@ -142,7 +150,12 @@ impl Scopes {
     /// `UnknownScope` (20) where no scope has the name. `TooManyKeys` (22) where the key is new in
     /// the scope and `KEY_LIMIT` keys stand in all scopes together. `NoMemory` (5), only where the
     /// key is new and neither of these comes. The first two rules are our decision.
-    pub fn set(&mut self, scope: &str, key: &str, value: ContextValue) -> Result<(), Failure<ScopeFault>>
+    pub fn set(
+        &mut self,
+        scope: &str,
+        key: &str,
+        value: ContextValue,
+    ) -> Result<(), Failure<ScopeFault>>
         ensures allowed { OnOk result (set_fault self.old scope.now key.now ≡ None) }
         ensures ok { OnOk result (self.new ≡ with_value self.old scope.now key.now value) }
         ensures err { IfErr result (IsRefusalOrMemory (set_fault self.old scope.now key.now)) }

@@ -108,7 +108,8 @@ impl Text {
     /// Takes the last character away and gives it, or `None` where the text is empty.
     pub fn pop(&mut self) -> Option<char>
         ensures rest { self.new ≡ without_last self.old }
-        ensures cases { MatchOption result (only_last self.old ≡ []) (λ c. only_last self.old ≡ encode_utf8 c) }
+        ensures cases { MatchOption result (only_last self.old ≡ [])
+            (λ c. only_last self.old ≡ encode_utf8 c) }
     {
         self.string.pop()
     }
@@ -116,7 +117,8 @@ impl Text {
     /// Takes the first character away and gives it, or `None` where the text is empty.
     pub fn pop_front(&mut self) -> Option<char>
         ensures rest { self.new ≡ without_first self.old }
-        ensures cases { MatchOption result (only_first self.old ≡ []) (λ c. only_first self.old ≡ encode_utf8 c) }
+        ensures cases { MatchOption result (only_first self.old ≡ [])
+            (λ c. only_first self.old ≡ encode_utf8 c) }
     {
         if self.string.is_empty() {
             return None;
@@ -126,7 +128,8 @@ impl Text {
 
     /// The last character, or `None` where the text is empty.
     pub fn last(&self) -> Option<char>
-        ensures { MatchOption result ((only_last self.now ≡ []) × (without_last self.now ≡ self.now)) (λ c. only_last self.now ≡ encode_utf8 c) }
+        ensures { MatchOption result ((only_last self.now ≡ []) × (without_last self.now ≡ self.now))
+            (λ c. only_last self.now ≡ encode_utf8 c) }
     {
         let mut rest = self.string.as_str().chars();
         match rest.next_back() {
@@ -141,7 +144,8 @@ impl Text {
 
     /// The first character, or `None` where the text is empty.
     pub fn first(&self) -> Option<char>
-        ensures { MatchOption result ((only_first self.now ≡ []) × (without_first self.now ≡ self.now)) (λ c. only_first self.now ≡ encode_utf8 c) }
+        ensures { MatchOption result ((only_first self.now ≡ []) × (without_first self.now ≡ self.now))
+            (λ c. only_first self.now ≡ encode_utf8 c) }
     {
         let mut rest = self.string.as_str().chars();
         match rest.next() {

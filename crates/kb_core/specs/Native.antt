@@ -1,5 +1,6 @@
 -- The table of the native commands: identifier, parameters, budget and effect.
-use Rattle.std.specs.Prelude.{◌≡◌, ℕ, List, [], ◌∷◌, Option, None, is_some, false, if◌then◌else◌, codes, find, bytes_eq}
+use Rattle.std.specs.Prelude.{◌≡◌, ℕ, List, [], ◌∷◌, Option, None, is_some, false, if◌then◌else◌, codes, find}
+use Rattle.std.specs.Prelude.{bytes_eq}
 use Rattle.kb_context.specs.declared.value.ContextValue.{ContextValue}
 use Rattle.kb_context.specs.declared.value.ContextValue.TheVariants as value
 use Rattle.kb_context.specs.Scopes.{ScopesData, value_at, set_fault_at, with_value_at}
@@ -8,15 +9,19 @@ use Rattle.kb_core.specs.declared.arg.Arg.TheVariants.{Text, Number, Truth}
 use Rattle.kb_core.specs.declared.arg.Kind.TheVariants as kind
 use Rattle.kb_core.specs.declared.buffer.Buffer.{Buffer}
 use Rattle.kb_core.specs.declared.native.Native.{Native}
-use Rattle.kb_core.specs.declared.native.Native.TheVariants.{TypeText, DeleteLeft, DeleteRight, CursorLeft, CursorRight, BufferClear, BufferTop, BufferBottom, SetContext}
+use Rattle.kb_core.specs.declared.native.Native.TheVariants.{TypeText, DeleteLeft, DeleteRight, CursorLeft}
+use Rattle.kb_core.specs.declared.native.Native.TheVariants.{CursorRight, BufferClear, BufferTop}
+use Rattle.kb_core.specs.declared.native.Native.TheVariants.{BufferBottom, SetContext}
 use Rattle.kb_core.specs.declared.parameter.Param.{Param}
 use Rattle.kb_core.specs.Arg.{context_value}
-use Rattle.kb_core.specs.Buffer.{empty, with_inserted, without_left, without_right, moved_left, moved_right, at_top, at_bottom}
+use Rattle.kb_core.specs.Buffer.{empty, with_inserted, without_left, without_right, moved_left, moved_right}
+use Rattle.kb_core.specs.Buffer.{at_top, at_bottom}
 use Rattle.kb_core.specs.Declaration.{Declaration}
 
 abbrev pub natives : List Native
 natives =
-    TypeText ∷ DeleteLeft ∷ DeleteRight ∷ CursorLeft ∷ CursorRight ∷ BufferClear ∷ BufferTop ∷ BufferBottom ∷ SetContext ∷ []
+    TypeText ∷ DeleteLeft ∷ DeleteRight ∷ CursorLeft ∷ CursorRight ∷ BufferClear ∷ BufferTop ∷ BufferBottom
+    ∷ SetContext ∷ []
 
 abbrev pub name_of : Native → List ℕ
 name_of TypeText = codes "type"
@@ -42,7 +47,8 @@ parameters_of CursorRight = []
 parameters_of BufferClear = []
 parameters_of BufferTop = []
 parameters_of BufferBottom = []
-parameters_of SetContext = record { name = codes "key"; kind = kind.Text } ∷ record { name = codes "value"; kind = kind.Any } ∷ []
+parameters_of SetContext =
+    record { name = codes "key"; kind = kind.Text } ∷ record { name = codes "value"; kind = kind.Any } ∷ []
 
 abbrev pub budget_of : Native → ℕ
 budget_of TypeText = 1001
@@ -111,4 +117,5 @@ MayLackMemory CursorRight args s = Unit {0}
 MayLackMemory BufferClear args s = ⊥
 MayLackMemory BufferTop args s = Unit {0}
 MayLackMemory BufferBottom args s = Unit {0}
-MayLackMemory SetContext args s = (set_fault_at s 0 (text_of args) ≡ None) × (value_at s 0 (text_of args) ≡ None)
+MayLackMemory SetContext args s =
+    (set_fault_at s 0 (text_of args) ≡ None) × (value_at s 0 (text_of args) ≡ None)

@@ -1,5 +1,6 @@
 -- The arguments that a JSON value gives.
-use Rattle.std.specs.Prelude.{List, [], ◌∷◌, map, Option, Some, None, option_map, option_and_then, if◌then◌else◌}
+use Rattle.std.specs.Prelude.{List, [], ◌∷◌, map, Option, Some, None, option_map, option_and_then}
+use Rattle.std.specs.Prelude.{if◌then◌else◌}
 use Rattle.serde_json.specs.Data.{Data, null, boolean, number, string, array, object}
 use Rattle.serde_json.specs.Find.{get, as_i64}
 use Rattle.kb_core.specs.declared.arg.Arg.{Arg}
@@ -33,7 +34,8 @@ member_arg k (Some (object ms)) = None
 
 abbrev pub object_args : Data → List Param → Option (List Arg)
 object_args d [] = Some []
-object_args d (p ∷ ps) = option_and_then (λ a. option_map (λ rest. a ∷ rest) (object_args d ps)) (member_arg p.kind (get p.name d))
+object_args d (p ∷ ps) =
+    option_and_then (λ a. option_map (λ rest. a ∷ rest) (object_args d ps)) (member_arg p.kind (get p.name d))
 
 -- a lone value, for a lone parameter
 abbrev pub lone_arg : List Param → Data → Option (List Arg)

@@ -1,14 +1,18 @@
 -- How far a string or a comment goes, a step at a time, and what stands first.
-use Rattle.std.proofs.Common.{◌≡◌, ◌≢◌, ℕ, lit<, ◌+◌, ◌-◌, ◌<◌, ◌≤◌, true, false, List, [], ◌∷◌, length, get_or, take, drop, suc, Option, Some, None, option_map, Ok, Err, refl, ap, arith, eqb, ◌&&◌}
+use Rattle.std.proofs.Common.{◌≡◌, ◌≢◌, ℕ, lit<, ◌+◌, ◌-◌, ◌<◌, ◌≤◌, true, false, List, [], ◌∷◌, length}
+use Rattle.std.proofs.Common.{get_or, take, drop, suc, Option, Some, None, option_map, Ok, Err, refl, ap}
+use Rattle.std.proofs.Common.{arith, eqb, ◌&&◌}
 use Rattle.std.proofs.lemmas.List.{drop_more, drop_all, drop-drop, length-drop}
 use Rattle.std.proofs.lemmas.Str.{IsUtf8-drop, lead_after_ascii}
 use Rattle.std.proofs.lemmas.Bool.{ne_eqb}
 use Rattle.std.proofs.lemmas.Bool.Decides.{nat_tests}
 use Rattle.kb_jsonc.specs.Bytes.{is_line_end}
 use Rattle.kb_jsonc.specs.declared.fault.JsoncFault.TheVariants.{OpenComment, OpenString}
-use Rattle.kb_jsonc.specs.Pieces.{quoted, comment, single, string_len, block_len, line_len, first_piece, first_of, OpensComment}
+use Rattle.kb_jsonc.specs.Pieces.{quoted, comment, single, string_len, block_len, line_len, first_piece}
+use Rattle.kb_jsonc.specs.Pieces.{first_of, OpensComment}
 
-map_twice : (o : Option ℕ) (m n k : ℕ) → n + m ≡ k → option_map (λ x. x + n) (option_map (λ x. x + m) o) ≡ option_map (λ x. x + k) o
+map_twice : (o : Option ℕ) (m n k : ℕ) → n + m ≡ k
+    → option_map (λ x. x + n) (option_map (λ x. x + m) o) ≡ option_map (λ x. x + k) o
 map_twice None m n k e = refl
 map_twice (Some x) m n k e = ap Some (omega arith)
 
@@ -22,32 +26,50 @@ pub quote_first : (b : ℕ) (bs : List ℕ) → b ≡ 34 → string_len (b ∷ b
 quote_first b [] e = rw e refl
 quote_first b (c ∷ bs) e = rw e refl
 
-pub escape_first : (b : ℕ) (bs : List ℕ) → b ≡ 92 → string_len (b ∷ bs) ≡ option_map (λ n. n + 2) (string_len (drop 1 bs))
+pub escape_first : (b : ℕ) (bs : List ℕ) → b ≡ 92
+    → string_len (b ∷ bs) ≡ option_map (λ n. n + 2) (string_len (drop 1 bs))
 escape_first b [] e = rw e refl
 escape_first b (c ∷ bs) e = rw e refl
 
-pub other_first : (b : ℕ) (bs : List ℕ) → eqb b 34 ≡ false → eqb b 92 ≡ false → string_len (b ∷ bs) ≡ option_map (λ n. n + 1) (string_len bs)
+pub other_first : (b : ℕ) (bs : List ℕ) → eqb b 34 ≡ false → eqb b 92 ≡ false
+    → string_len (b ∷ bs) ≡ option_map (λ n. n + 1) (string_len bs)
 other_first b [] p q = rw p refl
 other_first b (c ∷ bs) p q = rw (p, q) refl
 
-pub string_quote : (bytes : List ℕ) (at : ℕ) → at < length bytes → get_or bytes at 0 ≡ 34 → string_from bytes at ≡ Some (at + 1)
-string_quote bytes at l e = rw (drop_more bytes at 0 l, quote_first (get_or bytes at 0) (drop (at + 1) bytes) e) (ap Some (omega arith))
+pub string_quote : (bytes : List ℕ) (at : ℕ) → at < length bytes → get_or bytes at 0 ≡ 34
+    → string_from bytes at ≡ Some (at + 1)
+string_quote bytes at l e =
+    rw (drop_more bytes at 0 l, quote_first (get_or bytes at 0) (drop (at + 1) bytes) e)
+    (ap Some (omega arith))
 
-pub string_escape : (bytes : List ℕ) (at : ℕ) → at < length bytes → get_or bytes at 0 ≡ 92 → string_from bytes at ≡ string_from bytes (at + 2)
+pub string_escape : (bytes : List ℕ) (at : ℕ) → at < length bytes → get_or bytes at 0 ≡ 92
+    → string_from bytes at ≡ string_from bytes (at + 2)
 string_escape bytes at l e =
-    rw (drop_more bytes at 0 l, escape_first (get_or bytes at 0) (drop (at + 1) bytes) e, drop-drop 1 (at + 1) bytes, shifted at 1 1)
+    rw (
+      drop_more bytes at 0 l,
+      escape_first (get_or bytes at 0) (drop (at + 1) bytes) e,
+      drop-drop 1
+          (at + 1) bytes,
+      shifted at 1 1,
+    )
     (map_twice (string_len (drop (at + 2) bytes)) 2 at (at + 2) (omega arith))
 
-pub string_other : (bytes : List ℕ) (at : ℕ) → at < length bytes → get_or bytes at 0 ≢ 34 → get_or bytes at 0 ≢ 92 → string_from bytes at ≡ string_from bytes (at + 1)
+pub string_other : (bytes : List ℕ) (at : ℕ) → at < length bytes → get_or bytes at 0 ≢ 34
+    → get_or bytes at 0 ≢ 92 → string_from bytes at ≡ string_from bytes (at + 1)
 string_other bytes at l p q =
-    rw (drop_more bytes at 0 l, other_first (get_or bytes at 0) (drop (at + 1) bytes) (ne_eqb _ _ p) (ne_eqb _ _ q))
+    rw (
+      drop_more bytes at 0 l,
+      other_first (get_or bytes at 0) (drop (at + 1) bytes) (ne_eqb _ _ p)
+          (ne_eqb _ _ q),
+    )
     (map_twice (string_len (drop (at + 1) bytes)) 1 at (at + 1) (omega arith))
 
 pub string_none : (bytes : List ℕ) (at : ℕ) → length bytes ≤ at → string_from bytes at ≡ None
 string_none bytes at l = rw drop_all refl
 
 pub string_whole : (bytes : List ℕ) → string_from bytes 0 ≡ string_len bytes
-string_whole bytes = elim (string_len bytes) as (λ o. option_map (λ n. n + 0) o ≡ o) [ None ↦ refl | Some n ↦ ap Some (omega arith) ]
+string_whole bytes = elim (string_len bytes) as
+    (λ o. option_map (λ n. n + 0) o ≡ o) [ None ↦ refl | Some n ↦ ap Some (omega arith) ]
 
 pub ruleset string_steps = (string_quote, string_escape, string_other, string_none, string_whole)
 
@@ -62,27 +84,38 @@ none_at [] l at = refl
 none_at (b ∷ []) l at = refl
 none_at (b ∷ c ∷ bs) l at = absurd (omega arith)
 
-pub block_end : (bytes : List ℕ) (at : ℕ) → at + 1 < length bytes → get_or bytes at 0 ≡ 42 → get_or bytes (at + 1) 0 ≡ 47 → block_from bytes at ≡ Some (at + 2)
+pub block_end : (bytes : List ℕ) (at : ℕ) → at + 1 < length bytes → get_or bytes at 0 ≡ 42
+    → get_or bytes (at + 1) 0 ≡ 47 → block_from bytes at ≡ Some (at + 2)
 block_end bytes at l p q =
     rw (drop_more bytes at 0 (omega arith), drop_more bytes (at + 1) 0 l, p, q) (ap Some (omega arith))
 
-pub block_other : (bytes : List ℕ) (at : ℕ) → at + 1 < length bytes → (get_or bytes at 0 ≡ 42 → get_or bytes (at + 1) 0 ≢ 47) → block_from bytes at ≡ block_from bytes (at + 1)
+pub block_other : (bytes : List ℕ) (at : ℕ) → at + 1 < length bytes
+    → (get_or bytes at 0 ≡ 42 → get_or bytes (at + 1) 0 ≢ 47)
+    → block_from bytes at ≡ block_from bytes (at + 1)
 block_other bytes at l p =
-    rw (drop_more bytes at 0 (omega arith), drop_more bytes (at + 1) 0 l, no_mark (get_or bytes at 0) (get_or bytes (at + 1) 0) p)
+    rw (
+      drop_more bytes at 0 (omega arith),
+      drop_more bytes (at + 1) 0 l,
+      no_mark (get_or bytes at 0)
+          (get_or bytes (at + 1) 0) p,
+    )
     (map_twice (block_len (get_or bytes (at + 1) 0 ∷ drop (at + 1 + 1) bytes)) 1 at (at + 1) (omega arith))
 
 pub block_none : (bytes : List ℕ) (at : ℕ) → length bytes ≤ at + 1 → block_from bytes at ≡ None
 block_none bytes at l = none_at (drop at bytes) (rw (length-drop at bytes) (omega arith)) at
 
 pub block_whole : (bytes : List ℕ) → block_from bytes 0 ≡ block_len bytes
-block_whole bytes = elim (block_len bytes) as (λ o. option_map (λ n. n + 0) o ≡ o) [ None ↦ refl | Some n ↦ ap Some (omega arith) ]
+block_whole bytes = elim (block_len bytes) as
+    (λ o. option_map (λ n. n + 0) o ≡ o) [ None ↦ refl | Some n ↦ ap Some (omega arith) ]
 
 pub ruleset block_steps = (block_end, block_other, block_none, block_whole)
 
-pub line_end : (bytes : List ℕ) (at : ℕ) → at < length bytes → is_line_end (get_or bytes at 0) ≡ true → line_len (drop at bytes) ≡ 0
+pub line_end : (bytes : List ℕ) (at : ℕ) → at < length bytes → is_line_end (get_or bytes at 0) ≡ true
+    → line_len (drop at bytes) ≡ 0
 line_end bytes at l e = rw (drop_more bytes at 0 l, e) refl
 
-pub line_more : (bytes : List ℕ) (at : ℕ) → at < length bytes → is_line_end (get_or bytes at 0) ≡ false → line_len (drop at bytes) ≡ 1 + line_len (drop (at + 1) bytes)
+pub line_more : (bytes : List ℕ) (at : ℕ) → at < length bytes → is_line_end (get_or bytes at 0) ≡ false
+    → line_len (drop at bytes) ≡ 1 + line_len (drop (at + 1) bytes)
 line_more bytes at l e = rw (drop_more bytes at 0 l, e) refl
 
 pub line_none : (bytes : List ℕ) (at : ℕ) → length bytes ≤ at → line_len (drop at bytes) ≡ 0
@@ -95,16 +128,19 @@ pub ruleset line_steps = (line_end, line_more, line_none, line_end_ascii)
 
 -- what stands first, an equation for each kind
 
-pub first_quoted : (text : List ℕ) (n : ℕ) → 0 < length text → get_or text 0 0 ≡ 34 → string_len (drop 1 text) ≡ Some n → first_of text ≡ Ok (quoted (take (1 + n) text))
+pub first_quoted : (text : List ℕ) (n : ℕ) → 0 < length text → get_or text 0 0 ≡ 34
+    → string_len (drop 1 text) ≡ Some n → first_of text ≡ Ok (quoted (take (1 + n) text))
 unfolding first_piece
 first_quoted [] n l q e = absurd (omega arith)
 first_quoted (b ∷ bs) n l q e = let s : 1 + n ≡ suc n = omega arith in rw (q, e, s) refl
 
-pub first_open_string : (text : List ℕ) → get_or text 0 0 ≡ 34 → string_len (drop 1 text) ≡ None → first_of text ≡ Err OpenString
+pub first_open_string : (text : List ℕ) → get_or text 0 0 ≡ 34 → string_len (drop 1 text) ≡ None
+    → first_of text ≡ Err OpenString
 unfolding first_piece
 first_open_string text q e = rw (q, e) refl
 
-pub first_single : (text : List ℕ) → get_or text 0 0 ≢ 34 → get_or text 0 0 ≢ 47 → first_of text ≡ Ok (single (get_or text 0 0))
+pub first_single : (text : List ℕ) → get_or text 0 0 ≢ 34 → get_or text 0 0 ≢ 47
+    → first_of text ≡ Ok (single (get_or text 0 0))
 unfolding first_piece
 first_single text q s = rw (ne_eqb _ _ q, ne_eqb _ _ s) refl
 
@@ -113,19 +149,23 @@ first_single text q s = rw (ne_eqb _ _ q, ne_eqb _ _ s) refl
 two_more : (n : ℕ) → 2 + n ≡ suc (suc n)
 two_more n = omega arith
 
-first_line : (a b n : ℕ) (rest : List ℕ) → a ≡ 47 → b ≡ 47 → line_len rest ≡ n → first_of (a ∷ b ∷ rest) ≡ Ok (comment (take (2 + n) (a ∷ b ∷ rest)))
+first_line : (a b n : ℕ) (rest : List ℕ) → a ≡ 47 → b ≡ 47 → line_len rest ≡ n
+    → first_of (a ∷ b ∷ rest) ≡ Ok (comment (take (2 + n) (a ∷ b ∷ rest)))
 unfolding first_piece
 first_line a b n rest p q e =
     let m : 1 + n ≡ suc n = omega arith in
     rw (two_more n, p, q, e, m) refl
 
-first_block : (a b n : ℕ) (rest : List ℕ) → a ≡ 47 → b ≡ 42 → block_len rest ≡ Some n → first_of (a ∷ b ∷ rest) ≡ Ok (comment (take (2 + n) (a ∷ b ∷ rest)))
+first_block : (a b n : ℕ) (rest : List ℕ) → a ≡ 47 → b ≡ 42 → block_len rest ≡ Some n
+    → first_of (a ∷ b ∷ rest) ≡ Ok (comment (take (2 + n) (a ∷ b ∷ rest)))
 unfolding first_piece
 first_block a b n rest p q e =
     let m : n + 1 ≡ suc n = omega arith in
     rw (two_more n, p, q, e, m) refl
 
-pub line_comment : (text : List ℕ) (n : ℕ) → 2 ≤ length text → get_or text 0 0 ≡ 47 → get_or text 1 0 ≡ 47 → line_len (drop 2 text) ≡ n → n ≤ length (drop 2 text) → (n < length (drop 2 text) → get_or (drop 2 text) n 0 < 128) → OpensComment text (2 + n)
+pub line_comment : (text : List ℕ) (n : ℕ) → 2 ≤ length text → get_or text 0 0 ≡ 47 → get_or text 1 0 ≡ 47
+    → line_len (drop 2 text) ≡ n → n ≤ length (drop 2 text)
+    → (n < length (drop 2 text) → get_or (drop 2 text) n 0 < 128) → OpensComment text (2 + n)
 line_comment [] n l p q e w f = absurd (omega arith)
 line_comment (a ∷ []) n l p q e w f = absurd (omega arith)
 line_comment (a ∷ b ∷ rest) n l p q e w f = record {
@@ -140,7 +180,9 @@ line_comment (a ∷ b ∷ rest) n l p q e w f = record {
   );
 }
 
-pub block_comment : (text : List ℕ) (n : ℕ) → 2 ≤ length text → get_or text 0 0 ≡ 47 → get_or text 1 0 ≡ 42 → block_len (drop 2 text) ≡ Some n → n ≤ length (drop 2 text) → (0 < n) × (get_or (drop 2 text) (n - 1) 0 ≡ 47) → OpensComment text (2 + n)
+pub block_comment : (text : List ℕ) (n : ℕ) → 2 ≤ length text → get_or text 0 0 ≡ 47 → get_or text 1 0 ≡ 42
+    → block_len (drop 2 text) ≡ Some n → n ≤ length (drop 2 text)
+    → (0 < n) × (get_or (drop 2 text) (n - 1) 0 ≡ 47) → OpensComment text (2 + n)
 block_comment [] n l p q e w m = absurd (omega arith)
 block_comment (a ∷ []) n l p q e w m = absurd (omega arith)
 block_comment (a ∷ b ∷ rest) n l p q e w m = record {
@@ -156,14 +198,16 @@ block_comment (a ∷ b ∷ rest) n l p q e w m = record {
   );
 }
 
-pub open_block : (text : List ℕ) → 2 ≤ length text → get_or text 0 0 ≡ 47 → get_or text 1 0 ≡ 42 → block_len (drop 2 text) ≡ None → first_of text ≡ Err OpenComment
+pub open_block : (text : List ℕ) → 2 ≤ length text → get_or text 0 0 ≡ 47 → get_or text 1 0 ≡ 42
+    → block_len (drop 2 text) ≡ None → first_of text ≡ Err OpenComment
 unfolding first_piece
 open_block [] l p q e = absurd (omega arith)
 open_block (a ∷ []) l p q e = absurd (omega arith)
 open_block (a ∷ b ∷ rest) l p q e = rw (p, q, e) refl
 
 -- a slash behind which no mark stands
-pub lone_slash : (text : List ℕ) → get_or text 0 0 ≡ 47 → (2 ≤ length text → get_or text 1 0 ≢ 47) → (2 ≤ length text → get_or text 1 0 ≢ 42) → first_of text ≡ Ok (single 47)
+pub lone_slash : (text : List ℕ) → get_or text 0 0 ≡ 47 → (2 ≤ length text → get_or text 1 0 ≢ 47)
+    → (2 ≤ length text → get_or text 1 0 ≢ 42) → first_of text ≡ Ok (single 47)
 unfolding first_piece
 lone_slash [] p f g = absurd (omega arith)
 lone_slash (a ∷ []) p f g = rw p refl

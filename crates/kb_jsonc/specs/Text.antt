@@ -24,7 +24,8 @@ plain_of before [] = []
 plain_of before (quoted bytes ∷ ps) = bytes ++ plain_of (Some quote) ps
 plain_of before (comment bytes ∷ ps) = map blanked bytes ++ plain_of before ps
 plain_of before (single b ∷ ps) =
-    (if is_trailing before b (next_of ps) then space else b) ∷ plain_of (if is_blank b then before else Some b) ps
+    (if is_trailing before b (next_of ps) then space else b)
+    ∷ plain_of (if is_blank b then before else Some b) ps
 
 unfoldable pub plain_text : List ℕ → Result (List ℕ) JsoncFault
 plain_text text = pieces text >>= λ ps. Ok (plain_of None ps)

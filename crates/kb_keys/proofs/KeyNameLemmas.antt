@@ -1,5 +1,7 @@
 -- Lemmas on the table of names, each by one computation over it.
-use Rattle.std.proofs.Common.{◌≡◌, ℕ, ◌<◌, ◌≤◌, List, [], Bor, Bool, true, false, ◌&&◌, Option, None, Some, zero, suc, refl, sym, ap, ◌∙◌, arith, tests, length, map, get_or, nat_eq, bytes_eq}
+use Rattle.std.proofs.Common.{◌≡◌, ℕ, ◌<◌, ◌≤◌, List, [], Bor, Bool, true, false, ◌&&◌, Option, None, Some}
+use Rattle.std.proofs.Common.{zero, suc, refl, sym, ap, ◌∙◌, arith, tests, length, map, get_or, nat_eq}
+use Rattle.std.proofs.Common.{bytes_eq}
 use Rattle.std.proofs.Math.ListN.{get_or-map}
 use Rattle.std.proofs.lemmas.Slice.Eq.{bytes_eq-Decides}
 use Rattle.std.specs.Prelude.{nat_le}
@@ -33,7 +35,8 @@ is_at-true k (Some n) h =
 
 -- what holds of each name: it is in lower case, isn't long, and is read as its key
 unfoldable is_good : ℕ → Bool
-is_good k = bytes_eq (lowered (name_of k)) (name_of k) && (nat_le (length (name_of k)) longest_name && is_at k (key_named (name_of k)))
+is_good k = bytes_eq (lowered (name_of k)) (name_of k)
+    && (nat_le (length (name_of k)) longest_name && is_at k (key_named (name_of k)))
 
 all_good : all_below 99 is_good ≡ true
 unfolding is_good names key_named
@@ -47,8 +50,11 @@ pub record IsGoodName (k : ℕ) : Type 0 where
 pub name_of-IsGoodName : (k : ℕ) → k < 99 → IsGoodName k
 unfolding is_good
 name_of-IsGoodName k h =
-    let both : (bytes_eq (lowered (name_of k)) (name_of k) ≡ true) × ((nat_le (length (name_of k)) longest_name && is_at k (key_named (name_of k))) ≡ true) = and_both _ _ (all_below-at 99 is_good all_good k h) in
-    let rest : (nat_le (length (name_of k)) longest_name ≡ true) × (is_at k (key_named (name_of k)) ≡ true) = and_both _ _ both.1 in
+    let both : (bytes_eq (lowered (name_of k)) (name_of k) ≡ true)
+    × ((nat_le (length (name_of k)) longest_name && is_at k (key_named (name_of k))) ≡ true) =
+    and_both _ _ (all_below-at 99 is_good all_good k h) in
+    let rest : (nat_le (length (name_of k)) longest_name ≡ true) × (is_at k (key_named (name_of k)) ≡ true) =
+    and_both _ _ both.1 in
     record {
       lower = (bytes_eq-Decides (lowered (name_of k)) (name_of k)).0 both.0;
       short = grind (arith, tests);
@@ -56,6 +62,8 @@ name_of-IsGoodName k h =
     }
 
 -- a read of a table of texts is a read of the texts
-pub name_read : (table : List (Bor (List ℕ))) (i : ℕ) → map (λ name. name.now) table ≡ names → (get_or table i (record { ref_ptr = (0, 0); now = [] })).now ≡ name_of i
+pub name_read : (table : List (Bor (List ℕ))) (i : ℕ) → map (λ name. name.now) table ≡ names
+    → (get_or table i (record { ref_ptr = (0, 0); now = [] })).now ≡ name_of i
 name_read table i same =
-    sym (get_or-map (λ (name : Bor (List ℕ)). name.now) table i (record { ref_ptr = (0, 0); now = [] })) ∙ ap (λ (all : List (List ℕ)). get_or all i []) same
+    sym (get_or-map (λ (name : Bor (List ℕ)). name.now) table i (record { ref_ptr = (0, 0); now = [] }))
+    ∙ ap (λ (all : List (List ℕ)). get_or all i []) same

@@ -1,5 +1,7 @@
--- The canonical spelling of a keystroke is read as that keystroke, by one computation over the table for each set of modifiers.
-use Rattle.std.proofs.Common.{◌≡◌, ℕ, ◌<◌, Bool, true, false, ◌&&◌, Result, Ok, Err, refl, ap, not, List, ◌==◌}
+-- The canonical spelling of a keystroke is read as that keystroke, by one computation over the table for each
+-- set of modifiers.
+use Rattle.std.proofs.Common.{◌≡◌, ℕ, ◌<◌, Bool, true, false, ◌&&◌, Result, Ok, Err, refl, ap, not, List}
+use Rattle.std.proofs.Common.{◌==◌}
 use Rattle.std.specs.List.{list_all}
 use Rattle.kb_keys.specs.declared.key_fault.KeyFault.{KeyFault}
 use Rattle.kb_keys.specs.declared.keystroke.Keystroke.{Keystroke}
@@ -15,7 +17,9 @@ is_read stroke (Ok s) = same_stroke s stroke
 
 is_read-true : (stroke : Keystroke) (r : Result Keystroke KeyFault) → is_read stroke r ≡ true → r ≡ Ok stroke
 is_read-true stroke (Err fault) h = absurd (cc)
-is_read-true stroke (Ok s) h = ap (λ (k : Keystroke). let read : Result Keystroke KeyFault = Ok k in read) ((same_stroke-Decides s stroke).0 h)
+is_read-true stroke (Ok s) h =
+    ap (λ (k : Keystroke). let read : Result Keystroke KeyFault = Ok k in read)
+    ((same_stroke-Decides s stroke).0 h)
 
 -- no byte is a space
 abbrev pub no_space : List ℕ → Bool
@@ -34,16 +38,21 @@ stroke_of mods k = record { mods = mods; key = k }
 
 -- whether a name with these modifiers is canonical
 unfoldable reads_back : Modifiers → ℕ → Bool
-reads_back mods k = is_read (stroke_of mods k) (keystroke_of (spelling (stroke_of mods k))) && no_space (spelling (stroke_of mods k))
+reads_back mods k = is_read (stroke_of mods k) (keystroke_of (spelling (stroke_of mods k)))
+    && no_space (spelling (stroke_of mods k))
 
-from_table : (mods : Modifiers) → all_below 99 (reads_back mods) ≡ true → (k : ℕ) → k < 99 → IsCanonical (stroke_of mods k)
+from_table : (mods : Modifiers) → all_below 99 (reads_back mods) ≡ true → (k : ℕ) → k < 99
+    → IsCanonical (stroke_of mods k)
 unfolding reads_back
 from_table mods all k h =
-    let both : (is_read (stroke_of mods k) (keystroke_of (spelling (stroke_of mods k))) ≡ true) × (no_space (spelling (stroke_of mods k)) ≡ true) = and_both _ _ (all_below-at 99 (reads_back mods) all k h) in
+    let both : (is_read (stroke_of mods k) (keystroke_of (spelling (stroke_of mods k))) ≡ true)
+    × (no_space (spelling (stroke_of mods k)) ≡ true) =
+    and_both _ _ (all_below-at 99 (reads_back mods) all k h) in
     record { read = is_read-true (stroke_of mods k) _ both.0; spaceless = both.1 }
 
 -- each `refl` reads the 99 names with one set of modifiers
-canonical : (ctrl shift alt meta : Bool) (k : ℕ) → k < 99 → IsCanonical (stroke_of (held ctrl shift alt meta) k)
+canonical : (ctrl shift alt meta : Bool) (k : ℕ) → k < 99
+    → IsCanonical (stroke_of (held ctrl shift alt meta) k)
 unfolding reads_back keystroke_of split_of spelling key_named names
 canonical true true true true k h = from_table (held true true true true) refl k h
 canonical true true true false k h = from_table (held true true true false) refl k h

@@ -7,17 +7,34 @@ use Rattle.kb_keys.specs.Modifiers.{no_modifiers, with_modifier}
 
 -- the modifiers of either
 abbrev pub union : Modifiers → Modifiers → Modifiers
-union a b = record { ctrl = a.ctrl || b.ctrl; shift = a.shift || b.shift; alt = a.alt || b.alt; meta = a.meta || b.meta }
+union a b = record {
+  ctrl = a.ctrl || b.ctrl;
+  shift = a.shift || b.shift;
+  alt = a.alt || b.alt;
+  meta = a.meta || b.meta;
+}
 
 or-true : (a b : Bool) → (true || b) ≡ (a || true)
 or-true true b = refl
 or-true false b = refl
 
 pub union-with : (m : Modifier) (a b : Modifiers) → union (with_modifier m a) b ≡ union a (with_modifier m b)
-union-with Ctrl a b = ap (λ (v : Bool). let r : Modifiers = record { ctrl = v; shift = a.shift || b.shift; alt = a.alt || b.alt; meta = a.meta || b.meta } in r) (or-true a.ctrl b.ctrl)
-union-with Shift a b = ap (λ (v : Bool). let r : Modifiers = record { ctrl = a.ctrl || b.ctrl; shift = v; alt = a.alt || b.alt; meta = a.meta || b.meta } in r) (or-true a.shift b.shift)
-union-with Alt a b = ap (λ (v : Bool). let r : Modifiers = record { ctrl = a.ctrl || b.ctrl; shift = a.shift || b.shift; alt = v; meta = a.meta || b.meta } in r) (or-true a.alt b.alt)
-union-with Meta a b = ap (λ (v : Bool). let r : Modifiers = record { ctrl = a.ctrl || b.ctrl; shift = a.shift || b.shift; alt = a.alt || b.alt; meta = v } in r) (or-true a.meta b.meta)
+union-with Ctrl a b = ap
+    (λ (v : Bool). let r : Modifiers =
+    record { ctrl = v; shift = a.shift || b.shift; alt = a.alt || b.alt; meta = a.meta || b.meta } in
+    r) (or-true a.ctrl b.ctrl)
+union-with Shift a b =
+    ap (λ (v : Bool). let r : Modifiers =
+    record { ctrl = a.ctrl || b.ctrl; shift = v; alt = a.alt || b.alt; meta = a.meta || b.meta } in
+    r) (or-true a.shift b.shift)
+union-with Alt a b = ap
+    (λ (v : Bool). let r : Modifiers =
+    record { ctrl = a.ctrl || b.ctrl; shift = a.shift || b.shift; alt = v; meta = a.meta || b.meta } in
+    r) (or-true a.alt b.alt)
+union-with Meta a b = ap
+    (λ (v : Bool). let r : Modifiers =
+    record { ctrl = a.ctrl || b.ctrl; shift = a.shift || b.shift; alt = a.alt || b.alt; meta = v } in
+    r) (or-true a.meta b.meta)
 
 or-false : (a : Bool) → (a || false) ≡ a
 or-false true = refl

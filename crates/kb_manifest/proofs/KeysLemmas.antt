@@ -1,5 +1,6 @@
 -- Keys that are put in a map one by one, in the order of an object's members.
-use Rattle.std.proofs.Common.{◌≡◌, ℕ, List, [], ◌∷◌, map, Bool, true, false, Option, Some, None, option_map, IfSome, Less, cond, is_eq, string_bytes, refl, sym, ap, subst, ◌∙◌, true≢false}
+use Rattle.std.proofs.Common.{◌≡◌, ℕ, List, [], ◌∷◌, map, Bool, true, false, Option, Some, None, option_map}
+use Rattle.std.proofs.Common.{IfSome, Less, cond, is_eq, string_bytes, refl, sym, ap, subst, ◌∙◌, true≢false}
 use Rattle.std.specs.Ordering.{nat_cmp, eq_by_cmp}
 use Rattle.std.specs.Cmp.{eq_by_cmp_equiv}
 use Rattle.std.specs.Cmp.Lexicographic.{slice_cmp}
@@ -49,30 +50,37 @@ one_name a b q differ is_a is_b =
     let laws = eq_by_cmp_equiv nat_list_cmp_total in
     true≢false (sym is_b ∙ laws.congr q a b is_a ∙ differ)
 
-either_order : (keys : Keys) (a b : List ℕ) (x y : ContextValue) → same_name a b ≡ false → insert (insert keys a x) b y ≡ insert (insert keys b y) a x
+either_order : (keys : Keys) (a b : List ℕ) (x y : ContextValue) → same_name a b ≡ false
+    → insert (insert keys a x) b y ≡ insert (insert keys b y) a x
 either_order keys a b x y differ = same_map nat_list_cmp_total exact_bytes _ _ (λ q.
     get-insert nat_list_cmp_total (insert keys a x) b y q
     ∙ ap (cond (same_name q b) (Some y)) (get-insert nat_list_cmp_total keys a x q)
     ∙ in_turn (same_name q a) (same_name q b) x y (get keys q) (one_name a b q differ)
-    ∙ sym (get-insert nat_list_cmp_total (insert keys b y) a x q ∙ ap (cond (same_name q a) (Some x)) (get-insert nat_list_cmp_total keys b y q)))
+    ∙ sym (get-insert nat_list_cmp_total (insert keys b y) a x q
+    ∙ ap (cond (same_name q a) (Some x)) (get-insert nat_list_cmp_total keys b y q)))
 
-put_first : (keys : Keys) (name : List ℕ) (value : ContextValue) (es : List Pair) → AllByRecursion (λ other. same_name name other ≡ false) (map (λ e. e.0) es)
+put_first : (keys : Keys) (name : List ℕ) (value : ContextValue) (es : List Pair)
+    → AllByRecursion (λ other. same_name name other ≡ false) (map (λ e. e.0) es)
     → inserted (insert keys name value) es ≡ insert (inserted keys es) name value
 put_first keys name value [] apart = refl
 put_first keys name value (e ∷ es) apart =
-    ap (λ m. inserted m es) (either_order keys name e.0 value e.1 apart.0) ∙ put_first (insert keys e.0 e.1) name value es apart.1
+    ap (λ m. inserted m es) (either_order keys name e.0 value e.1 apart.0)
+    ∙ put_first (insert keys e.0 e.1) name value es apart.1
 
 in_order : (es : List Pair) → AreApart (map (λ e. e.0) es) → inserted empty es ≡ from_entries es
 in_order [] apart = refl
-in_order (e ∷ es) apart = put_first empty e.0 e.1 es apart.0 ∙ ap (λ m. insert m e.0 e.1) (in_order es apart.1)
+in_order (e ∷ es) apart =
+    put_first empty e.0 e.1 es apart.0 ∙ ap (λ m. insert m e.0 e.1) (in_order es apart.1)
 
 -- ---- the names of an object's members
 
 abbrev names : {X : Type 0} → List (List ℕ × X) → List (List ℕ)
 names = map (λ e. e.0)
 
-name_read : (name : List ℕ) (more : List (List ℕ)) (value : Option ContextValue) (rest : Option (List Pair)) → IfSome rest (λ es. names es ≡ more)
-    → IfSome (option_map (λ v. (name, v)) value >>= λ e. option_map (λ es. e ∷ es) rest) (λ es. names es ≡ name ∷ more)
+name_read : (name : List ℕ) (more : List (List ℕ)) (value : Option ContextValue) (rest : Option (List Pair))
+    → IfSome rest (λ es. names es ≡ more)
+    → IfSome (option_map (λ v. (name, v)) value >>= λ e. option_map (λ es. e ∷ es) rest)
+    (λ es. names es ≡ name ∷ more)
 name_read name more None rest h = tt
 name_read name more (Some v) None h = tt
 name_read name more (Some v) (Some es) h = ap (λ (ns : List (List ℕ)). name ∷ ns) h
@@ -82,28 +90,34 @@ names_read : (ps : List (List ℕ × Data)) → IfSome (each key_of ps) (λ es. 
 names_read [] = refl
 names_read (p ∷ ps) = name_read p.0 (names ps) (value_of p.1) (each key_of ps) (names_read ps)
 
-all_apart : (name : List ℕ) (es : List Entry) → AllByRecursion (λ k. slice_cmp nat_cmp name (string_bytes k) ≡ Less) (entry_keys es)
+all_apart : (name : List ℕ) (es : List Entry)
+    → AllByRecursion (λ k. slice_cmp nat_cmp name (string_bytes k) ≡ Less) (entry_keys es)
     → AllByRecursion (λ other. same_name name other ≡ false) (names (pairs_of (members_view es)))
 all_apart name [] below = tt
 all_apart name (e ∷ es) below = (ap is_eq below.0, all_apart name es below.1)
 
-members_apart : (es : List Entry) → IsStrictlySortedBy string_cmp (entry_keys es) → AreApart (names (pairs_of (members_view es)))
+members_apart : (es : List Entry) → IsStrictlySortedBy string_cmp (entry_keys es)
+    → AreApart (names (pairs_of (members_view es)))
 unfolding IsStrictlySortedBy
 members_apart [] ordered = tt
 members_apart (e ∷ es) ordered = (all_apart (string_bytes e.0) es ordered.0, members_apart es ordered.1)
 
-whole : (o : Option (List Pair)) (ns : List (List ℕ)) → AreApart ns → IfSome o (λ es. names es ≡ ns) → option_map (inserted empty) o ≡ option_map from_entries o
+whole : (o : Option (List Pair)) (ns : List (List ℕ)) → AreApart ns → IfSome o (λ es. names es ≡ ns)
+    → option_map (inserted empty) o ≡ option_map from_entries o
 whole None ns apart same = refl
 whole (Some es) ns apart same = ap Some (in_order es (subst AreApart (sym same) apart))
 
 -- the keys of an object, put in a map in the order of its members
 pub keys_in_order : (es : List Entry) → IsStrictlySortedBy string_cmp (entry_keys es)
-    → option_map (inserted empty) (each key_of (pairs_of (members_view es))) ≡ option_map from_entries (each key_of (pairs_of (members_view es)))
+    → option_map (inserted empty) (each key_of (pairs_of (members_view es)))
+    ≡ option_map from_entries (each key_of (pairs_of (members_view es)))
 keys_in_order es ordered =
     let ps = pairs_of (members_view es) in
     whole (each key_of ps) (names ps) (members_apart es ordered) (names_read ps)
 
 -- one more key, and then those that are left
-pub key_put : (keys : Keys) (e : Pair) (rest : Option (List Pair)) → option_map (inserted keys) (option_map (λ es. e ∷ es) rest) ≡ option_map (inserted (insert keys e.0 e.1)) rest
+pub key_put : (keys : Keys) (e : Pair) (rest : Option (List Pair))
+    → option_map (inserted keys) (option_map (λ es. e ∷ es) rest)
+    ≡ option_map (inserted (insert keys e.0 e.1)) rest
 key_put keys e None = refl
 key_put keys e (Some es) = refl

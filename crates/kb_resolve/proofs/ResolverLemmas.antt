@@ -46,15 +46,27 @@ last_step : (pressed : List Keystroke) (keys : Keys) (rule : Rule) (below : List
     (b : Bool) → MatchOption later (IsUnmatched pressed keys below) (IsLastMatch pressed keys below)
     → matches keys pressed rule ≡ b
     → MatchOption (option_or later (if b then Some rule else None))
-        (IsUnmatched pressed keys (rule ∷ below)) (IsLastMatch pressed keys (rule ∷ below))
+    (IsUnmatched pressed keys (rule ∷ below)) (IsLastMatch pressed keys (rule ∷ below))
 last_step pressed keys rule below (Some last) b h e =
-    record { above =
-        rule ∷ h.above; below =
-        h.below; whole =
-        ap (λ (l : List Rule). rule ∷ l) h.whole; matching = h.matching; rest_fails = h.rest_fails }
+    record {
+      above =
+          rule ∷ h.above;
+      below =
+          h.below;
+      whole =
+          ap (λ (l : List Rule). rule ∷ l) h.whole;
+      matching = h.matching;
+      rest_fails = h.rest_fails;
+    }
 last_step pressed keys rule below None true h e =
-    record { above =
-    []; below = below; whole = refl; matching = matching pressed keys rule e; rest_fails = h }
+    record {
+      above =
+          [];
+      below = below;
+      whole = refl;
+      matching = matching pressed keys rule e;
+      rest_fails = h;
+    }
 last_step pressed keys rule below None false h e =
     All-cons (λ (r : Rule). ¬ Matches pressed keys r) rule below (failing pressed keys rule e) h
 
@@ -99,7 +111,7 @@ behind rule later other false = refl
 
 last_where-push : {X : Type 0} (p : Rule → Bool) (value : X → Rule) (above : List X) (lowest : X)
     → last_where p (map value (above ++ lowest ∷ []))
-        ≡ (if p (value lowest) then Some (value lowest) else last_where p (map value above))
+    ≡ (if p (value lowest) then Some (value lowest) else last_where p (map value above))
 last_where-push p value [] lowest = refl
 last_where-push p value (x ∷ above) lowest =
     let other : Option Rule = if p (value x) then Some (value x) else None in

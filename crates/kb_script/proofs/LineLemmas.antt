@@ -1,5 +1,6 @@
 -- Bytes that are a text, and the first line of bytes.
-use Rattle.std.proofs.Common.{◌≡◌, ℕ, Bool, true, false, List, [], ◌∷◌, length, refl, sym, ap, ◌∙◌, cond, arith, take, drop, ◌+◌, ◌-◌, subst}
+use Rattle.std.proofs.Common.{◌≡◌, ℕ, Bool, true, false, List, [], ◌∷◌, length, refl, sym, ap, ◌∙◌, cond}
+use Rattle.std.proofs.Common.{arith, take, drop, ◌+◌, ◌-◌, subst}
 use Rattle.std.specs.Prelude.{Some, None, position}
 use Rattle.std.specs.List.{slice_split, onto_first}
 use Rattle.std.specs.Str.{IsUtf8, is_utf8}
@@ -39,7 +40,8 @@ onto_first-HasFirst : (x : ℕ) (parts : List (List ℕ)) → HasFirst (onto_fir
 onto_first-HasFirst x [] = record { first = x ∷ []; more = []; is = refl }
 onto_first-HasFirst x (part ∷ parts) = record { first = x ∷ part; more = parts; is = refl }
 
-either-HasFirst : (b : Bool) (x : ℕ) (parts : List (List ℕ)) → HasFirst (cond b ([] ∷ parts) (onto_first x parts))
+either-HasFirst : (b : Bool) (x : ℕ) (parts : List (List ℕ))
+    → HasFirst (cond b ([] ∷ parts) (onto_first x parts))
 either-HasFirst true x parts = record { first = []; more = parts; is = refl }
 either-HasFirst false x parts = onto_first-HasFirst x parts
 
@@ -47,9 +49,11 @@ split-HasFirst : (bs : List ℕ) → HasFirst (slice_split is_line_feed bs)
 split-HasFirst [] = record { first = []; more = []; is = refl }
 split-HasFirst (b ∷ bs) = either-HasFirst (is_line_feed b) b (slice_split is_line_feed bs)
 
-without_returns-cons : (line : List ℕ) (parts : List (List ℕ)) → HasFirst parts → without_returns (line ∷ parts) ≡ without_return line ∷ without_returns parts
+without_returns-cons : (line : List ℕ) (parts : List (List ℕ)) → HasFirst parts
+    → without_returns (line ∷ parts) ≡ without_return line ∷ without_returns parts
 without_returns-cons line parts h =
-    ap (λ (ps : List (List ℕ)). without_returns (line ∷ ps)) h.is ∙ ap (λ (ps : List (List ℕ)). without_return line ∷ without_returns ps) (sym h.is)
+    ap (λ (ps : List (List ℕ)). without_returns (line ∷ ps)) h.is
+    ∙ ap (λ (ps : List (List ℕ)). without_return line ∷ without_returns ps) (sym h.is)
 
 -- the first line of a script, and its only one
 pub first_line : (bs : List ℕ) (i : ℕ) → position is_line_feed bs ≡ Some i
@@ -57,12 +61,16 @@ pub first_line : (bs : List ℕ) (i : ℕ) → position is_line_feed bs ≡ Some
 first_line bs i e =
     let c = position_cases _ _ _ e in
     let below = ltb-true _ _ c.0 in
-    let same : take (length bs - (i + 1)) (drop (i + 1) bs) ≡ drop (i + 1) bs = take_all _ _ (simp length-drop (omega arith)) in
+    let same : take (length bs - (i + 1)) (drop (i + 1) bs) ≡ drop (i + 1) bs =
+    take_all _ _ (simp length-drop (omega arith)) in
     let parts : slice_split is_line_feed bs ≡ take i bs ∷ slice_split is_line_feed (drop (i + 1) bs) =
-    subst (λ n. slice_split is_line_feed bs ≡ take n bs ∷ slice_split is_line_feed (drop (n + 1) bs)) c.1 (slice_split_first is_line_feed bs 0 below) in
+    subst (λ n. slice_split is_line_feed bs ≡ take n bs ∷ slice_split is_line_feed (drop (n + 1) bs)) c.1
+    (slice_split_first is_line_feed bs 0 below) in
     rw same (ap without_returns parts ∙ without_returns-cons (take i bs) _ (split-HasFirst (drop (i + 1) bs)))
 
 pub only_line : (bs : List ℕ) → position is_line_feed bs ≡ None → lines_of bs ≡ bs ∷ []
 only_line bs e =
     let past = ltb-false _ _ (position_none _ _ e) in
-    ap without_returns (slice_split_none is_line_feed bs (All-from_get_or (λ b. is_line_feed b ≡ false) bs 0 (λ i h. fails_before_first is_line_feed bs i 0 (omega arith))))
+    ap without_returns (slice_split_none is_line_feed bs
+    (All-from_get_or (λ b. is_line_feed b ≡ false) bs 0
+    (λ i h. fails_before_first is_line_feed bs i 0 (omega arith))))

@@ -70,7 +70,8 @@ up_to_step told old now new a b c number lines more line p e q running =
       running = running;
     }
 
-pub up_to_end : (told : List Told) (old now : Traced State) (a b : Option (List ℕ)) → RunsUpTo told old now a b []
+pub up_to_end : (told : List Told) (old now : Traced State) (a b : Option (List ℕ))
+    → RunsUpTo told old now a b []
     → RunsAndWrites next told old now a b
 up_to_end told old now a b p =
     subst (λ (xs : List Told). RunsAndWrites next xs old now a b) (sym (p.whole ∙ append-nil p.done)) p.ran
@@ -78,7 +79,8 @@ up_to_end told old now a b p =
 pub up_to_fail : (told : List Told) (old now new : Traced State) (a b c : Option (List ℕ)) (number : ℕ)
     (lines more : List (List ℕ)) (line : List ℕ) (failure : Failure WriteRefused)
     → RunsUpTo told old now a b (told_from number lines) → lines ≡ line ∷ more
-    → BreaksOff failure (option_to_list (line_told number line)) now new b c → BreaksOff failure told old new a c
+    → BreaksOff failure (option_to_list (line_told number line)) now new b c
+    → BreaksOff failure told old new a c
 up_to_fail told old now new a b c number lines more line failure p e q =
     let here = option_to_list (line_told number line) in
     let after = told_from (number + 1) more in
@@ -156,7 +158,8 @@ next_runs told s running =
 pub runs_on : (told : Option Told) (old new : Traced State) → new ≡ after_all next (option_to_list told) old
     → old.state.stopped ≡ false → new.state.stopped ≡ false
 runs_on None old new session running = ap (λ s. s.state.stopped) session ∙ running
-runs_on (Some told) old new session running = ap (λ s. s.state.stopped) session ∙ next_runs told old.state running
+runs_on (Some told) old new session running =
+    ap (λ s. s.state.stopped) session ∙ next_runs told old.state running
 
 -- what a session that was running is where memory was refused
 pub halted : (old new : Traced State) → new ≡ halt old → Halts old.state new.state
@@ -167,7 +170,8 @@ halts_at : (told : Told) (old new : Traced State) → HaltsAt told old new
     → Halts old.state new.state × (new.trace ≡ old.trace)
 halts_at (happens (event.Key key)) old new halts = halts
 halts_at (happens (event.Focus name)) old new halts = (halted old new halts, ap (λ s. s.trace) halts)
-halts_at (happens (event.SetKey name key value)) old new halts = (halted old new halts, ap (λ s. s.trace) halts)
+halts_at (happens (event.SetKey name key value)) old new halts =
+    (halted old new halts, ap (λ s. s.trace) halts)
 halts_at (happens (event.UnsetKey name key)) old new halts = (halted old new halts, ap (λ s. s.trace) halts)
 halts_at (happens (event.Unread number)) old new halts = (halted old new halts, ap (λ s. s.trace) halts)
 halts_at (reload bytes) old new halts = (halted old new halts, ap (λ s. s.trace) halts)
@@ -202,7 +206,8 @@ refuse_now had old new a is = by had
 
     stays : old.state.stopped ≡ true → NothingRan old new a a
     stays stopped = record {
-      session = is ∙ ap (λ b. record { state = record old.state { stopped = b }; trace = old.trace }) (sym stopped);
+      session = is ∙ ap (λ b. record { state = record old.state { stopped = b }; trace = old.trace })
+          (sym stopped);
       written = keeps_same a;
     }
 

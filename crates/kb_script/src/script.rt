@@ -218,7 +218,9 @@ fn read_assignment(
 
 /// The value that was read. A text that is no context value gives none, and a read that was refused
 /// memory gives that. It takes no memory.
-fn value_read(read: Result<ContextValue, Failure<Refusal>>) -> Result<Option<ContextValue>, NoMemory>
+fn value_read(
+    read: Result<ContextValue, Failure<Refusal>>,
+) -> Result<Option<ContextValue>, NoMemory>
     ensures { TakesAs read result }
 {
     match read {

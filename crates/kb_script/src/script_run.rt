@@ -44,7 +44,9 @@ pub fn run_script<R: Read, W: Write>(
     let script = match read_within(alloc, reader, SCRIPT_LIMIT) {
         Ok(script) => script,
         Err(Failure::Fault(ReadFault::TooLong)) => return Err(Failure::Fault(ScriptFault::TooLong)),
-        Err(Failure::Fault(ReadFault::Failed)) => return Err(Failure::Fault(ScriptFault::ReadFailed)),
+        Err(Failure::Fault(ReadFault::Failed)) => return Err(Failure::Fault(
+            ScriptFault::ReadFailed,
+        )),
         Err(Failure::NoMemory) => {
             session.stop();
             return Err(Failure::NoMemory);
@@ -120,12 +122,7 @@ fn run_line<W: Write>(
 /// Has the session do what a line tells, if it tells something. Where memory is refused, also to reading
 /// the line, the session is stopped.
 #[tactic(auto, using(crate::proofs::ScriptRuns::halting))]
-fn obey(
-    alloc: Global,
-    number: u64,
-    line: &[u8],
-    session: &mut Session,
-) -> Result<(), NoMemory>
+fn obey(alloc: Global, number: u64, line: &[u8], session: &mut Session) -> Result<(), NoMemory>
     requires { session.old.state.stopped ≡ false }
     ensures ok { OnOk result (session.new
         ≡ after_all next (option_to_list (script.line_told number line.now)) session.old) }

@@ -42,7 +42,7 @@ ends_of-push s [] line =
 ends_of-push s (l ∷ ls) line =
     let t = s + length l + 1 in
     let e : t + length (text_of_lines (ls ++ line ∷ [])) ≡ s + length
-        ((l ++ 10 ∷ []) ++ text_of_lines (ls ++ line ∷ [])) =
+    ((l ++ 10 ∷ []) ++ text_of_lines (ls ++ line ∷ [])) =
     simp length-append (omega arith) in
     ap (λ (es : List ℕ). t ∷ es) (ends_of-push t ls line ∙ ap (λ (n : ℕ). ends_of t ls ++ n ∷ []) e)
 
@@ -64,7 +64,7 @@ ends_of-start s (suc n) [] h = absurd (omega arith)
 ends_of-start s (suc n) (l ∷ ls) h =
     let t = s + length l + 1 in
     let e : t + length (text_of_lines (take n ls)) ≡ s + length
-        ((l ++ 10 ∷ []) ++ text_of_lines (take n ls)) =
+    ((l ++ 10 ∷ []) ++ text_of_lines (take n ls)) =
     simp length-append (omega arith) in
     ends_of-start t n ls (omega arith) ∙ e
 

@@ -18,7 +18,8 @@ pub is_read : (text : List ℕ) (t : Clause) → StandsFor text t → clause_in 
 unfolding clause_in
 is_read text t s = ap all s.read ∙ read_clause s.tokens t s.stands
 
-stands_by : (text : List ℕ) (t : Clause) (o : Option (List Token)) → tokens_of text ≡ o → all o ≡ Ok t → StandsFor text t
+stands_by : (text : List ℕ) (t : Clause) (o : Option (List Token)) → tokens_of text ≡ o → all o ≡ Ok t
+    → StandsFor text t
 stands_by text t (Some ts) e h = record { tokens = ts; read = e; stands = found_clause ts t h }
 stands_by text t None e h = absurd (no_ok h)
 
@@ -32,7 +33,8 @@ by_grammar text t = (is_read text t, stands text t)
 pub only : (text : List ℕ) (t u : Clause) → clause_in text ≡ Ok t → StandsFor text u → u ≡ t
 only text t u h s = let p = is_read text u s in cc
 
-pub reads : (text : List ℕ) (ts : List Token) (t : Clause) → tokens_or_fault text ≡ Ok ts → clause_of_tokens ts ≡ Ok t
+pub reads : (text : List ℕ) (ts : List Token) (t : Clause) → tokens_or_fault text ≡ Ok ts
+    → clause_of_tokens ts ≡ Ok t
     → clause_in text ≡ Ok t
 unfolding clause_in
 reads text ts t e h = ap (λ (r : Result (List Token) WhenFault). r >>= clause_of_tokens) e ∙ h

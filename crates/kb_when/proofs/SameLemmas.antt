@@ -1,5 +1,6 @@
 -- The test says exactly whether two clauses are the same.
-use Rattle.std.proofs.Common.{◌≡◌, ℕ, suc, List, [], ◌∷◌, length, Bool, true, false, ◌&&◌, refl, ap, sym, ◌∙◌, Decides, subst}
+use Rattle.std.proofs.Common.{◌≡◌, ℕ, suc, List, [], ◌∷◌, length, Bool, true, false, ◌&&◌, refl, ap, sym, ◌∙◌}
+use Rattle.std.proofs.Common.{Decides, subst}
 use Rattle.std.specs.Prelude.{ℤ}
 use Rattle.std.specs.Str.{bytes_eq}
 use Rattle.std.specs.Ordering.{int_eq}
@@ -9,7 +10,8 @@ use Rattle.std.proofs.lemmas.Slice.Eq.{bytes_eq-Decides}
 use Rattle.kb_when.specs.declared.operator.Operator.{Operator}
 use Rattle.kb_when.specs.declared.operator.Operator.TheVariants.{Below, AtMost, Above, AtLeast}
 use Rattle.kb_when.specs.Operator.{operator_eq}
-use Rattle.kb_when.specs.Clause.{Clause, always, never, key, equals, compare, member, not_of, all_of, any_of, Clauses, no_clauses, clause}
+use Rattle.kb_when.specs.Clause.{Clause, always, never, key, equals, compare, member, not_of, all_of, any_of}
+use Rattle.kb_when.specs.Clause.{Clauses, no_clauses, clause}
 use Rattle.kb_when.specs.Tree.{clauses_of}
 use Rattle.kb_when.specs.Same.{same, same_all, is_always, is_never, is_key, is_equals, is_compare, is_member}
 
@@ -113,7 +115,8 @@ pub same-Decides : (t u : Clause) → Decides (same t u) (t ≡ u)
 same-Decides t u = (of_same t u, λ e. subst (λ x. same t x ≡ true) e (same_self t))
 
 -- an answer of the test, at equal clauses
-pub same-exact : (b : Bool) (t u v w : Clause) → b ≡ same t u → t ≡ v → u ≡ w → (b ≡ true → v ≡ w) × (v ≡ w → b ≡ true)
+pub same-exact : (b : Bool) (t u v w : Clause) → b ≡ same t u → t ≡ v → u ≡ w
+    → (b ≡ true → v ≡ w) × (v ≡ w → b ≡ true)
 same-exact b t u v w e p q =
     (λ h. sym p ∙ of_same t u (sym e ∙ h) ∙ q, λ h. e ∙ (same-Decides t u).1 (p ∙ h ∙ sym q))
 
@@ -122,7 +125,8 @@ and_false true = refl
 and_false false = refl
 
 -- lists of different lengths aren't the same
-pub same_all-lengths : (ts us : List Clause) → (length ts ≡ length us → ⊥) → false ≡ same_all (clauses_of ts) (clauses_of us)
+pub same_all-lengths : (ts us : List Clause) → (length ts ≡ length us → ⊥)
+    → false ≡ same_all (clauses_of ts) (clauses_of us)
 same_all-lengths [] [] h = absurd (h refl)
 same_all-lengths [] (u ∷ us) h = refl
 same_all-lengths (t ∷ ts) [] h = refl

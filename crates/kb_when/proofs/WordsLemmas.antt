@@ -11,7 +11,9 @@ pub of_bytes : (a b : List ℕ) → bytes_eq a b ≡ true → a ≡ b
 of_bytes a b h = (bytes_eq-Decides a b).0 h
 
 -- a key is none of the reserved words
-pub none_of : (w : List ℕ) → is_reserved w ≡ false → (bytes_eq the_true w ≡ false) × (bytes_eq the_false w ≡ false) × (bytes_eq the_in w ≡ false) × (bytes_eq the_not w ≡ false)
+pub none_of : (w : List ℕ) → is_reserved w ≡ false
+    → (bytes_eq the_true w ≡ false) × (bytes_eq the_false w ≡ false) × (bytes_eq the_in w ≡ false)
+    × (bytes_eq the_not w ≡ false)
 none_of w h = by (bytes_eq the_true w) (bytes_eq the_false w) (bytes_eq the_in w) (bytes_eq the_not w) h where
   by : (a b c d : Bool) → (a || b) || (c || d) ≡ false → (a ≡ false) × (b ≡ false) × (c ≡ false) × (d ≡ false)
   by false false false false h = (refl, refl, refl, refl)

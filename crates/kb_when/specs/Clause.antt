@@ -3,7 +3,8 @@ use Rattle.std.specs.Prelude.{ℕ, ℤ, List}
 use Rattle.kb_when.specs.declared.operator.Operator.{Operator}
 
 mutual
-  -- the clauses `true` and `false`; an atom over a key, whose name and text stand as bytes; and what is made of
+  -- the clauses `true` and `false`; an atom over a key, whose name and text stand as bytes; and what is made
+  -- of
   -- other clauses. Those that are joined by `&&` or `||` stand in the order of the text, two or more.
   pub data Clause : Type 0 where
     always : Clause

@@ -5,7 +5,8 @@ use Rattle.std.specs.Coded.{Coded}
 use base.Stored.{Gv, gnil, gnum, gcons, num}
 use Rattle.kb_when.specs.declared.operator.Operator.{Operator}
 use Rattle.kb_when.specs.declared.operator.Operator.TheVariants.{Below, AtMost, Above, AtLeast}
-use Rattle.kb_when.specs.Clause.{Clause, always, never, key, equals, compare, member, not_of, all_of, any_of, Clauses, no_clauses, clause}
+use Rattle.kb_when.specs.Clause.{Clause, always, never, key, equals, compare, member, not_of, all_of, any_of}
+use Rattle.kb_when.specs.Clause.{Clauses, no_clauses, clause}
 
 abbrev head : Gv → Gv
 head gnil = gnil
@@ -84,7 +85,8 @@ by_tag zero g r = always
 by_tag (suc zero) g r = never
 by_tag (suc (suc zero)) g r = key (to_text g)
 by_tag (suc (suc (suc zero))) g r = equals (to_text (head g)) (to_text (tail g))
-by_tag (suc (suc (suc (suc zero)))) g r = compare (to_text (head g)) (to_op (num (head (tail g)))) (to_z (tail (tail g)))
+by_tag (suc (suc (suc (suc zero)))) g r =
+    compare (to_text (head g)) (to_op (num (head (tail g)))) (to_z (tail (tail g)))
 by_tag (suc (suc (suc (suc (suc zero))))) g r = member (to_text (head g)) (to_text (tail g))
 by_tag (suc (suc (suc (suc (suc (suc zero)))))) g r = not_of r.0
 by_tag (suc (suc (suc (suc (suc (suc (suc zero))))))) g r = all_of r.1

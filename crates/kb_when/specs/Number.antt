@@ -1,5 +1,6 @@
 -- The number that a text spells.
-use Rattle.std.specs.Prelude.{ℕ, suc, ℤ, pos, neg_ℤ, List, [], ◌∷◌, ◌+◌, ◌*◌, ◌-◌, ◌^◌, Bool, ◌&&◌, if◌then◌else◌, nat_eq, nat_lt, Option, Some, None, length}
+use Rattle.std.specs.Prelude.{ℕ, suc, ℤ, pos, neg_ℤ, List, [], ◌∷◌, ◌+◌, ◌*◌, ◌-◌, ◌^◌, Bool, ◌&&◌}
+use Rattle.std.specs.Prelude.{if◌then◌else◌, nat_eq, nat_lt, Option, Some, None, length}
 use Rattle.std.specs.Str.{all_ascii_digits}
 
 -- the value of digits, behind those that have the value so far
@@ -9,7 +10,8 @@ read_on value (c ∷ cs) = read_on (10 * value + (c - 48)) cs
 
 -- digits, at least one, of a number below the bound
 abbrev pub is_below : ℕ → List ℕ → Bool
-is_below bound digits = all_ascii_digits digits && (nat_lt 0 (length digits) && nat_lt (read_on 0 digits) bound)
+is_below bound digits =
+    all_ascii_digits digits && (nat_lt 0 (length digits) && nat_lt (read_on 0 digits) bound)
 
 abbrev pub some_if : Bool → ℤ → Option ℤ
 some_if b z = if b then Some z else None

@@ -11,9 +11,11 @@ use Rattle.kb_when.specs.declared.fault.WhenFault.{WhenFault}
 use Rattle.kb_when.specs.declared.fault.WhenFault.TheVariants.{Unexpected}
 use Rattle.kb_context.specs.declared.failure.Failure.{Failure}
 use Rattle.kb_context.specs.Failure.{Fails}
-use Rattle.kb_when.specs.Clause.{Clause, always, never, key, equals, compare, member, not_of, Clauses, no_clauses}
+use Rattle.kb_when.specs.Clause.{Clause, always, never, key, equals, compare, member, not_of, Clauses}
+use Rattle.kb_when.specs.Clause.{no_clauses}
 use Rattle.kb_when.specs.Grammar.{any_joined, all_joined}
-use Rattle.kb_when.specs.Reading.{State, at_operand, behind_operand, Opened, bang, paren, Built, append, snoc, operand, read_from}
+use Rattle.kb_when.specs.Reading.{State, at_operand, behind_operand, Opened, bang, paren, Built, append, snoc}
+use Rattle.kb_when.specs.Reading.{operand, read_from}
 
 -- ---- atoms
 
@@ -52,7 +54,8 @@ behind_close _ = Err Unexpected
 
 -- one operand, where so many "(" and "!" are open
 pub record ReadsOperand (depth : ℕ) (ts : List Token) (t : Clause) (rest : List Token) : Type 0 where
-  pub goes_on : (b : Built) → length b.opened ≡ depth → read_from at_operand b ts ≡ read_from behind_operand (operand b t) rest
+  pub goes_on : (b : Built) → length b.opened ≡ depth
+      → read_from at_operand b ts ≡ read_from behind_operand (operand b t) rest
   pub shorter : length rest < length ts
 
 -- no "!" waits
@@ -75,7 +78,8 @@ NoOr (_ ∷ ts) = Unit {0}
 pub record ReadsConjunction (depth : ℕ) (ts : List Token) (t : Clause) (rest : List Token) : Type 0 where
   pub members : Clauses
   pub joined : t ≡ all_joined members
-  pub goes_on : (b : Built) → length b.opened ≡ depth → IsBare b.opened → read_from at_operand b ts ≡ read_from behind_operand (record b { ands = append b.ands members }) rest
+  pub goes_on : (b : Built) → length b.opened ≡ depth → IsBare b.opened
+      → read_from at_operand b ts ≡ read_from behind_operand (record b { ands = append b.ands members }) rest
   pub shorter : length rest < length ts
   pub no_and : NoAnd rest
 
@@ -84,14 +88,17 @@ pub record ReadsDisjunction (depth : ℕ) (ts : List Token) (t : Clause) (rest :
   pub before : Clauses
   pub last : Clauses
   pub joined : t ≡ any_joined (snoc before (all_joined last))
-  pub goes_on : (os : Clauses) (st : List Opened) → length st ≡ depth → IsBare st → read_from at_operand (record { ors = os; ands = no_clauses; opened = st }) ts ≡ read_from behind_operand (record { ors = append os before; ands = last; opened = st }) rest
+  pub goes_on : (os : Clauses) (st : List Opened) → length st ≡ depth → IsBare st
+      → read_from at_operand (record { ors = os; ands = no_clauses; opened = st }) ts
+      ≡ read_from behind_operand (record { ors = append os before; ands = last; opened = st }) rest
   pub shorter : length rest < length ts
   pub no_and : NoAnd rest
   pub no_or : NoOr rest
 
 -- wherever so many are open, the reading fails so
 abbrev pub FailsOperand : ℕ → List Token → Failure WhenFault → Type 0
-FailsOperand depth ts failure = (b : Built) → length b.opened ≡ depth → Fails failure (read_from at_operand b ts)
+FailsOperand depth ts failure = (b : Built) → length b.opened ≡ depth
+    → Fails failure (read_from at_operand b ts)
 
 -- the same, where no "!" waits
 abbrev pub FailsConjunction : ℕ → List Token → Failure WhenFault → Type 0

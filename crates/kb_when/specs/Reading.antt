@@ -1,18 +1,23 @@
--- The one reading of tokens: a machine over them from left to right, which builds the clause or stops at the first fault. It
+-- The one reading of tokens: a machine over them from left to right, which builds the clause or stops at the
+-- first fault. It
 -- is our decision.
-use Rattle.std.specs.Prelude.{ℕ, ℤ, List, [], ◌∷◌, Bool, true, false, Option, Some, None, Result, Ok, Err, length, nat_lt, if◌then◌else◌}
+use Rattle.std.specs.Prelude.{ℕ, ℤ, List, [], ◌∷◌, Bool, true, false, Option, Some, None, Result, Ok, Err}
+use Rattle.std.specs.Prelude.{length, nat_lt, if◌then◌else◌}
 use Rattle.std.specs.Str.{bytes_eq}
 use Rattle.kb_when.specs.declared.operator.Operator.{Operator}
 use Rattle.kb_when.specs.declared.token.Token.{Token}
-use Rattle.kb_when.specs.declared.token.Token.TheVariants.{Or, And, Not, Open, Close, Equal, Unequal, Comparison, Word, Quoted}
+use Rattle.kb_when.specs.declared.token.Token.TheVariants.{Or, And, Not, Open, Close, Equal, Unequal}
+use Rattle.kb_when.specs.declared.token.Token.TheVariants.{Comparison, Word, Quoted}
 use Rattle.kb_when.specs.declared.fault.WhenFault.{WhenFault}
 use Rattle.kb_when.specs.declared.fault.WhenFault.TheVariants.{Unexpected, TooDeep, BadNumber}
 use Rattle.kb_when.specs.Number.{number_of}
-use Rattle.kb_when.specs.Clause.{Clause, always, never, key, equals, compare, member, not_of, Clauses, no_clauses, clause}
+use Rattle.kb_when.specs.Clause.{Clause, always, never, key, equals, compare, member, not_of, Clauses}
+use Rattle.kb_when.specs.Clause.{no_clauses, clause}
 use Rattle.kb_when.specs.Words.{the_true, the_false, the_in, the_not, is_reserved, is_equal, is_unequal}
 use Rattle.kb_when.specs.Grammar.{any_joined, all_joined}
 
--- where the reading stands: before an operand, or behind one; behind a key, or behind a key and "not"; before the value of
+-- where the reading stands: before an operand, or behind one; behind a key, or behind a key and "not"; before
+-- the value of
 -- "==" (true) or "!=", before the other key of "in" (true) or "not in"; before a number
 pub data State : Type 0 where
   at_operand behind_operand : State

@@ -1,16 +1,19 @@
 -- The tokens of a text. The rules are our decision.
-use Rattle.std.specs.Prelude.{◌≡◌, ℕ, zero, suc, ◌<◌, List, [], ◌∷◌, Bool, true, false, if◌then◌else◌, nat_eq, not, ◌&&◌, ◌||◌, Option, Some, None, Result, option_map, codes, length, chars}
+use Rattle.std.specs.Prelude.{◌≡◌, ℕ, zero, suc, ◌<◌, List, [], ◌∷◌, Bool, true, false, if◌then◌else◌, nat_eq}
+use Rattle.std.specs.Prelude.{not, ◌&&◌, ◌||◌, Option, Some, None, Result, option_map, codes, length, chars}
 use Rattle.kb_when.specs.declared.operator.Operator.TheVariants.{Below, AtMost, Above, AtLeast}
 use Rattle.kb_when.specs.declared.fault.WhenFault.{WhenFault}
 use Rattle.kb_when.specs.declared.fault.WhenFault.TheVariants.{BadToken}
 use Rattle.kb_when.specs.declared.token.Token.{Token}
-use Rattle.kb_when.specs.declared.token.Token.TheVariants.{Or, And, Not, Open, Close, Equal, Unequal, Comparison, Like, Word, Quoted, Pattern}
+use Rattle.kb_when.specs.declared.token.Token.TheVariants.{Or, And, Not, Open, Close, Equal, Unequal}
+use Rattle.kb_when.specs.declared.token.Token.TheVariants.{Comparison, Like, Word, Quoted, Pattern}
 use Rattle.kb_context.specs.Reading.{or_fault}
 use Rattle.kb_when.specs.declared.piece.Sign.{Sign}
 use Rattle.kb_when.specs.declared.piece.Sign.TheVariants as sign
 use Rattle.kb_when.specs.declared.piece.Piece.{Piece}
 use Rattle.kb_when.specs.declared.piece.Piece.TheVariants as piece
-use Rattle.kb_when.specs.Characters.{begins_blank, ends_word, is_quote, is_no_letter, front, behind, skipped, bytes_of, behind_sign}
+use Rattle.kb_when.specs.Characters.{begins_blank, ends_word, is_quote, is_no_letter, front, behind, skipped}
+use Rattle.kb_when.specs.Characters.{bytes_of, behind_sign}
 
 -- a token and the characters that follow it, if there is one
 abbrev pub Read : Type 0
@@ -40,7 +43,8 @@ comparisons =
 -- the other signs, a longer one before a shorter one
 abbrev pub signs : List (List ℕ × Token)
 signs =
-    (codes "===", Equal) ∷ (codes "!==", Unequal) ∷ (codes "==", Equal) ∷ (codes "!=", Unequal) ∷ (codes "=~", Like)
+    (codes "===", Equal) ∷ (codes "!==", Unequal) ∷ (codes "==", Equal) ∷ (codes "!=", Unequal)
+    ∷ (codes "=~", Like)
     ∷ (codes "&&", And) ∷ (codes "||", Or) ∷ (codes "!", Not) ∷ (codes "(", Open) ∷ (codes ")", Close) ∷ []
 
 -- a comparison, which needs white space on both sides
@@ -61,7 +65,8 @@ in_class inside c = nat_eq c 91 || (inside && not (nat_eq c 93))
 abbrev pub closes : Bool → ℕ → Bool
 closes inside c = nat_eq c 47 && not inside
 
--- the characters of a pattern up to the "/" that closes it: behind a backslash (92) or not, inside a "[..]" or not
+-- the characters of a pattern up to the "/" that closes it: behind a backslash (92) or not, inside a "[..]"
+-- or not
 abbrev pub up_to_close : Bool → Bool → List ℕ → List ℕ
 up_to_close escaped inside [] = []
 up_to_close true inside (c ∷ cs) = c ∷ up_to_close false inside cs
@@ -90,7 +95,12 @@ pattern_text false (c ∷ cs) = if nat_eq c 92 then pattern_text true cs else c 
 -- a pattern and its flags, the letters behind it, unless no "/" closes it
 abbrev pub patterned : List ℕ → List ℕ → Read
 patterned cs [] = None
-patterned cs (c ∷ rest) = Some (Pattern (bytes_of (pattern_text false cs)) (bytes_of (front is_no_letter rest)), behind is_no_letter rest)
+patterned cs (c ∷ rest) =
+    Some (
+      Pattern (bytes_of (pattern_text false cs))
+          (bytes_of (front is_no_letter rest)),
+      behind is_no_letter rest,
+    )
 
 -- the pattern behind its first "/"
 abbrev pub next_pattern : List ℕ → Read
@@ -129,7 +139,8 @@ next_word cs = word_of (front ends_word cs) (behind ends_word cs)
 
 -- ---- tokens
 
--- The token by the first rule that applies: where white space stands right before or doesn't, and the token before
+-- The token by the first rule that applies: where white space stands right before or doesn't, and the token
+-- before
 -- is "=~" or isn't.
 abbrev pub next_token : Bool → Bool → List ℕ → Read
 next_token spaced like cs =
@@ -157,13 +168,15 @@ after_token (Some p) later = option_map (λ ts. p.0 ∷ ts) (later p.0 p.1)
 abbrev pub lex : ℕ → Bool → Bool → List ℕ → Option (List Token)
 lex zero spaced like cs = None
 lex (suc count) spaced like cs =
-    unless_empty cs (after_token (next_token spaced like cs) (λ t rest. lex count (begins_blank rest) (is_like t) (skipped rest)))
+    unless_empty cs (after_token (next_token spaced like cs)
+    (λ t rest. lex count (begins_blank rest) (is_like t) (skipped rest)))
 
 -- the tokens of a text, if each can be read and they are fewer than the count
 unfoldable pub tokens_within : ℕ → List ℕ → Option (List Token)
 tokens_within count text = lex count (begins_blank (chars text)) false (skipped (chars text))
 
--- The tokens of a text, if each can be read. Each has a character, so there are no more of them than characters.
+-- The tokens of a text, if each can be read. Each has a character, so there are no more of them than
+-- characters.
 unfoldable pub tokens_of : List ℕ → Option (List Token)
 tokens_of text = tokens_within (suc (length (chars text))) text
 

@@ -1,6 +1,7 @@
 -- The clause that a tree of the program stands for.
 use Rattle.std.specs.Prelude.{List, [], ◌∷◌}
-use Rattle.kb_when.specs.Clause.{Clause, always, never, key, equals, compare, member, not_of, all_of, any_of, Clauses, no_clauses, clause}
+use Rattle.kb_when.specs.Clause.{Clause, always, never, key, equals, compare, member, not_of, all_of, any_of}
+use Rattle.kb_when.specs.Clause.{Clauses, no_clauses, clause}
 use Rattle.kb_when.specs.declared.tree.Tree.{Tree, fold-Tree}
 use Rattle.kb_when.specs.declared.tree.Tree.TheOpen.{Tree-F}
 

@@ -1,5 +1,6 @@
 -- The value of a clause over the values of keys.
-use Rattle.std.specs.Prelude.{ℕ, ℤ, pos, negsuc, List, Bool, true, false, not, ◌&&◌, ◌||◌, Option, Some, None, length, nat_eq}
+use Rattle.std.specs.Prelude.{ℕ, ℤ, pos, negsuc, List, Bool, true, false, not, ◌&&◌, ◌||◌, Option, Some, None}
+use Rattle.std.specs.Prelude.{length, nat_eq}
 use Rattle.std.specs.List.{list_any}
 use Rattle.std.specs.Str.{bytes_eq}
 use Rattle.std.specs.Fmt.{signed_decimal}
@@ -10,7 +11,8 @@ use Rattle.kb_context.specs.declared.value.ContextValue.TheVariants.{Truth, Numb
 use Rattle.kb_when.specs.Number.{number_of}
 use Rattle.kb_when.specs.declared.operator.Operator.{Operator}
 use Rattle.kb_when.specs.Operator.{compared}
-use Rattle.kb_when.specs.Clause.{Clause, always, never, key, equals, compare, member, not_of, all_of, any_of, Clauses, no_clauses, clause}
+use Rattle.kb_when.specs.Clause.{Clause, always, never, key, equals, compare, member, not_of, all_of, any_of}
+use Rattle.kb_when.specs.Clause.{Clauses, no_clauses, clause}
 
 abbrev pub is_zero : ℤ → Bool
 is_zero (pos n) = nat_eq n 0

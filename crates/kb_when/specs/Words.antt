@@ -24,8 +24,10 @@ is_reserved w = is_truth w || (bytes_eq the_in w || bytes_eq the_not w)
 
 -- `k == v`, the value v without quotes
 abbrev pub is_equal : List ℕ → List ℕ → Clause
-is_equal k v = if bytes_eq the_true v then key k else (if bytes_eq the_false v then not_of (key k) else equals k v)
+is_equal k v = if bytes_eq the_true v then key k
+    else (if bytes_eq the_false v then not_of (key k) else equals k v)
 
 -- `k != v`, the value v without quotes
 abbrev pub is_unequal : List ℕ → List ℕ → Clause
-is_unequal k v = if bytes_eq the_true v then not_of (key k) else (if bytes_eq the_false v then key k else not_of (equals k v))
+is_unequal k v = if bytes_eq the_true v then not_of (key k)
+    else (if bytes_eq the_false v then key k else not_of (equals k v))

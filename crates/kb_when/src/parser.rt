@@ -106,7 +106,11 @@ fn all_read(tokens: &[Token]) -> Result<(), WhenFault>
 
 /// An operand with the `!` before it.
 #[cycle(descent)]
-fn operand(alloc: Global, tokens: &[Token], depth: usize) -> Result<(Tree, &[Token]), Failure<WhenFault>>
+fn operand(
+    alloc: Global,
+    tokens: &[Token],
+    depth: usize,
+) -> Result<(Tree, &[Token]), Failure<WhenFault>>
     requires { depth ≤ 64 }
     ensures ok { IfOk result (λ r. ReadsOperand depth tokens.now (clause_of r.0) r.1.now) }
     ensures err { IfErr result (FailsOperand depth tokens.now) }
@@ -121,7 +125,11 @@ fn operand(alloc: Global, tokens: &[Token], depth: usize) -> Result<(Tree, &[Tok
 
 /// The operand behind a `!`.
 #[cycle(descent)]
-fn negated(alloc: Global, rest: &[Token], depth: usize) -> Result<(Tree, &[Token]), Failure<WhenFault>>
+fn negated(
+    alloc: Global,
+    rest: &[Token],
+    depth: usize,
+) -> Result<(Tree, &[Token]), Failure<WhenFault>>
     requires { depth < 64 }
     ensures ok { IfOk result (λ r. ReadsOperand depth (Not ∷ rest.now) (clause_of r.0) r.1.now) }
     ensures err { IfErr result (FailsOperand depth (Not ∷ rest.now)) }
@@ -133,7 +141,11 @@ fn negated(alloc: Global, rest: &[Token], depth: usize) -> Result<(Tree, &[Token
 
 /// What stands behind a `(`, up to its `)`.
 #[cycle(descent)]
-fn enclosed(alloc: Global, rest: &[Token], depth: usize) -> Result<(Tree, &[Token]), Failure<WhenFault>>
+fn enclosed(
+    alloc: Global,
+    rest: &[Token],
+    depth: usize,
+) -> Result<(Tree, &[Token]), Failure<WhenFault>>
     requires { depth < 64 }
     ensures ok { IfOk result (λ r. ReadsOperand depth (Open ∷ rest.now) (clause_of r.0) r.1.now) }
     ensures err { IfErr result (FailsOperand depth (Open ∷ rest.now)) }
@@ -167,7 +179,11 @@ fn joined_by_and(mut trees: Vec<Tree>) -> Tree
 
 /// Operands joined by `&&`. A loop, so a long flat list takes no depth of calls.
 #[cycle(descent)]
-fn conjunction(alloc: Global, tokens: &[Token], depth: usize) -> Result<(Tree, &[Token]), Failure<WhenFault>>
+fn conjunction(
+    alloc: Global,
+    tokens: &[Token],
+    depth: usize,
+) -> Result<(Tree, &[Token]), Failure<WhenFault>>
     requires { depth ≤ 64 }
     ensures ok { IfOk result (λ r. ReadsConjunction depth tokens.now (clause_of r.0) r.1.now) }
     ensures err { IfErr result (FailsConjunction depth tokens.now) }
@@ -189,7 +205,11 @@ fn conjunction(alloc: Global, tokens: &[Token], depth: usize) -> Result<(Tree, &
 
 /// Conjunctions joined by `||`.
 #[cycle(descent)]
-fn disjunction(alloc: Global, tokens: &[Token], depth: usize) -> Result<(Tree, &[Token]), Failure<WhenFault>>
+fn disjunction(
+    alloc: Global,
+    tokens: &[Token],
+    depth: usize,
+) -> Result<(Tree, &[Token]), Failure<WhenFault>>
     requires { depth ≤ 64 }
     ensures ok { IfOk result (λ r. ReadsDisjunction depth tokens.now (clause_of r.0) r.1.now) }
     ensures err { IfErr result (FailsDisjunction depth tokens.now) }

@@ -9,4 +9,5 @@ loop-byte-preserved c =
     let ys = c.loop-byte.bytes in
     let b = get_or ys c.loop-byte.byte-index 0 in
     rw c.blanked.ensures
-    (map_over_more blanked c.args.bytes.now ys c.loop-byte.byte-index b c.loop-byte-test.true c.loop-byte.invariant (get_or_default ys c.loop-byte.byte-index 0 b (omega arith)))
+    (map_over_more blanked c.args.bytes.now ys c.loop-byte.byte-index b c.loop-byte-test.true
+    c.loop-byte.invariant (get_or_default ys c.loop-byte.byte-index 0 b (omega arith)))

@@ -6,4 +6,5 @@ pub loop-at-init : goal.loop-at-init
 loop-at-init c = past_blank c.requires.stands c.requires.within c.requires.first
 
 pub loop-at-preserved : goal.loop-at-preserved
-loop-at-preserved c = more_blank c.loop-at.at c.loop-at.invariant c.loop-at-test.true (sym c.if-is_blank.ensures)
+loop-at-preserved c = more_blank c.loop-at.at c.loop-at.invariant c.loop-at-test.true
+    (sym c.if-is_blank.ensures)

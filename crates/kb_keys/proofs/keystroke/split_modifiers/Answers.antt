@@ -4,7 +4,8 @@ use Rattle.kb_keys.proofs.keystroke.split_modifiers.Goals as goal
 
 pub loop-modifier-preserved : goal.loop-modifier-preserved
 loop-modifier-preserved c =
-    rw c.with-mods.ensures (Reads-step _ _ _ _ _ c.loop-modifier.invariant (sym c.in-Some.ensures.first) c.in-Some.ensures.text)
+    rw c.with-mods.ensures
+    (Reads-step _ _ _ _ _ c.loop-modifier.invariant (sym c.in-Some.ensures.first) c.in-Some.ensures.text)
 
 pub returns-clause-mods : goal.returns-clause-mods
 returns-clause-mods c = Reads-stop_mods _ _ _ c.loop-modifier.invariant (sym c.in_default.ensures.first)

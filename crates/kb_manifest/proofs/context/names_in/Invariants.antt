@@ -5,4 +5,5 @@ use Rattle.kb_manifest.proofs.context.names_in.Given as goal
 
 -- the names so far, and then those that are left
 abbrev pub invariant-loop-name : goal.invariant-loop-name
-invariant-loop-name l = l.names ++ map string_bytes l.name-iterator ≡ names_of (members_view l.fn.members.entries)
+invariant-loop-name l =
+    l.names ++ map string_bytes l.name-iterator ≡ names_of (members_view l.fn.members.entries)

@@ -8,4 +8,6 @@ use Rattle.kb_manifest.proofs.context.read_texts.Given as goal
 -- the texts so far, and then those that are left
 abbrev pub invariant-loop-element : goal.invariant-loop-element
 invariant-loop-element l =
-    option_map (λ rest. l.texts ++ rest) (each as_str (listed (items_view (into_iter_items l.element-iterator)))) ≡ each as_str (listed (items_view l.fn.elements.items))
+    option_map (λ rest. l.texts ++ rest)
+    (each as_str (listed (items_view (into_iter_items l.element-iterator))))
+    ≡ each as_str (listed (items_view l.fn.elements.items))

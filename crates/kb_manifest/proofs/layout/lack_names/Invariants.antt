@@ -8,4 +8,5 @@ use Rattle.kb_manifest.proofs.layout.lack_names.Given as goal
 -- those that are left give the same
 abbrev pub invariant-loop-scope : goal.invariant-loop-scope
 invariant-loop-scope l =
-    list_any (lacks (codes "name")) (listed (items_view (drop l.scope-index l.scopes))) ≡ list_any (lacks (codes "name")) (listed (items_view l.scopes))
+    list_any (lacks (codes "name")) (listed (items_view (drop l.scope-index l.scopes)))
+    ≡ list_any (lacks (codes "name")) (listed (items_view l.scopes))

@@ -9,6 +9,7 @@ use Rattle.kb_manifest.proofs.layout.read_members.Goals as goal
 pub loop-name-init : goal.loop-name-init
 loop-name-init c =
     let all = c.into_iter-name-iterator.ensures.into_iter_gives in
-    ap (λ keys. option_map (inserted keys) (each key_of (pairs_of (members_view c.into_iter-name-iterator.result)))) c.new-keys.ensures
+    ap (λ keys. option_map (inserted keys)
+    (each key_of (pairs_of (members_view c.into_iter-name-iterator.result)))) c.new-keys.ensures
     ∙ ap (λ es. option_map (inserted empty) (each key_of (pairs_of (members_view es)))) all.0
     ∙ keys_in_order c.args.members.entries all.5

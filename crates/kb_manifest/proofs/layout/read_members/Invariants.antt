@@ -9,4 +9,5 @@ use Rattle.kb_manifest.proofs.layout.read_members.Given as goal
 -- the keys so far, with those that are left put in
 abbrev pub invariant-loop-name : goal.invariant-loop-name
 invariant-loop-name l =
-    option_map (inserted l.keys) (each key_of (pairs_of (members_view l.name-iterator))) ≡ keys_of (object (members_view l.fn.members.entries))
+    option_map (inserted l.keys) (each key_of (pairs_of (members_view l.name-iterator)))
+    ≡ keys_of (object (members_view l.fn.members.entries))

@@ -8,4 +8,6 @@ use Rattle.kb_manifest.proofs.layout.read_scopes.Given as goal
 -- the scopes so far, and then those that are left
 abbrev pub invariant-loop-element : goal.invariant-loop-element
 invariant-loop-element l =
-    option_map (λ rest. l.scopes ++ rest) (each scope_of (listed (items_view (into_iter_items l.element-iterator)))) ≡ each scope_of (listed (items_view l.fn.elements.items))
+    option_map (λ rest. l.scopes ++ rest)
+    (each scope_of (listed (items_view (into_iter_items l.element-iterator))))
+    ≡ each scope_of (listed (items_view l.fn.elements.items))

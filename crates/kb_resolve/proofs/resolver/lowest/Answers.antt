@@ -12,8 +12,8 @@ returns-then-branch-clause-value c =
     let passes : test c.in-Some.rule.now.value ≡ true = search rules in
     ap Some c.deref-then-branch.ensures
     ∙ sym
-        (lowest_passes test
-        (λ (r : Rc Rule Global). r.value) _ _ c.in-Some.rule.now c.in-Some.ensures.steps passes)
+    (lowest_passes test
+    (λ (r : Rc Rule Global). r.value) _ _ c.in-Some.rule.now c.in-Some.ensures.steps passes)
     ∙ c.loop-rule.invariant
 
 pub loop-rule-preserved : goal.loop-rule-preserved
@@ -21,5 +21,5 @@ loop-rule-preserved c =
     let test = matches (context c.args.scopes.now) c.args.pressed.now in
     let fails : test c.in-Some.rule.now.value ≡ false = search rules in
     sym (lowest_fails test
-        (λ (r : Rc Rule Global). r.value) _ _ c.in-Some.rule.now c.in-Some.ensures.steps fails)
+    (λ (r : Rc Rule Global). r.value) _ _ c.in-Some.rule.now c.in-Some.ensures.steps fails)
     ∙ c.loop-rule.invariant

@@ -9,4 +9,4 @@ use Rattle.kb_resolve.proofs.resolver.lowest.Given as goal
 abbrev pub invariant-loop-rule : goal.invariant-loop-rule
 invariant-loop-rule l =
     chosen l.fn.pressed (context l.fn.scopes) (map (λ r. r.value) (iter_rest (rev_source l.rule-iterator)))
-        ≡ chosen l.fn.pressed (context l.fn.scopes) (map (λ r. r.value) l.fn.rules)
+    ≡ chosen l.fn.pressed (context l.fn.scopes) (map (λ r. r.value) l.fn.rules)

@@ -6,7 +6,7 @@ use Rattle.kb_trace.proofs.lines.with_json.Goals as goal
 pub unwrap-requires : goal.unwrap-requires
 unwrap-requires c =
     let kept = c.in_ok-string.ensures.room.0 ∙ c.new-writer.ensures.before
-        ∙ ap (λ v. v.items) c.into_bytes.ensures.value in
+    ∙ ap (λ v. v.items) c.into_bytes.ensures.value in
     let before = subst IsUtf8 (sym kept) (IsUtf8-had _ c.args.text.ok) in
     c.from_utf8.ensures.succeeds
-        (subst IsUtf8 (sym c.into_inner.ensures.items) (IsUtf8-append _ _ before c.into_inner.ensures.utf8))
+    (subst IsUtf8 (sym c.into_inner.ensures.items) (IsUtf8-append _ _ before c.into_inner.ensures.utf8))

@@ -5,4 +5,7 @@ use Rattle.kb_when.proofs.DescentLemmas.{any_of-several}
 use Rattle.kb_when.proofs.parser.joined_by_or.Goals as goal
 
 pub returns : goal.returns
-returns c = c.any.ensures ∙ any_of-several (map clause_of c.args.trees.items) (λ e. c.if-len-eq1.false (omega (arith, c.len.ensures, simp length-map at e, c.args.trees.ok.0))) (simp length-map (omega arith))
+returns c = c.any.ensures
+    ∙ any_of-several (map clause_of c.args.trees.items)
+    (λ e. c.if-len-eq1.false (omega (arith, c.len.ensures, simp length-map at e, c.args.trees.ok.0)))
+    (simp length-map (omega arith))

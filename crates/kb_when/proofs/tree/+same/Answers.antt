@@ -5,4 +5,6 @@ use Rattle.kb_when.proofs.SameLemmas.{same_all-lengths}
 use Rattle.kb_when.proofs.tree.+same.Goals as goal
 
 pub same_trees-returns-then-trees-others : goal.same_trees-returns-then-trees-others
-same_trees-returns-then-trees-others t c = same_all-lengths (map clause_of c.args.trees.now) (map clause_of c.args.others.now) (λ e. c.if-trees-others.true (omega (arith, simp length-map at e)))
+same_trees-returns-then-trees-others t c =
+    same_all-lengths (map clause_of c.args.trees.now) (map clause_of c.args.others.now)
+    (λ e. c.if-trees-others.true (omega (arith, simp length-map at e)))

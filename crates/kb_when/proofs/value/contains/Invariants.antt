@@ -5,4 +5,5 @@ use Rattle.kb_when.proofs.value.contains.Given as goal
 
 -- those that are left give the same
 abbrev pub invariant-loop-item : goal.invariant-loop-item
-invariant-loop-item l = list_any (bytes_eq l.text) (drop l.item-index l.item-items) ≡ list_any (bytes_eq l.text) l.texts
+invariant-loop-item l =
+    list_any (bytes_eq l.text) (drop l.item-index l.item-items) ≡ list_any (bytes_eq l.text) l.texts

@@ -5,4 +5,6 @@ use Rattle.kb_context.proofs.scopes.Scopes.get.Goals as goal
 
 pub returns-clause-whole : goal.returns-clause-whole
 returns-clause-whole c =
-    subst ReachesRoot c.self.view_is (no_further c.self.inside.scopes.items c.self.inside.focus c.self.invariant.rooted c.self.invariant.inside)
+    subst ReachesRoot c.self.view_is
+    (no_further c.self.inside.scopes.items c.self.inside.focus c.self.invariant.rooted
+    c.self.invariant.inside)

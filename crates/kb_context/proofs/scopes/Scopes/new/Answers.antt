@@ -1,4 +1,5 @@
-use Rattle.std.proofs.Common.{◌≡◌, ◌≤◌, List, [], length, Some, None, cond, nat_lt, sym, subst, ap, ◌∙◌, zero-add, arith, rules}
+use Rattle.std.proofs.Common.{◌≡◌, ◌≤◌, List, [], length, Some, None, cond, nat_lt, sym, subst, ap, ◌∙◌}
+use Rattle.std.proofs.Common.{zero-add, arith, rules}
 use Rattle.std.proofs.lemmas.Result.{err_from_is_err_and}
 use Rattle.kb_context.specs.declared.layout.LayoutScope.{LayoutScope}
 use Rattle.kb_context.specs.Scopes.{key_limit}
@@ -25,42 +26,59 @@ few c =
 pub returns-in_err-scopes-clause-err : goal.returns-in_err-scopes-clause-err
 returns-in_err-scopes-clause-err c =
     let p = err_from_is_err_and c.from_residual.result c.from_residual.ensures.1 in
-    rw (p.1, p.2) (refused_scopes c.args.layout c.in_err-scopes.field-0.0 (subst (λ (ps : List LayoutScope). IsBadList ps c.in_err-scopes.field-0.0) c.into_vec-scopes.ensures c.in_err-scopes.ensures.err))
+    rw (p.1, p.2) (refused_scopes c.args.layout c.in_err-scopes.field-0.0
+    (subst (λ (ps : List LayoutScope). IsBadList ps c.in_err-scopes.field-0.0) c.into_vec-scopes.ensures
+    c.in_err-scopes.ensures.err))
 
 pub returns-in_default-clause-err : goal.returns-in_default-clause-err
 returns-in_default-clause-err c =
     let place : place_of c.args.layout.focus c.scopes.inside.scopes.items ≡ None =
-    ap (λ n. place_of n c.scopes.inside.scopes.items) (sym c.as_str.ensures) ∙ sym (c.scopes.invariant.placed c.as_str.result.now) ∙ sym c.in_default.ensures in
-    bad_focus c.args.layout c.scopes.inside.scopes.items (built_from (goal.at.returns-in_default-clause-err c).In_ok-scopes ∙ ap Some (sym c.scopes.view_is)) place
+    ap (λ n. place_of n c.scopes.inside.scopes.items) (sym c.as_str.ensures)
+    ∙ sym (c.scopes.invariant.placed c.as_str.result.now) ∙ sym c.in_default.ensures in
+    bad_focus c.args.layout c.scopes.inside.scopes.items
+    (built_from (goal.at.returns-in_default-clause-err c).In_ok-scopes ∙ ap Some (sym c.scopes.view_is))
+    place
 
 -- the place of the focus
-focused : (c : In-Some) → place_of c.args.layout.focus c.scopes.inside.scopes.items ≡ Some c.in-Some.field-0.now
-focused c = ap (λ n. place_of n c.scopes.inside.scopes.items) (sym c.as_str.ensures) ∙ sym (c.scopes.invariant.placed c.as_str.result.now) ∙ sym c.in-Some.ensures
+focused : (c : In-Some)
+    → place_of c.args.layout.focus c.scopes.inside.scopes.items ≡ Some c.in-Some.field-0.now
+focused c = ap (λ n. place_of n c.scopes.inside.scopes.items) (sym c.as_str.ensures)
+    ∙ sym (c.scopes.invariant.placed c.as_str.result.now) ∙ sym c.in-Some.ensures
 
 pub returns-in_default-count-clause-err : goal.returns-in_default-count-clause-err
 returns-in_default-count-clause-err c =
     let d : In_ok-scopes = (goal.at.returns-in_default-count-clause-err c).In_ok-scopes in
-    too_many c.args.layout c.scopes.inside.scopes.items _ c.deref.result.now (few d) (built_from d ∙ ap Some (sym c.scopes.view_is))
-    (focused (goal.at.returns-in_default-count-clause-err c).In-Some) (c.deref.ensures.value ∙ c.into_vec-scopes.ensures) c.in_default-count.ensures
+    too_many c.args.layout c.scopes.inside.scopes.items _ c.deref.result.now (few d)
+    (built_from d ∙ ap Some (sym c.scopes.view_is))
+    (focused (goal.at.returns-in_default-count-clause-err c).In-Some)
+    (c.deref.ensures.value ∙ c.into_vec-scopes.ensures) c.in_default-count.ensures
 
 pub invariant_of-result : goal.invariant_of-result
 invariant_of-result c =
-    let h = counted key_limit (layout_key_count c.into_vec-scopes.result.items) c.in-Some-count.keys (c.in-Some-count.ensures ∙ ap (λ (ps : List LayoutScope). cond (nat_lt key_limit (layout_key_count ps)) None (Some (layout_key_count ps))) c.deref.ensures.value) in
+    let h = counted key_limit (layout_key_count c.into_vec-scopes.result.items) c.in-Some-count.keys
+    (c.in-Some-count.ensures
+    ∙ ap (λ (ps : List LayoutScope). cond (nat_lt key_limit (layout_key_count ps)) None
+    (Some (layout_key_count ps))) c.deref.ensures.value) in
     record {
-      inside = placed_within c.as_str.result.now c.scopes.inside.scopes.items c.scopes.inside.places _ (c.scopes.invariant.placed c.as_str.result.now) c.in-Some.ensures;
+      inside = placed_within c.as_str.result.now c.scopes.inside.scopes.items c.scopes.inside.places _
+          (c.scopes.invariant.placed c.as_str.result.now) c.in-Some.ensures;
       rooted = c.scopes.invariant.rooted;
       placed = c.scopes.invariant.placed;
-      counted = h.0 ∙ sym (key_count-built [] c.into_vec-scopes.result.items c.scopes.inside.scopes.items (c.in_ok-scopes.ensures.ok ∙ ap Some (sym c.scopes.view_is)) ∙ zero-add _);
+      counted = h.0 ∙ sym (key_count-built [] c.into_vec-scopes.result.items c.scopes.inside.scopes.items
+          (c.in_ok-scopes.ensures.ok ∙ ap Some (sym c.scopes.view_is)) ∙ zero-add _);
       few = h.1;
     }
 
 pub returns-clause-good : goal.returns-clause-good
 returns-clause-good c =
     let d : In_ok-scopes = (goal.at.returns-clause-good c).In_ok-scopes in
-    no_fault c.args.layout c.scopes.inside.scopes.items _ c.deref.result.now _ (few d) (built_from d ∙ ap Some (sym c.scopes.view_is))
-    (focused (goal.at.returns-clause-good c).In-Some) (c.deref.ensures.value ∙ c.into_vec-scopes.ensures) c.in-Some-count.ensures
+    no_fault c.args.layout c.scopes.inside.scopes.items _ c.deref.result.now _ (few d)
+    (built_from d ∙ ap Some (sym c.scopes.view_is))
+    (focused (goal.at.returns-clause-good c).In-Some)
+    (c.deref.ensures.value ∙ c.into_vec-scopes.ensures) c.in-Some-count.ensures
 
 pub returns-clause-ok : goal.returns-clause-ok
 returns-clause-ok c =
-    scopes_of_built c.args.layout c.scopes.inside.scopes.items _ (built_from (goal.at.returns-clause-ok c).In_ok-scopes ∙ ap Some (sym c.scopes.view_is))
+    scopes_of_built c.args.layout c.scopes.inside.scopes.items _
+    (built_from (goal.at.returns-clause-ok c).In_ok-scopes ∙ ap Some (sym c.scopes.view_is))
     (focused (goal.at.returns-clause-ok c).In-Some)

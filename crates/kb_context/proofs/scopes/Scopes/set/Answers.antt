@@ -6,4 +6,5 @@ use Rattle.kb_context.proofs.scopes.Scopes.set.Goals as goal
 pub set_at-requires : goal.set_at-requires
 set_at-requires c =
     subst (λ (s : ScopesData). c.in-Some.field-0.now < length s.scopes) c.self.view_is
-    (placed_within c.args.scope.now c.self.inside.scopes.items c.self.inside.places _ (c.self.invariant.placed c.args.scope.now) c.in-Some.ensures)
+    (placed_within c.args.scope.now c.self.inside.scopes.items c.self.inside.places _
+    (c.self.invariant.placed c.args.scope.now) c.in-Some.ensures)

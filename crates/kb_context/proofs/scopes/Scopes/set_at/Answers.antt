@@ -1,29 +1,40 @@
-use Rattle.std.proofs.Common.{◌≡◌, ◌<◌, ◌≤◌, ◌||◌, nat_lt, true, length, Some, slice_get, slice_set, sym, subst, ap, ◌∙◌, refl}
+use Rattle.std.proofs.Common.{◌≡◌, ◌<◌, ◌≤◌, ◌||◌, nat_lt, true, length, Some, slice_get, slice_set, sym}
+use Rattle.std.proofs.Common.{subst, ap, ◌∙◌, refl}
 use Rattle.std.specs.FinMap.{insert, contains_key, len}
 use Rattle.std.proofs.Math.Bool.{or-true}
 use Rattle.std.proofs.lemmas.Bool.{lt-ltb}
 use Rattle.std.proofs.lemmas.Option.{slice_get_read}
 use Rattle.kb_context.specs.Scopes.{ScopesData, set_fault_at, with_value_at}
 use Rattle.kb_context.specs.Scopes.{key_limit}
-use Rattle.kb_context.proofs.ScopesLemmas.{keeps, seen_after, len_le-key_count, few-insert, no_fault, set_changes}
+use Rattle.kb_context.proofs.ScopesLemmas.{keeps, seen_after, len_le-key_count, few-insert, no_fault}
+use Rattle.kb_context.proofs.ScopesLemmas.{set_changes}
 use Rattle.kb_context.proofs.scopes.Scopes.set_at.Goals as goal
-use Rattle.kb_context.proofs.scopes.Scopes.set_at.Goals.{In_ok-set, else-self-ge-KEY_LIMIT-via-then-self-ge-KEY_LIMIT+else-not-contains_key, else-self-ge-KEY_LIMIT-via-else-self-ge-KEY_LIMIT}
+use Rattle.kb_context.proofs.scopes.Scopes.set_at.Goals.{In_ok-set}
+use Rattle.kb_context.proofs.scopes.Scopes.set_at.Goals.{else-self-ge-KEY_LIMIT-via-then-self-ge-KEY_LIMIT+else-not-contains_key}
+use Rattle.kb_context.proofs.scopes.Scopes.set_at.Goals.{else-self-ge-KEY_LIMIT-via-else-self-ge-KEY_LIMIT}
 
 -- the scope that is written
 found : (c : In_ok-set) → slice_get c.self.inside.scopes.items c.args.at ≡ Some c.index_mut-scope.result.now
-found c = slice_get_read _ _ _ _ refl (subst (λ (s : ScopesData). c.args.at < length s.scopes) (sym c.self.view_is) c.requires) c.index_mut-scope.ensures.value
+found c = slice_get_read _ _ _ _ refl
+    (subst (λ (s : ScopesData). c.args.at < length s.scopes) (sym c.self.view_is) c.requires)
+    c.index_mut-scope.ensures.value
 
 -- there is room, or the key stands
-room : (c : In_ok-set) → (nat_lt c.self.inside.keys key_limit || contains_key c.index_mut-scope.result.now.keys c.args.key.now) ≡ true
+room : (c : In_ok-set)
+    → (nat_lt c.self.inside.keys key_limit || contains_key c.index_mut-scope.result.now.keys c.args.key.now)
+    ≡ true
 room c = elim c.else-self-ge-KEY_LIMIT.branch [
   | else-self-ge-KEY_LIMIT-via-then-self-ge-KEY_LIMIT+else-not-contains_key w ↦
-      ap (λ b. nat_lt c.self.inside.keys key_limit || b) (sym w.contains_key.ensures ∙ w.if-not-contains_key.false) ∙ or-true _
+      ap (λ b. nat_lt c.self.inside.keys key_limit || b)
+      (sym w.contains_key.ensures ∙ w.if-not-contains_key.false) ∙ or-true _
   | else-self-ge-KEY_LIMIT-via-else-self-ge-KEY_LIMIT w ↦
-      ap (λ b. b || contains_key c.index_mut-scope.result.now.keys c.args.key.now) (lt-ltb _ _ w.if-self-ge-KEY_LIMIT.false)
+      ap (λ b. b || contains_key c.index_mut-scope.result.now.keys c.args.key.now)
+      (lt-ltb _ _ w.if-self-ge-KEY_LIMIT.false)
 ]
 
 within : (c : In_ok-set) → len c.index_mut-scope.result.now.keys ≤ c.self.inside.keys
-within c = subst (λ n. len c.index_mut-scope.result.now.keys ≤ n) (sym c.self.invariant.counted) (len_le-key_count _ _ _ (found c))
+within c = subst (λ n. len c.index_mut-scope.result.now.keys ≤ n) (sym c.self.invariant.counted)
+    (len_le-key_count _ _ _ (found c))
 
 pub overflow_sub-self : goal.overflow_sub-self
 overflow_sub-self c = subst (λ n. n ≤ c.self.inside.keys) (sym c.len-before.ensures.len) (within c)
@@ -31,14 +42,29 @@ overflow_sub-self c = subst (λ n. n ≤ c.self.inside.keys) (sym c.len-before.e
 pub invariant_of-self-2 : goal.invariant_of-self-2
 invariant_of-self-2 c =
     let d : In_ok-set = (goal.at.invariant_of-self-2 c).In_ok-set in
-    keeps (λ m. insert m c.args.key.now c.args.value) c.args.at c.self.inside.scopes.items c.index_mut-scope.result.now c.self.inside.places c.self.inside.focus c.self.inside.keys
-    c.set.new.self c.len-before.result c.len.result c.self.invariant (found d) c.in_ok-set.ensures.ok c.len-before.ensures.len c.len.ensures.len
-    (few-insert c.index_mut-scope.result.now.keys c.args.key.now c.args.value key_limit c.self.inside.keys (room d) c.self.invariant.few (within d))
+    keeps (λ m. insert m c.args.key.now c.args.value) c.args.at c.self.inside.scopes.items
+    c.index_mut-scope.result.now c.self.inside.places c.self.inside.focus c.self.inside.keys
+    c.set.new.self c.len-before.result c.len.result c.self.invariant
+    (found d) c.in_ok-set.ensures.ok c.len-before.ensures.len c.len.ensures.len
+    (few-insert c.index_mut-scope.result.now.keys c.args.key.now c.args.value key_limit c.self.inside.keys
+    (room d) c.self.invariant.few (within d))
 
 -- what is seen afterwards
-seen : (c : In_ok-set) → ◌≡◌ {A = ScopesData} (record { scopes = slice_set c.self.inside.scopes.items c.args.at (record { name = c.index_mut-scope.result.now.name; parent = c.index_mut-scope.result.now.parent; keys = c.set.new.self }); focus = c.self.inside.focus }) (with_value_at c.args.self.now c.args.at c.args.key.now c.args.value)
+seen : (c : In_ok-set)
+    → ◌≡◌ {A = ScopesData}
+    (record {
+      scopes = slice_set c.self.inside.scopes.items c.args.at
+          (record {
+            name = c.index_mut-scope.result.now.name;
+            parent = c.index_mut-scope.result.now.parent;
+            keys
+                = c.set.new.self;
+          });
+      focus = c.self.inside.focus;
+    }) (with_value_at c.args.self.now c.args.at c.args.key.now c.args.value)
 seen c =
-    seen_after (λ m. insert m c.args.key.now c.args.value) c.args.at c.self.inside.scopes.items c.index_mut-scope.result.now c.self.inside.focus c.set.new.self (found c) c.in_ok-set.ensures.ok
+    seen_after (λ m. insert m c.args.key.now c.args.value) c.args.at c.self.inside.scopes.items
+    c.index_mut-scope.result.now c.self.inside.focus c.set.new.self (found c) c.in_ok-set.ensures.ok
     ∙ ap (λ (s : ScopesData). with_value_at s c.args.at c.args.key.now c.args.value) c.self.view_is
 
 pub returns-clause-allowed : goal.returns-clause-allowed
@@ -46,10 +72,13 @@ returns-clause-allowed c =
     let d : In_ok-set = (goal.at.returns-clause-allowed c).In_ok-set in
     let old : ScopesData = record { scopes = c.self.inside.scopes.items; focus = c.self.inside.focus } in
     ap (λ (s : ScopesData). set_fault_at s c.args.at c.args.key.now) (sym c.self.view_is)
-    ∙ no_fault old c.args.at c.args.key.now c.index_mut-scope.result.now c.self.inside.keys c.self.invariant.counted (found d) (room d)
+    ∙ no_fault old c.args.at c.args.key.now c.index_mut-scope.result.now c.self.inside.keys
+    c.self.invariant.counted (found d) (room d)
 
 pub returns-clause-ok : goal.returns-clause-ok
 returns-clause-ok c = seen (goal.at.returns-clause-ok c).In_ok-set
 
 pub returns-clause-change : goal.returns-clause-change
-returns-clause-change c = set_changes c.args.self.now _ c.args.at c.args.key.now c.args.value (seen (goal.at.returns-clause-change c).In_ok-set) c.requires
+returns-clause-change c =
+    set_changes c.args.self.now _ c.args.at c.args.key.now c.args.value
+    (seen (goal.at.returns-clause-change c).In_ok-set) c.requires

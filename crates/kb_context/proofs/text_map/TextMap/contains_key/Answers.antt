@@ -4,4 +4,6 @@ use Rattle.kb_context.proofs.TextMapLemmas.{get_seen}
 use Rattle.kb_context.proofs.text_map.TextMap.contains_key.Goals as goal
 
 pub returns : goal.returns
-returns g c = c.contains_key.ensures ∙ ap is_some (sym (get_seen c.self.inside.table.entries c.args.key.now)) ∙ ap (λ m. map.contains_key m c.args.key.now) c.self.view_is
+returns g c = c.contains_key.ensures
+    ∙ ap is_some (sym (get_seen c.self.inside.table.entries c.args.key.now))
+    ∙ ap (λ m. map.contains_key m c.args.key.now) c.self.view_is

@@ -4,4 +4,5 @@ use Rattle.kb_context.proofs.TextMapLemmas.{get_seen}
 use Rattle.kb_context.proofs.text_map.TextMap.get.Goals as goal
 
 pub returns : goal.returns
-returns g c = c.get.ensures.value ∙ sym (get_seen c.self.inside.table.entries c.args.key.now) ∙ ap (λ m. map.get m c.args.key.now) c.self.view_is
+returns g c = c.get.ensures.value ∙ sym (get_seen c.self.inside.table.entries c.args.key.now)
+    ∙ ap (λ m. map.get m c.args.key.now) c.self.view_is

@@ -9,7 +9,9 @@ good c = name_of-IsGoodName c.args.self (rw (← c.self.view_is) c.self.invarian
 pub returns-clause-name : goal.returns-clause-name
 unfolding names
 returns-clause-name c =
-    let same : map (λ (name : Bor (List ℕ)). name.now) c.as_slice-names.result.now ≡ names = ap (λ (all : List (Bor (List ℕ))). map (λ (name : Bor (List ℕ)). name.now) all) c.as_slice-names.ensures in
+    let same : map (λ (name : Bor (List ℕ)). name.now) c.as_slice-names.result.now ≡ names =
+    ap (λ (all : List (Bor (List ℕ))). map (λ (name : Bor (List ℕ)). name.now) all)
+    c.as_slice-names.ensures in
     rw (← c.self.view_is) (name_read c.as_slice-names.result.now c.self.inside.index same)
 
 pub returns-clause-read : goal.returns-clause-read

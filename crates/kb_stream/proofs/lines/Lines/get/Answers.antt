@@ -15,7 +15,8 @@ unreachable-requires c =
     let some : c.args.place < length c.args.self.now = omega (arith, c.len.ensures) in
     let at = line_at _ _ _ _ some c.start_of.ensures.start c.start_of-2.ensures.start in
     let is = c.line_between-line.ensures
-        ∙ ap (λ t. take (c.start_of-2.result - 1 - c.start_of.result) (drop c.start_of.result t)) c.text.ensures.text ∙ at.line in
+    ∙ ap (λ t. take (c.start_of-2.result - 1 - c.start_of.result) (drop c.start_of.result t))
+    c.text.ensures.text ∙ at.line in
     c.in-Err.ensures.cases.0 (subst IsUtf8 (sym is) (All-get_or IsUtf8 _ _ _ some c.text.ensures.utf8))
 
 pub returns : goal.returns
@@ -23,4 +24,5 @@ returns c =
     let some : c.args.place < length c.args.self.now = omega (arith, c.len.ensures) in
     let at = line_at _ _ _ _ some c.start_of.ensures.start c.start_of-2.ensures.start in
     ap Some (c.in-Ok.ensures.cases.0 ∙ c.line_between-line.ensures
-    ∙ ap (λ t. take (c.start_of-2.result - 1 - c.start_of.result) (drop c.start_of.result t)) c.text.ensures.text ∙ at.line) ∙ sym at.found
+    ∙ ap (λ t. take (c.start_of-2.result - 1 - c.start_of.result) (drop c.start_of.result t))
+    c.text.ensures.text ∙ at.line) ∙ sym at.found

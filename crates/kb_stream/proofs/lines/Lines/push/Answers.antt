@@ -8,4 +8,5 @@ invariant_of-self-2 c =
 pub returns-clause-ok : goal.returns-clause-ok
 returns-clause-ok c =
     rw (← c.as_str.ensures.value)
-    (more_seen _ _ _ _ _ _ c.self.invariant c.as_str.utf8 c.in_ok-append.ensures.text c.in_ok-append.ensures.ends c.self.view_is)
+    (more_seen _ _ _ _ _ _ c.self.invariant c.as_str.utf8 c.in_ok-append.ensures.text
+    c.in_ok-append.ensures.ends c.self.view_is)

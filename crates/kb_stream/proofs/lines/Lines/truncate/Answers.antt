@@ -11,13 +11,13 @@ pub invariant_of-self : goal.invariant_of-self
 invariant_of-self c =
     let h = hold _ _ _ c.self.invariant c.self.view_is in
     rw (c.truncate.ensures.items, c.truncate-then-len.ensures.items)
-        (fewer_are _ _ _ c.args.len _ h c.start_of-end.ensures.start)
+    (fewer_are _ _ _ c.args.len _ h c.start_of-end.ensures.start)
 
 pub returns-then-len : goal.returns-then-len
 returns-then-len c =
     let h = hold _ _ _ c.self.invariant c.self.view_is in
     rw (c.truncate.ensures.items, c.truncate-then-len.ensures.items)
-        (fewer_seen _ _ _ c.args.len _ h c.start_of-end.ensures.start)
+    (fewer_seen _ _ _ c.args.len _ h c.start_of-end.ensures.start)
 
 pub returns-else-len : goal.returns-else-len
 returns-else-len c =

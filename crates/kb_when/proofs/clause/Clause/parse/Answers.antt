@@ -22,7 +22,10 @@ pub returns-clause-grammar : goal.returns-clause-grammar
 returns-clause-grammar c = by_grammar c.args.text.now
 
 pub returns-clause-stands : goal.returns-clause-stands
-returns-clause-stands c = stands _ _ (reads _ _ _ (c.in_ok-tokens.ensures ∙ ap Ok (sym c.deref.ensures.value)) c.in_ok-tree.ensures)
+returns-clause-stands c =
+    stands _ _ (reads _ _ _ (c.in_ok-tokens.ensures ∙ ap Ok (sym c.deref.ensures.value)) c.in_ok-tree.ensures)
 
 pub returns-clause-only : goal.returns-clause-only
-returns-clause-only c = λ u s. only _ _ u (reads _ _ _ (c.in_ok-tokens.ensures ∙ ap Ok (sym c.deref.ensures.value)) c.in_ok-tree.ensures) s
+returns-clause-only c =
+    λ u s. only _ _ u
+    (reads _ _ _ (c.in_ok-tokens.ensures ∙ ap Ok (sym c.deref.ensures.value)) c.in_ok-tree.ensures) s

@@ -9,7 +9,11 @@ decreases-holds l = goal.size-holds l
 
 -- those that are left give the same
 abbrev pub invariant-loop-tree : goal.invariant-loop-tree
-invariant-loop-tree l = all_hold (context l.scopes) (clauses_of (map clause_of (drop l.tree-index l.tree-items))) ≡ all_hold (context l.scopes) (clauses_of (map clause_of l.initial.tree-items))
+invariant-loop-tree l =
+    all_hold (context l.scopes) (clauses_of (map clause_of (drop l.tree-index l.tree-items)))
+    ≡ all_hold (context l.scopes) (clauses_of (map clause_of l.initial.tree-items))
 
 abbrev pub invariant-loop-tree-2 : goal.invariant-loop-tree-2
-invariant-loop-tree-2 l = any_holds (context l.scopes) (clauses_of (map clause_of (drop l.tree-index l.tree-items))) ≡ any_holds (context l.scopes) (clauses_of (map clause_of l.initial.tree-items))
+invariant-loop-tree-2 l =
+    any_holds (context l.scopes) (clauses_of (map clause_of (drop l.tree-index l.tree-items)))
+    ≡ any_holds (context l.scopes) (clauses_of (map clause_of l.initial.tree-items))
