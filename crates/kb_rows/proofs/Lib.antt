@@ -1,2 +1,1 @@
-pub mod ModelRows
-pub mod ScopeRows
+pub mod Transcripts
