@@ -113,12 +113,17 @@ pub fn file_stop<'a>(path: &'a str, failure: Failure<ReadFault>) -> Stop<'a>
 /// How a run ends, by what the script answered and by whether what was left of the trace in its
 /// buffer was written after it. A write that fails there counts as one that failed in the script,
 /// where the script answered that it ran or that it found no memory. It takes no memory.
-pub fn script_stop<'a>(ran: Result<(), Failure<ScriptFault>>, is_flushed: bool) -> Result<(), Stop<'a>>
+pub fn script_stop<'a>(
+    ran: Result<(), Failure<ScriptFault>>,
+    is_flushed: bool,
+) -> Result<(), Stop<'a>>
     ensures { result ≡ report.script_stop ran is_flushed }
 {
     match (ran, is_flushed) {
         (Ok(()), true) => Ok(()),
-        (Ok(()), false) | (Err(Failure::NoMemory), false) => Err(Stop::Script(ScriptFault::WriteFailed)),
+        (Ok(()), false) | (Err(Failure::NoMemory), false) => Err(Stop::Script(
+            ScriptFault::WriteFailed,
+        )),
         (Err(Failure::NoMemory), true) => Err(Stop::NoMemory),
         (Err(Failure::Fault(fault)), _) => Err(Stop::Script(fault)),
     }

@@ -69,11 +69,11 @@ fn run_loaded<'a, S: Read + Drop, I: Read, O: Write + Drop, C: Console + Drop>(
 ) -> Result<(), Stop<'a>>
     ensures { Runs (loaded (option_map (λ layout. layout.now) inputs.entry.layout) inputs.entry.user.now)
         (script_bytes S.remaining script (I.remaining input.old)) (record {
-        said_before = heard_by C.said voice.old;
-        said = heard_by C.said voice.new;
-        had = writer_contents O.contents trace.old;
-        has = O.contents (writer_inner trace.new);
-    }) result }
+          said_before = heard_by C.said voice.old;
+          said = heard_by C.said voice.new;
+          had = writer_contents O.contents trace.old;
+          has = O.contents (writer_inner trace.new);
+        }) result }
 {
     match Session::load(alloc, inputs) {
         Ok(mut session) => {
@@ -98,10 +98,10 @@ pub fn carry_out<'a, F: FileSource, I: Read, O: Write + Drop, C: Console + Drop>
     voice: &mut Voice<C>,
 ) -> Result<(), Stop<'a>>
     ensures { CarriesOut (F.held files.now) given.entry (I.remaining input.old) (record {
-        said_before = heard_by C.said voice.old;
-        said = heard_by C.said voice.new;
-        had = writer_contents O.contents trace.old;
-        has = O.contents (writer_inner trace.new);
+      said_before = heard_by C.said voice.old;
+      said = heard_by C.said voice.new;
+      had = writer_contents O.contents trace.old;
+      has = O.contents (writer_inner trace.new);
     }) result }
 {
     let layout = bytes_named(files, alloc, given.layout)?;

@@ -64,7 +64,14 @@ fn run<R: Files + Print + Eprint + Input>(rt: &R, alloc: Global, given: Options<
         return report(&Err(Stop::NoMemory), &mut voice);
     };
     let files = SystemFiles { rt };
-    let end = carry_out(alloc, given, &files, &mut rt.reader(), &mut trace, &mut voice);
+    let end = carry_out(
+        alloc,
+        given,
+        &files,
+        &mut rt.reader(),
+        &mut trace,
+        &mut voice,
+    );
     report(&end, &mut voice)
 }
 

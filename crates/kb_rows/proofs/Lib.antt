@@ -1,1 +1,3 @@
+pub mod ModelRows
+pub mod ScopeRows
 pub mod Transcripts
