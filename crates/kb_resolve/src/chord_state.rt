@@ -1,5 +1,5 @@
 //! The chord that is open.
-ghost use Rattle.std.specs.Prelude.{◌≡◌, ◌≢◌, ◌<◌, ◌↔◌, [], length, IfOk, OnOk, OnErr, IsOk, IsTrue};
+ghost use Rattle.std.specs.Prelude.{◌≡◌, ◌≢◌, ◌<◌, ◌↔◌, [], length, IfOk, OnOk, OnErr, IsTrue};
 ghost use Rattle.kb_context.specs.Scopes.{context};
 ghost use Rattle.kb_resolve.specs.ChordState.{step, pressed_after};
 ghost use Rattle.kb_resolve.specs.Pressed.{step_of};
@@ -79,7 +79,6 @@ impl ChordState {
         ensures pressed { OnOk result (
             self.new ≡ pressed_after self.old stroke (context scopes.now) resolver.now) }
         ensures err { OnErr result (self.new ≡ self.old) }
-        ensures always { IsOk result }
     {
         let was_open = !self.pressed.is_empty();
         self.pressed.push(stroke);

@@ -51,7 +51,6 @@ impl Resolver {
     ) -> Result<Resolved<'r>, NoMemory>
         ensures value { IfOk result (λ found.
             resolution_of found ≡ resolved pressed.now (context scopes.now) self.now) }
-        ensures always { IsOk result }
 
         // What `value` cites, in terms of positions.
         ensures greatest { IsGreatest pressed.now (context scopes.now) self.now
