@@ -1,9 +1,11 @@
 -- Lemmas on the table of names, each by one computation over it.
-use Rattle.std.proofs.Common.{◌≡◌, ℕ, ◌<◌, ◌≤◌, List, [], Bor, Bool, true, false, ◌&&◌, Option, None, Some}
-use Rattle.std.proofs.Common.{zero, suc, refl, sym, ap, ◌∙◌, arith, tests, length, map, get_or, nat_eq}
-use Rattle.std.proofs.Common.{bytes_eq}
+use Rattle.std.proofs.Common.{◌≡◌, ℕ, ◌<◌, ◌≤◌, List, [], ◌∷◌, Bor, Bool, true, false, ◌&&◌, Option, None}
+use Rattle.std.proofs.Common.{Some, zero, suc, refl, sym, ap, ◌∙◌, arith, tests, length, map, get_or, nat_eq}
+use Rattle.std.proofs.Common.{bytes_eq, position, not}
 use Rattle.std.proofs.Math.ListN.{get_or-map}
+use Rattle.std.proofs.lemmas.List.{length-map}
 use Rattle.std.proofs.lemmas.Slice.Eq.{bytes_eq-Decides}
+use Rattle.std.specs.List.{prefix_len}
 use Rattle.std.specs.Prelude.{nat_le}
 use borrow.Author.Count.{below_more}
 use Rattle.kb_keys.specs.KeyName.{longest_name, names, name_of, key_named, lowered}
@@ -67,3 +69,27 @@ pub name_read : (table : List (Bor (List ℕ))) (i : ℕ) → map (λ name. name
 name_read table i same =
     sym (get_or-map (λ (name : Bor (List ℕ)). name.now) table i (record { ref_ptr = (0, 0); now = [] }))
     ∙ ap (λ (all : List (List ℕ)). get_or all i []) same
+
+prefix_read : (p : List ℕ → Bool) (table : List (Bor (List ℕ)))
+    → prefix_len (λ (name : Bor (List ℕ)). not (p name.now)) table
+    ≡ prefix_len (λ (name : List ℕ). not (p name)) (map (λ (name : Bor (List ℕ)). name.now) table)
+prefix_read p [] = refl
+prefix_read p (name ∷ table) = rw (prefix_read p table) refl
+
+-- a search of a table of texts is a search of the texts
+position_read : (p : List ℕ → Bool) (table : List (Bor (List ℕ)))
+    → position (λ (name : Bor (List ℕ)). p name.now) table
+    ≡ position p (map (λ (name : Bor (List ℕ)). name.now) table)
+position_read p table = rw (prefix_read p table, length-map table (λ (name : Bor (List ℕ)). name.now)) refl
+
+-- what is found in a table of these names is the key that is named; that the table is these names is asked
+-- first, so
+-- that another table is refused at once
+pub named_read : (table : List (Bor (List ℕ))) (text : List ℕ) (found : Option ℕ)
+    → map (λ (name : Bor (List ℕ)). name.now) table ≡ names
+    → found ≡ position (λ (name : Bor (List ℕ)). bytes_eq (lowered name.now) (lowered text)) table
+    → found ≡ key_named text
+unfolding key_named
+named_read table text found same is =
+    is ∙ (position_read (λ name. bytes_eq (lowered name) (lowered text)) table
+    ∙ ap (λ (all : List (List ℕ)). position (λ name. bytes_eq (lowered name) (lowered text)) all) same)

@@ -146,7 +146,8 @@ impl KeyName {
     pub fn named(text: &str) -> Option<KeyName>
         ensures { result ≡ key_named text.now }
     {
-        let index = NAMES
+        let names = NAMES.as_slice();
+        let index = names
             .iter()
             .position(|name| name.eq_ignore_ascii_case(text))?;
         Some(KeyName { index: index as u8 })
