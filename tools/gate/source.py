@@ -73,8 +73,8 @@ def body_at(words, at):
 
 
 def squeezed(words, parameters):
-    """A type or a trait as a check spells it in a name: its words alone, without the impl's own parameters."""
-    paths = re.sub(r"(\w+)::(?=\w)", lambda it: it[1].capitalize(), "".join(words))
+    """A type or a trait as a check spells it in a name: its words alone, without lifetimes and the impl's own parameters."""
+    paths = re.sub(r"(\w+)::(?=\w)", lambda it: it[1].capitalize(), "".join(it for it in words if it[0] != "'"))
     return "".join(it for it in re.findall(r"\w+", paths) if it not in parameters)
 
 
