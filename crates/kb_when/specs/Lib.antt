@@ -6,6 +6,7 @@ pub mod Grammar
 pub mod Number
 pub mod Operator
 pub mod Parser
+pub mod Pattern
 pub mod Reading
 pub mod Same
 pub mod Tokenizer

@@ -5,9 +5,11 @@ mod atom;
 mod characters;
 pub mod clause;
 pub mod fault;
+pub mod flags;
 mod number;
 mod operator;
 mod parser;
+mod pattern;
 mod piece;
 mod token;
 mod tokenizer;
@@ -17,3 +19,4 @@ mod words;
 
 pub use clause::Clause;
 pub use fault::WhenFault;
+pub use flags::Flags;
