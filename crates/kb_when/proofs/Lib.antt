@@ -1,6 +1,7 @@
 pub mod ClauseLemmas
 pub mod DescentLemmas
 pub mod GrammarLemmas
+pub mod MarkedLemmas
 pub mod NumberLemmas
 pub mod PatternLemmas
 pub mod SameLemmas

@@ -1,5 +1,6 @@
 -- The tree of a clause, as contracts see a clause.
 use Rattle.std.specs.Prelude.{ℕ, ℤ, List}
+use Rattle.kb_when.specs.declared.flags.Flags.{Flags}
 use Rattle.kb_when.specs.declared.operator.Operator.{Operator}
 
 mutual
@@ -11,6 +12,7 @@ mutual
     key : List ℕ → Clause
     equals : List ℕ → List ℕ → Clause
     compare : List ℕ → Operator → ℤ → Clause
+    matches : List ℕ → List ℕ → Flags → Clause
     member : List ℕ → List ℕ → Clause
     not_of : Clause → Clause
     all_of : Clauses → Clause

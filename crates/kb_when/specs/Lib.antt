@@ -3,6 +3,7 @@ pub mod Clause
 pub mod ClauseCode
 pub mod ClauseText
 pub mod Grammar
+pub mod Marked
 pub mod Number
 pub mod Operator
 pub mod Parser

@@ -1,4 +1,6 @@
 //! The flags of patterns.
+ghost use Rattle.std.specs.Prelude.{◌≡◌, nat_eq};
+ghost use Rattle.std.specs.List.{list_any};
 
 /// Which flags a pattern has: of the letters behind it the set of `i`, `m` and `s` counts (JavaScript's
 /// flags; that others are ignored is our decision).
@@ -13,7 +15,6 @@ pub struct Flags {
 }
 
 impl Flags {
-    ghost use Rattle.std.specs.Prelude.{◌≡◌};
     ghost use Rattle.kb_when.specs.Pattern.{flags_of, same_flags};
 
     /// The flags of a pattern's letters. It takes no memory.
@@ -22,9 +23,9 @@ impl Flags {
     {
         let letters = letters.as_bytes();
         Flags {
-            ignore_case: letters.contains(&b'i'),
-            multi_line: letters.contains(&b'm'),
-            dot_all: letters.contains(&b's'),
+            ignore_case: has(letters, b'i'),
+            multi_line: has(letters, b'm'),
+            dot_all: has(letters, b's'),
         }
     }
 
@@ -36,4 +37,16 @@ impl Flags {
             && self.multi_line == other.multi_line
             && self.dot_all == other.dot_all
     }
+}
+
+/// Whether a letter is among these.
+fn has(letters: &[u8], letter: u8) -> bool
+    ensures { result ≡ list_any (nat_eq letter) letters.now }
+{
+    for other in letters {
+        if letter == *other {
+            return true;
+        }
+    }
+    false
 }
