@@ -1,8 +1,11 @@
 -- The value of a tree beside its marks is that of the clause with its marks inside.
-use Rattle.std.proofs.Common.{◌≡◌, ℕ, List, [], ◌∷◌, ◌++◌, Bool, drop, refl, sym, ◌∙◌, ap, append_assoc, append-nil, not}
+use Rattle.std.proofs.Common.{◌≡◌, ℕ, List, [], ◌∷◌, ◌++◌, Bool, drop, refl, sym, ◌∙◌, ap, append_assoc, append-nil, map, not}
 use Rattle.std.specs.Prelude.{◌&&◌, ◌||◌}
 use Rattle.std.proofs.lemmas.List.{drop-drop}
 use Rattle.kb_context.specs.Scopes.{Keys}
+use Rattle.kb_when.specs.Clause as tree
+use Rattle.kb_when.specs.declared.tree.Tree.{Tree}
+use Rattle.kb_when.specs.Tree.{marked_of, markeds_of, clause_of, clauses_of}
 use Rattle.kb_when.specs.Marked.{Marked, always, never, key, equals, compare, matches, member, not_of, all_of, any_of}
 use Rattle.kb_when.specs.Marked.{Markeds, no_clauses, clause, tree_of, trees_of, marks_of, all_marks}
 use Rattle.kb_when.specs.Marked.{marked_value, all_marked_hold, any_marked_holds}
@@ -69,3 +72,8 @@ mutual
 pub value_beside : (keys : Keys) (m : Marked) → value keys (marks_of m) (tree_of m) ≡ marked_value keys m
 value_beside keys m =
     ap (λ (l : List Bool). value keys l (tree_of m)) (sym (append-nil (marks_of m))) ∙ value_by keys m []
+
+-- trees, seen as their clauses without marks
+pub trees_seen : (ts : List Tree) → trees_of (markeds_of (map marked_of ts)) ≡ clauses_of (map clause_of ts)
+trees_seen [] = refl
+trees_seen (t ∷ ts) = ap (tree.clause (clause_of t)) (trees_seen ts)

@@ -4,6 +4,7 @@ pub mod ClauseCode
 pub mod ClauseText
 pub mod Grammar
 pub mod Marked
+pub mod Marks
 pub mod Number
 pub mod Operator
 pub mod Parser

@@ -1,5 +1,5 @@
 //! Clauses.
-ghost use Rattle.std.specs.Prelude.{◌≡◌, ◌↔◌, IsTrue, IsOk, IfOk};
+ghost use Rattle.std.specs.Prelude.{◌≡◌, ◌↔◌, IsTrue, IfOk};
 
 use crate::fault::WhenFault;
 use crate::parser::parse_tokens;
@@ -11,23 +11,23 @@ use std::marker::Model;
 
 /// A condition on context keys, as VS Code's documentation of "when clause contexts" has it: keys,
 /// `true` and `false`, `!`, `&&`, `||` and parentheses, `==`, `===`, `!=` and `!==`, `<`, `<=`,
-/// `>` and `>=`, `in` and `not in`. `!` binds closest, then `&&`, then `||`. Contracts see its tree.
+/// `>` and `>=`, `=~`, `in` and `not in`. `!` binds closest, then `&&`, then `||`. Contracts see its
+/// tree, and beside it the marks of its patterns.
 #[derive(Debug, Drop)]
 pub struct Clause {
     tree: Tree,
+    alloc: Global,
 }
 
 impl Model for Clause {
-    ghost use Rattle.kb_when.specs.Clause.{Clause};
-    ghost use Rattle.kb_when.specs.ClauseCode.{coded_clause};
+    ghost use Rattle.kb_when.specs.Marks.{MarkedClause, coded_marked, beside};
+    ghost use Rattle.kb_when.specs.Tree.{marked_of};
 
-    ghost Value = { Clause };
+    ghost Value = { MarkedClause };
 
-    ghost coded = { coded_clause };
+    ghost coded = { coded_marked };
 
-    ghost use Rattle.kb_when.specs.Tree.{clause_of};
-
-    ghost view = { λ c. clause_of c.tree };
+    ghost view = { λ c. beside (marked_of c.tree) };
 }
 
 impl Clause {
@@ -42,15 +42,15 @@ impl Clause {
     /// `BadToken` (30) where a token can't be read. Then, as reading the tokens from the left meets
     /// it first: `TooDeep` (32) where more than 64 `(` and `!` stand around an operand, `BadNumber`
     /// (33) where a word or a quoted text that is no number follows a comparison, and `Unexpected`
-    /// (31) for any other token or end. Or want of memory. The operators are those of VS Code's
-    /// documentation of "when clause contexts"; `=~` is `Unexpected` so far. Tokens, precedence and
-    /// faults are our decision.
+    /// (31) for any other token or end. Or want of memory. A pattern that `regex` doesn't read is no
+    /// fault: it is marked. The operators are those of VS Code's documentation of "when clause
+    /// contexts"; tokens, precedence and faults are our decision.
     #[tactic(auto, unfolding(crate::specs::ClauseText::clause_in))]
     pub fn parse(alloc: Global, text: &str) -> Result<Clause, Failure<WhenFault>>
-        ensures read { Gives (λ clause. clause) result (clause_in text.now) }
-        ensures stands { IfOk result (StandsFor text.now) }
+        ensures read { Gives (λ clause. clause.tree) result (clause_in text.now) }
+        ensures stands { IfOk result (λ clause. StandsFor text.now clause.tree) }
         ensures only { IfOk result (λ clause.
-            (other : _) → StandsFor text.now other → other ≡ clause) }
+            (other : _) → StandsFor text.now other → other ≡ clause.tree) }
 
         // For all texts the reading is that of the grammar.
         ensures grammar { ReadsByGrammar text.now }
@@ -60,24 +60,26 @@ impl Clause {
     {
         let tokens = tokenize(alloc, text)?;
         let tree = parse_tokens(alloc, &tokens)?;
-        Ok(Clause { tree })
+        Ok(Clause { tree, alloc })
     }
 
     /// Whether the clause holds over the keys that the focus of the scopes sees. A key alone holds
     /// unless it is absent, `false`, 0 or the empty text; an absent key, a list or an object makes
-    /// `==`, `<`, `<=`, `>` and `>=` false. It takes no memory and stops at the first part that
-    /// decides. The operators are those of VS Code's documentation of "when clause contexts", and
+    /// `==`, `<`, `<=`, `>`, `>=` and `=~` false, and so is a pattern that is marked. It stops at the
+    /// first part that decides. Want of memory comes of patterns alone. The operators are those of VS Code's documentation of "when clause contexts", and
     /// what that leaves open is our decision.
+    #[tactic(auto, using(crate::proofs::MarkedLemmas::value_beside))]
     pub fn holds(&self, scopes: &Scopes) -> Result<bool, NoMemory>
-        ensures value { IfOk result (λ holds. holds ≡ value (context scopes.now) self.now) }
-        ensures always { IsOk result }
+        ensures { IfOk result (λ holds.
+            holds ≡ value (context scopes.now) self.now.marks self.now.tree) }
     {
-        Ok(self.tree.holds(scopes))
+        self.tree.holds(self.alloc, scopes)
     }
 
-    /// Whether both clauses are the same tree, as a removal of a rule asks. It takes no memory.
+    /// Whether both clauses are the same tree, as a removal of a rule asks; marks don't count. It takes
+    /// no memory.
     pub fn same_tree(&self, other: &Clause) -> bool
-        ensures { IsTrue result ↔ (self.now ≡ other.now) }
+        ensures { IsTrue result ↔ (self.now.tree ≡ other.now.tree) }
     {
         self.tree.same(&other.tree)
     }

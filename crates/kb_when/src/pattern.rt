@@ -7,6 +7,7 @@ use crate::flags::Flags;
 use kb_context::{NoMemory, Text};
 use regex::{Error, Regex, RegexBuilder};
 use std::alloc::{AllocError, Global};
+use std::fmt;
 use std::marker::Model;
 
 /// A pattern with its flags, compiled once. One that `regex` doesn't read is marked, and matches
@@ -56,6 +57,26 @@ impl Pattern {
                 Ok(matcher.is_match(text))
             }
         }
+    }
+}
+
+impl Pattern {
+    ghost use Rattle.std.specs.Prelude.{◌&&◌};
+    ghost use Rattle.std.specs.Str.{bytes_eq};
+    ghost use Rattle.kb_when.specs.Pattern.{same_flags};
+
+    /// Whether both are the same text with the same flags; marks don't count. It takes no memory.
+    pub(crate) fn is(&self, other: &Pattern) -> bool
+        ensures { result ≡
+            bytes_eq self.now.text other.now.text && same_flags self.now.flags other.now.flags }
+    {
+        self.text.as_str() == other.text.as_str() && self.flags.is(other.flags)
+    }
+}
+
+impl fmt::Debug for Pattern {
+    fn fmt<W: fmt::Write>(&self, f: &mut fmt::Formatter<W>) -> fmt::Result {
+        write!(f, "Pattern({:?}, {:?})", self.text, self.flags)
     }
 }
 
