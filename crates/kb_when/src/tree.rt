@@ -88,14 +88,12 @@ impl Tree {
         Tree::Not(tree)
     }
 
-    #[tactic(auto, using(crate::proofs::MarkedLemmas::trees_seen))]
     pub(crate) fn all(trees: Vec<Tree>) -> Tree
         ensures { clause_of result ≡ all_of (clauses_of (map clause_of trees.items)) }
     {
         Tree::And(trees)
     }
 
-    #[tactic(auto, using(crate::proofs::MarkedLemmas::trees_seen))]
     pub(crate) fn any(trees: Vec<Tree>) -> Tree
         ensures { clause_of result ≡ any_of (clauses_of (map clause_of trees.items)) }
     {
