@@ -2,6 +2,8 @@
 
 import dataclasses
 import os
+import re
+import tempfile
 
 from gate.kit import rt
 
@@ -22,6 +24,8 @@ class Edit:
     # The one function that it changes, or nothing, and whether it changes no more than the function's body.
     function: object
     is_of_body: bool
+    # Whether its texts stand once in that function, and perhaps more than once in the file, so that rt can't apply it.
+    is_within: bool
 
     @property
     def name(self):
@@ -32,22 +36,51 @@ class Edit:
         return "/".join(self.file.split("/")[-4:])
 
 
+def function_alone(file, folder, functions):
+    """The function that a line `within: NAME` of an edit names, or nothing."""
+    with open(file, encoding="utf-8") as text:
+        named = re.findall(r"(?m)^within: (\S+)$", text.read())
+    return next((it for it in functions if named == [it.plain_name()]), None), bool(named)
+
+
+def applied(file, folder, within):
+    """The edited files of a crate, beside what they were, or why the edit can't be applied. One within a function sees no other line."""
+    with tempfile.TemporaryDirectory() as room:
+        if within:
+            with open(os.path.join(folder, within.file), encoding="utf-8") as own:
+                lines = own.read().split("\n")
+            kept = [line if within.spans(at) else "" for at, line in enumerate(lines, 1)]
+            os.makedirs(os.path.dirname(os.path.join(room, within.file)))
+            with open(os.path.join(room, within.file), "w", encoding="utf-8") as own:
+                own.write("\n".join(kept))
+            folder = room
+        texts, fault = rt.read_edit(file, folder)
+        before = {}
+        for path in texts or {}:
+            with open(os.path.join(folder, path), encoding="utf-8") as own:
+                before[path] = own.read()
+    return texts or {}, before, fault or ""
+
+
 def read_edit(file, folder, functions):
     """An edit of the crate in this folder, which has these functions."""
     with open(file, encoding="utf-8") as text:
         guards = next((it[len("guards:") :].strip() for it in text if it.startswith("guards:")), "")
-    texts, fault = rt.read_edit(file, folder)
+    within, is_within = function_alone(file, folder, functions)
+    texts, before, fault = applied(file, folder, within)
+    if is_within and not within:
+        texts, fault = {}, "its line within: names no function"
     if not file.endswith(".edit"):
         texts, fault = {}, "its name doesn't end in .edit"
     changed = []
-    for path, text in (texts or {}).items():
-        with open(os.path.join(folder, path), encoding="utf-8") as own:
-            pairs = enumerate(zip(own.read().split("\n"), text.split("\n")), 1)
+    for path, text in texts.items():
+        pairs = enumerate(zip(before[path].split("\n"), text.split("\n")), 1)
         changed += [(path, number, old, new) for number, (old, new) in pairs if old != new]
     lines = {(path, number): new for path, number, _, new in changed}
     function = function_of(lines, functions)
     is_of_body = function is not None and all(function.has_in_body(*it[1:]) for it in changed)
-    return Edit(file, os.path.basename(os.path.dirname(file)), guards, lines, fault or "", function, is_of_body)
+    folder = os.path.basename(os.path.dirname(file))
+    return Edit(file, folder, guards, lines, fault, function, is_of_body, is_within)
 
 
 def function_of(lines, functions):
@@ -66,13 +99,21 @@ def edits_of(crate, functions, folders=FOLDERS):
     return found
 
 
-def texts_with(edits, crate):
-    """The files of the crate that these edits change, each edit at lines of its own."""
+def sources_of(crate):
+    """The sources of a crate as lists of lines, by their paths in it."""
     texts = {}
+    for file in rt.rtlib.files_of(crate.folder):
+        path = os.path.relpath(file, crate.folder)
+        if path.startswith("src/") and path.endswith(".rt"):
+            with open(file, encoding="utf-8") as text:
+                texts[path] = text.read().split("\n")
+    return texts
+
+
+def with_edits(edits, texts):
+    """Sources, as lists of lines, with these edits, each at lines of its own."""
+    changed = {path: [*lines] for path, lines in texts.items()}
     for edit in edits:
         for (path, number), line in edit.lines.items():
-            if path not in texts:
-                with open(os.path.join(crate.folder, path), encoding="utf-8") as own:
-                    texts[path] = own.read().split("\n")
-            texts[path][number - 1] = line
-    return {path: "\n".join(lines) for path, lines in texts.items()}
+            changed[path][number - 1] = line
+    return changed

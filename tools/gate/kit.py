@@ -3,10 +3,15 @@
 It may need a change when the kit changes.
 """
 
+import contextlib
+import copy
 import importlib.machinery
 import importlib.util
 import os
+import shutil
+import subprocess
 import sys
+import tempfile
 
 TOP = os.path.dirname(os.path.dirname(os.path.dirname(os.path.abspath(__file__))))
 
@@ -58,3 +63,27 @@ def built_libraries(crates):
         build = lambda given, jobs, it=library: it.build_rlib(["--jobs", "1"], anew=False) == 0
         tasks[library.name, "library"] = (waits, library.count(rb"\n"), rt.need(library), build)
     return all(rt.in_lanes(tasks).values())
+
+
+@contextlib.contextmanager
+def room_with(crate, texts):
+    """A copy of the crate's own texts, in a folder of its own, with these in place of its own or beside them."""
+    with tempfile.TemporaryDirectory(prefix="wrong-bodies-") as folder:
+        for part in rt.rtlib.PARTS:
+            if os.path.isdir(os.path.join(crate.folder, part)):
+                shutil.copytree(os.path.join(crate.folder, part), os.path.join(folder, part))
+        for path, text in texts.items():
+            file = os.path.join(folder, path)
+            os.makedirs(os.path.dirname(file), exist_ok=True)
+            with open(file, "w", encoding="utf-8") as own:
+                own.write(text)
+        room = copy.copy(crate)
+        room.folder = folder
+        yield room
+
+
+def check(crate, folder, flags, kept):
+    """Checks the texts in this folder as the crate's, over a folder of kept work."""
+    words = [rt.rtlib.RATTLE, "check", *crate.words(flags, keeps=False), "--incremental", kept]
+    how = {"stdin": subprocess.DEVNULL, "stdout": subprocess.PIPE, "stderr": subprocess.STDOUT, "errors": "replace"}
+    return subprocess.run([*rt.rtlib.guarded(), *words], cwd=folder, **how)

@@ -12,12 +12,13 @@ from gate.edits import edits_of
 from gate.said import Said
 from gate.source import functions_of
 from gate.trying import Crate, trouble_in, try_as_proved
+from gate.twins import Proofs
 
 SOURCE = """\
 //! A crate on which wrong bodies are tried.
 #![tactic(auto)]
 
-ghost use Rattle.std.specs.Prelude.{◌≡◌, ◌<◌, ◌+◌};
+ghost use Rattle.std.specs.Prelude.{◌≡◌, ◌≤◌, ◌<◌, ◌+◌};
 
 const LIMIT: u8 = 3;
 
@@ -46,14 +47,65 @@ pub fn same(given: u8) -> u8
 {
     given
 }
+
+#[derive(Drop)]
+pub struct Given {
+    pub number: u8,
+}
+
+pub struct Count {
+    pub number: u8,
+}
+
+impl From<Given> for Count {
+    ghost from_gives = { λ given made. made.number ≡ given.number };
+
+    fn from(given: Given) -> Count {
+        Count { number: given.number }
+    }
+}
+
+pub fn counted(number: u8) -> Count
+    ensures { result.number ≡ number }
+{
+    Count::from(Given { number })
+}
+
+pub fn climbed(height: u8) -> u8
+    ensures { result ≡ height }
+{
+    let mut at: u8 = 0;
+    while at < height {
+        at += 1;
+    }
+    at
+}
 """
+# What stands below proofs/, for the loop.
+PROOFS = {
+    "climbed/Invariants.antt": """\
+use Rattle.std.proofs.Common.{◌≡◌, ◌≤◌, ◌-◌}
+use Rattle.tiny.proofs.climbed.Given as goal
+
+abbrev pub invariant-loop-at : goal.invariant-loop-at
+invariant-loop-at l = (l.height ≡ l.fn.height) × (l.at ≤ l.height)
+
+abbrev pub decreases-loop-at : goal.decreases-loop-at
+decreases-loop-at l = l.height - l.at
+"""
+}
 # What each edit replaces, and how it must be judged.
 EDITS = {
     "callee_adds_two": ("    number + 1", "    number + 2", "in a batch"),
     "callee_adds_none": ("    number + 1", "    number", "in a batch"),
     "caller_by_other_words": ("next(next(number))", "next(number) + 1", "not refused"),
     "number_is_lost": ("    given", "    0", "in a batch"),
-    "constant_is_four": ("LIMIT: u8 = 3", "LIMIT: u8 = 4", "alone"),
+    "constant_is_four": ("LIMIT: u8 = 3", "LIMIT: u8 = 4", "in a batch"),
+    "trait_counts_none": ("number: given.number", "number: 0", "in a batch"),
+    "trait_counts_one": ("number: given.number", "number: 1", "in a batch"),
+    "caller_counts_none": ("Given { number })", "Given { number: 0 })", "in a batch"),
+    "climbs_by_other_words": ("        at += 1;", "        at = at + 1;", "not refused"),
+    "climbs_no_step": ("    while at < height", "    while at > height", "in a batch"),
     "text_is_not_there": ("LIMIT: u9", "LIMIT: u8", "not refused"),
 }
 FUNCTIONS = {"callee": 8, "caller": 16, "other": 24, "one_of_ring": 32, "two_of_ring": 40}
@@ -81,8 +133,7 @@ def said(*lines):
 
 
 def trouble(found, *units):
-    edits = [types.SimpleNamespace(function=types.SimpleNamespace(unit=it)) for it in units]
-    return trouble_in(types.SimpleNamespace(stdout="\n".join(found.lines)), found, edits, {})
+    return trouble_in(types.SimpleNamespace(stdout="\n".join(found.lines)), found, {*units}, {})
 
 
 class Reading(unittest.TestCase):
@@ -147,6 +198,8 @@ def made_crate(top):
     """A repository of one crate, with its edits."""
     write(f"{top}/crates.txt", "tiny:\n")
     write(f"{top}/crates/tiny/src/lib.rt", SOURCE)
+    for path, text in PROOFS.items():
+        write(f"{top}/crates/tiny/proofs/{path}", text)
     for name, (old, new, _) in EDITS.items():
         lines = ["guards: a test", "file: src/lib.rt", f"old: {old.rstrip()}", f"new: {new.rstrip()}", ""]
         write(f"{top}/crates/tiny/wrong-bodies/{name}.edit", "\n".join(lines))
@@ -175,9 +228,20 @@ class Trying(unittest.TestCase):
                 with self.subTest(it.edit.name, lines="\n".join(lines)):
                     how = ("in a batch" if it.batch else "alone") if it.is_refused else "not refused"
                     self.assertEqual(how, EDITS[it.edit.name.removesuffix(".edit")][2])
-            # Two edits of a function, and a caller with its callee, stand in different batches.
-            batches = [it.batch for it in trial.results.values() if it.edit.function and it.edit.function.name != "same" and it.batch]
-            self.assertEqual(len(batches), len({*batches}))
+            # Twins of one function stand in one batch; what changes a trait's function does not stand with another such edit.
+            batch_of = {it.edit.name.removesuffix(".edit"): it.batch for it in trial.results.values()}
+            self.assertEqual(batch_of["callee_adds_two"], batch_of["callee_adds_none"])
+            self.assertNotEqual(batch_of["trait_counts_none"], batch_of["trait_counts_one"])
+            self.assertEqual({it.name for it in trial.controlled}, {"climbed"})
+
+    def test_a_function_has_no_twin_where_another_file_names_its_proof(self):
+        with tempfile.TemporaryDirectory() as top:
+            crate = made_crate(top)
+            functions = functions_of(crate)
+            climbed = next(it for it in functions if it.name == "climbed")
+            self.assertTrue(Proofs(crate).let_twins_of(climbed, functions))
+            write(f"{top}/crates/tiny/proofs/Lemmas.antt", "use Rattle.tiny.proofs.climbed.Goals as goal\n")
+            self.assertFalse(Proofs(crate).let_twins_of(climbed, functions))
 
 
 def main():

@@ -37,9 +37,9 @@ class Function:
         return self.head <= line <= self.closes
 
     def has_in_body(self, line, old, new):
-        """Whether a line that becomes another changes no more than the body, and what the body is doesn't show elsewhere."""
+        """Whether a line that becomes another changes no more than the body."""
         is_behind = line == self.opens and old.endswith("{") and new.startswith(old)
-        return not self.is_const and (is_behind or self.opens < line <= self.closes)
+        return is_behind or self.opens < line <= self.closes
 
     def plain_name(self):
         return "::".join(it for it in (self.module, self.owner + self.trait, self.name) if it)
@@ -193,3 +193,37 @@ def named_in(function, functions):
             found |= {it for it in functions if it.name == "from" and it.trait and it.owner in function.signature}
         found |= {*named_at(words, at, function, functions)}
     return found - {function}
+
+
+CONSTANT = re.compile(r"^(?:pub(?:\([^)]*\))? )?(?:const|static) (\w+):")
+SPOKEN = re.compile(r"^\s*(?://|use |pub use )")
+
+
+def constants_of(lines):
+    """For each line, counted from 0, the constant outside of all blocks whose text it is, or nothing."""
+    found, name = [], ""
+    for line in lines:
+        if at := CONSTANT.match(line):
+            name = at[1]
+        elif line and not line.startswith((" ", "]", "}", ")")):
+            name = ""
+        found.append(name)
+    return found
+
+
+def users_of(edit, sources, functions):
+    """The functions whose bodies name the one constant that an edit changes, or none where other code names it too."""
+    if edit.function or any(path not in sources for path, _ in edit.lines):
+        return []
+    names = {constants_of(sources[path])[number - 1] for path, number in edit.lines}
+    if len(names) != 1 or names == {""}:
+        return []
+    word, users = re.compile(rf"\b{names.pop()}\b"), []
+    for path, lines in sources.items():
+        for at, (line, constant) in enumerate(zip(lines, constants_of(lines)), 1):
+            if word.search(line) and not SPOKEN.match(line) and not word.fullmatch(constant):
+                inside = [it for it in functions if it.file == path and it.opens < at <= it.closes]
+                if not inside:
+                    return []
+                users.append(inside[0])
+    return users

@@ -1,16 +1,19 @@
 """Tries a crate's wrong bodies, many at once.
 
 A function is proved from the contracts of what it calls, never from their bodies, so the wrong bodies of several
-functions are tried by one check, of a copy that has them all and of those functions alone. What such a check may tell
-of an edit is held to this, so that no edit passes for refused because of another edit of its batch:
+functions are tried by one check, of a copy of the crate that has them all and of those functions alone. A wrong body stands in a
+twin of its function, behind it, as tools/gate/twins.py says; where a function may have no twin, in its place. What
+such a check may tell of an edit is held to this, so that no edit passes for refused because of another of its batch:
 
-- An edit changes the body of one function, which isn't const. Any other is tried alone, and any second one of
-  a function, or of functions that share one proof (a cycle), stands in another batch.
-- An edit is refused where the check names a goal of that very function: at its lines, in its folder of proofs/, or in
-  its own line. A proof file that names what the edit took away is no such goal.
-- A function isn't judged beside an edit of one that it calls, so callers and callees part. One between them that no
-  edit changes only waits for what it calls, and its contract stands as it was. A function without a failing goal that
-  waits for what failed is tried again, in a batch without anything that it reaches.
+- An edit changes the body of one function, or a constant that only bodies name, which changes each of them. Any other is tried alone,
+  and so is one of a const function without a twin. In place stands at most one edit of a function, or of functions
+  that share one proof (a cycle).
+- An edit is refused where the check names a goal of the very twin or function that has it: at its lines, in its folder
+  of proofs/, or in its own line. A proof file that names what the edit took away is no such goal. While editing, a twin of a
+  function with files of proofs/ is judged only where its control, a twin without an edit, is proved.
+- Nothing is judged beside an edit in place of what it calls, so callers and callees part. One between them that no
+  edit changes only waits for what it calls, and its contract stands as it was. What has no failing goal and
+  waits for what failed is tried again, in a batch without anything in place that it reaches.
 - Where a goal of a function fails that no edit changes, or a lemma, the batch isn't judged: some edit reaches past its
   function. Its halves are tried, down to single edits.
 - What isn't refused so is tried alone, by a whole check over the kept work and then from nothing, and judged as rt
@@ -28,12 +31,15 @@ import tempfile
 import threading
 import time
 
-from gate.edits import edits_of, texts_with
-from gate.kit import built_libraries, rt
+from gate.edits import edits_of, sources_of, with_edits
+from gate.kit import built_libraries, check, room_with, rt
 from gate.said import Said
-from gate.source import functions_of, named_in
+from gate.source import functions_of, named_in, users_of
+from gate.twins import Proofs, Twin, with_twins
 
 FLAGS = ["--jobs", "1"]
+# Edits that one check tries: more take no less time, and trouble with one costs all.
+MOST = 30
 PROVED = re.compile(r"^rt: (\w+) proved$")
 printing = threading.Lock()
 
@@ -75,13 +81,46 @@ def closed(calls):
     return found
 
 
+@dataclasses.dataclass(eq=False)
+class Trial:
+    """An edit as a batch tries it: in a twin, or in its own place."""
+
+    edit: object
+    # The functions that it changes, where they stand: one, or those that name the constant that it changes.
+    functions: list
+    twin: object = None
+
+    @property
+    def changed(self):
+        """What stands changed in its own place."""
+        return set() if self.twin else {it.unit for it in self.functions}
+
+    @property
+    def units(self):
+        """Where a goal refuses the edit."""
+        return {self.twin.unit} if self.twin else self.changed
+
+    def plain_names(self):
+        return [it.plain_name() for it in ([self.twin] if self.twin else self.functions)]
+
+    def rests_on(self, other, calls):
+        """Whether what the other changes is what this one changes or calls."""
+        return any(other.changed & {it.unit, *calls[it.unit]} for it in self.functions)
+
+
 class Crate:
     """A crate under trial."""
 
-    def __init__(self, crate, functions, edits, kept, say, is_proved=False):
+    def __init__(self, crate, functions, edits, kept, say, is_proved=False, has_controls=True):
         self.crate, self.functions, self.kept, self.say = crate, functions, kept, say
-        self.edits, self.is_proved = edits, is_proved
+        self.edits, self.is_proved, self.has_controls = edits, is_proved, has_controls
         self.calls = calls_of(functions)
+        self.sources, self.proofs = sources_of(crate), Proofs(crate)
+        changed = {it.function for it in edits if it.is_of_body}
+        self.with_twins = {it for it in changed if self.proofs.let_twins_of(it, functions)}
+        self.users = {it: users_of(it, self.sources, functions) for it in edits if not it.fault}
+        # Functions whose control was proved.
+        self.controlled = set()
         # Edits of functions without a failing goal that waited for what failed.
         self.waited = set()
         self.results = {}
@@ -94,7 +133,7 @@ class Crate:
         for edit in self.edits:
             if edit.fault:
                 self.judged(Tried(edit, False, f"can't be applied: {edit.fault}"))
-        self.pending = [it for it in self.edits if not it.fault and it.is_of_body]
+        self.pending = [it for it in self.edits if not it.fault and self.trial_of(it)]
         while self.pending:
             self.try_batch(self.next_batch())
         for edit in self.edits:
@@ -107,43 +146,66 @@ class Crate:
         self.say(f"{self.crate.name}: {counts}, {time.time() - begun:.0f} s")
         return list(self.results.values())
 
-    def checked(self, texts, functions):
-        """Checks these functions of a copy of the crate with these files in it."""
-        names = [word for it in functions for word in ("--only", it.plain_name())]
-        return rt.checked(self.crate, texts, [*FLAGS, *names], self.kept)
+    def trial_of(self, edit):
+        """How a batch tries an edit, or nothing where none can."""
+        if not edit.is_of_body:
+            return Trial(edit, self.users[edit]) if self.users[edit] else None
+        if edit.function in self.with_twins:
+            name = f"{edit.function.name}_wrong_{self.edits.index(edit) + 1}"
+            return Trial(edit, [edit.function], Twin(edit.function, name, edit))
+        return None if edit.function.is_const else Trial(edit, [edit.function])
 
     def is_sound(self):
         """Whether what was tried is proved without an edit: the functions, and the whole crate where it was checked."""
-        functions = {it.edit.function for it in self.results.values() if it.batch}
-        is_proved = lambda these: self.checked({}, these).returncode == 0
+        tried = [it.edit for it in self.results.values() if it.batch]
+        names = {function.plain_name() for it in tried for function in self.trial_of(it).functions}
+        is_proved = lambda these: self.checked({}, sorted(these))[0].returncode == 0
         # (a check of no function in particular is one of the whole crate)
-        return (not functions or is_proved(functions)) and (not self.alone or is_proved(()))
+        return (not names or is_proved(names)) and (not self.alone or is_proved(()))
+
+    def checked(self, texts, names):
+        """Checks these functions, or all, of a copy of the crate with these files in it, and returns the copy's functions too."""
+        with room_with(self.crate, texts) as room:
+            words = [word for it in names for word in ("--only", it)]
+            return check(self.crate, room.folder, [*FLAGS, *words], self.kept), functions_of(room)
 
     def judged(self, tried):
         self.results[tried.edit] = tried
         self.say(f"{self.crate.name}/{tried.edit.name}: {tried.text}")
 
     def next_batch(self):
-        """Edits of functions that don't call one another, callers first: what they call is then proved and kept."""
+        """Trials that rest on nothing that another changes, those in place first, and of these callers first."""
         batch, reach = [], closed(self.calls)
-        for edit in sorted(self.pending, key=lambda it: -len(reach[it.function.unit])):
-            if all(self.are_apart(edit, it, reach) for it in batch):
-                batch.append(edit)
+        trials = [self.trial_of(it) for it in self.pending]
+        depth = lambda it: max(len(reach[function.unit]) for function in it.functions)
+        for one in sorted(trials, key=lambda it: (it.twin is not None, -depth(it))):
+            if len(batch) < MOST and all(self.are_apart(one, it, reach) for it in batch):
+                batch.append(one)
         return batch
 
     def are_apart(self, one, other, reach):
-        calls = reach if self.waited & {one, other} else self.calls
-        one, other = one.function.unit, other.function.unit
-        return one != other and one not in calls[other] and other not in calls[one]
+        calls = reach if self.waited & {one.edit, other.edit} else self.calls
+        return not one.rests_on(other, calls) and not other.rests_on(one, calls)
+
+    def controls_of(self, batch):
+        """The twins without an edit that stand beside those of a batch."""
+        twins = {it.twin.function for it in batch if it.twin} - self.controlled
+        needed = [it for it in self.functions if it in twins and self.proofs.of(it)]
+        return [Twin(it, f"{it.name}_wrong_0") for it in needed if self.has_controls]
 
     def try_batch(self, batch):
         """Tries edits by one check, and takes what needs no other batch from what is left."""
         self.batches += 1
         number, begun = self.batches, time.time()
-        texts = texts_with(batch, self.crate)
-        ran = self.checked(texts, [it.function for it in batch])
-        said = Said(ran.stdout, self.crate, self.functions)
-        trouble = trouble_in(ran, said, batch, texts)
+        controls = self.controls_of(batch)
+        twins = [*controls, *(it.twin for it in batch if it.twin)]
+        sources = with_edits([it.edit for it in batch if not it.twin], self.sources)
+        sources = {path: "\n".join(lines) for path, lines in with_twins(twins, sources).items()}
+        texts = {**sources, **{path: text for it in twins for path, text in self.proofs.of_twin(it).items()}}
+        names = [it.plain_name() for it in controls] + [name for it in batch for name in it.plain_names()]
+        ran, functions = self.checked(texts, names)
+        said = Said(ran.stdout, self.crate, functions)
+        trouble = trouble_in(ran, said, {unit for it in batch for unit in it.units} | {it.unit for it in controls}, sources)
         took = f"took {time.time() - begun:.0f} s{trouble and f', not judged: {trouble}'}"
         self.say(f"{self.crate.name}: batch {number} of {len(batch)} edits {took}")
         if trouble:
@@ -151,36 +213,55 @@ class Crate:
             for part in (batch[:half], batch[half:]) if half else ():
                 self.try_batch(part)
             if not half:
-                self.pending.remove(batch[0])
+                self.pending.remove(batch[0].edit)
             return
-        self.learn(said)
-        for edit in batch:
-            self.judge(edit, said, number, batch)
+        self.learn(said, twins)
+        for it in controls:
+            self.take_control(it, said)
+        for it in batch:
+            self.judge(it, said, number, batch)
 
-    def learn(self, said):
+    def learn(self, said, twins):
         """Adds what the check says of which function calls which."""
+        own = {it.unit: it.function.unit for it in twins}
         for unit, verdict in said.found.items():
             # (a block that isn't proved has a function that isn't)
             of_blocks = {it for name in verdict.waits for it in [*self.calls] if it.startswith(f"{name}::")}
-            self.calls.setdefault(unit, set()).update(verdict.waits | of_blocks)
+            self.calls.setdefault(own.get(unit, unit), set()).update(verdict.waits | of_blocks)
 
-    def judge(self, edit, said, number, batch):
-        unit = edit.function.unit
-        verdict = said.found[unit]
-        if any(it.function.unit in self.calls[unit] for it in batch):
+    def take_control(self, control, said):
+        """Counts a control as proved, or its function as one without twins, where the control itself has failed."""
+        verdict = said.found[control.unit]
+        if control.unit in said.named and verdict.is_proved:
+            self.controlled.add(control.function)
+        elif not verdict.waits:
+            self.say(f"{self.crate.name}: a copy of {control.function.unit} is not proved, so its edits are tried in place")
+            self.with_twins.discard(control.function)
+
+    def judge(self, trial, said, number, batch):
+        edit, verdicts = trial.edit, [(unit, said.found[unit]) for unit in sorted(trial.units)]
+        is_disturbed = any(it is not trial and trial.rests_on(it, self.calls) for it in batch)
+        if is_disturbed or trial.twin and edit.function not in self.with_twins:
             return
-        is_named = unit in said.named and verdict.goals and not verdict.unread
-        if not is_named and verdict.waits and edit not in self.waited:
+        refusing = [(unit, it) for unit, it in verdicts if unit in said.named and it.goals and not it.unread and not it.is_proved]
+        lacks_control = self.has_controls and trial.twin and self.proofs.of(edit.function) and edit.function not in self.controlled
+        waits = any(it.waits for _, it in verdicts)
+        if (lacks_control or waits and not refusing) and edit not in self.waited:
             self.waited.add(edit)
             return
         self.pending.remove(edit)
-        if is_named and not verdict.is_proved:
+        if refusing and not lacks_control:
+            unit, verdict = refusing[0]
             less = " (a proof file also names what the edit took away)" if verdict.lacks_names else ""
-            self.judged(Tried(edit, True, f"refused in batch {number}: `{verdict.goals[0]}` of {unit}{less}", number))
+            where = edit.function.unit if trial.twin else unit
+            self.judged(Tried(edit, True, f"refused in batch {number}: `{verdict.goals[0]}` of {where}{less}", number))
 
     def try_alone(self, edit):
         """Judges an edit as rt does a must-fail edit: over the kept work, and from nothing where it isn't refused."""
         begun = time.time()
+        if edit.is_within:
+            self.judged(Tried(edit, False, "NOT REFUSED in a batch, and rt can't apply it alone"))
+            return
         self.alone += 1
         is_refused, text = rt.must_fail(self.crate, edit.file, FLAGS, self.kept)
         if not is_refused:
@@ -191,8 +272,8 @@ class Crate:
         self.judged(Tried(edit, is_refused, f"{text} ({time.time() - begun:.0f} s)", says_little=says_little))
 
 
-def trouble_in(ran, said, batch, texts):
-    """Why a check of these edits tells nothing of them, or an empty text."""
+def trouble_in(ran, said, changed, texts):
+    """Why a check of edits of these units tells nothing of them, or an empty text."""
     if rt.rtlib.STALE.search(ran.stdout):
         return "the kept work of a library could not be used"
     if not said.lines[-1].startswith("only="):
@@ -201,14 +282,13 @@ def trouble_in(ran, said, batch, texts):
         return f"the prover cannot read an edited text: {bad[:120]}"
     if said.stray:
         return f"what failed is of no function: {said.stray[0][:120]}"
-    changed = {it.function.unit for it in batch}
     for unit, verdict in said.found.items():
         if unit not in changed and (verdict.goals or verdict.lacks_names or verdict.unread):
             return f"`{unit}` fails, which no edit changes"
     return ""
 
 
-def with_edits(crates):
+def crates_with_edits(crates):
     """The crates that have wrong bodies, each with its functions and edits."""
     for crate in crates:
         functions = functions_of(crate)
@@ -218,20 +298,20 @@ def with_edits(crates):
 
 
 def try_crate(crate, functions, edits, is_kept=False, is_proved=False):
-    """Tries a crate's edits over a folder of kept work."""
+    """Tries a crate's edits over a folder of kept work, with controls where the crate wasn't just proved."""
     with tempfile.TemporaryDirectory(prefix="wrong-bodies-") as folder:
         if is_kept:
             checked, folder = (os.path.join(crate.folder, "out", it) for it in ("incremental", "edits"))
             if os.path.isdir(checked) and not os.path.isdir(folder):
                 shutil.copytree(checked, folder)
             os.makedirs(folder, exist_ok=True)
-        return Crate(crate, functions, edits, folder, say, is_proved).try_all()
+        return Crate(crate, functions, edits, folder, say, is_proved, not is_proved).try_all()
 
 
 def try_crates(crates, is_kept=False):
     """Tries the wrong bodies of these crates side by side, and says whether all are refused."""
     tasks, chosen = {}, []
-    for crate, functions, edits in with_edits(crates):
+    for crate, functions, edits in crates_with_edits(crates):
         chosen.append(crate)
         call = lambda given, jobs, it=(crate, functions, edits): try_crate(*it, is_kept)
         tasks[crate.name, "edits"] = ([], len(edits) * crate.count(rb"\n"), rt.need(crate), call)
@@ -244,7 +324,7 @@ def try_crates(crates, is_kept=False):
 def try_as_proved(crates, lines):
     """Tries the wrong bodies of each crate once these lines of rt ci, which it passes on, say that the crate is proved."""
     os.nice(10)
-    waiting = {it[0].name: it for it in with_edits(crates)}
+    waiting = {it[0].name: it for it in crates_with_edits(crates)}
     running, proved = [], set()
     with concurrent.futures.ThreadPoolExecutor(rt.processors()) as pool:
         for line in lines:

@@ -1,4 +1,5 @@
 pub mod Context
 pub mod Layout
+pub mod Marked
 pub mod UserFile
 pub mod Value

@@ -1,29 +1,44 @@
 //! The user's rules, read from the bytes of their file.
-ghost use Rattle.std.specs.Prelude.{◌≡◌, map};
+ghost use Rattle.std.specs.Prelude.{◌≡◌, map, IfOk};
 ghost use Rattle.serde_json.specs.View.{view};
 ghost use Rattle.kb_context.specs.Failure.{Gives};
 ghost use Rattle.kb_context.specs.Reading.{seen};
-ghost use Rattle.kb_files.specs.UserFile.{user_rules, elements_in};
+ghost use Rattle.kb_files.specs.Marked.{ReadsBy};
+ghost use Rattle.kb_files.specs.UserFile.{user_rules, elements_in, elements_held, listed_of};
 
 use crate::value::read_value;
-use kb_context::{Failure, Refusal};
+use kb_context::{Failure, NoMemory, Refusal};
 use kb_manifest::{FileFault, elements_in};
-use kb_rules::{RuleList, read_list};
+use kb_rules::{Origin, RuleList, read_list};
 use serde_json::Value;
 use std::alloc::Global;
 
-/// The rules of a user's file, with a warning for each element that is dropped: JSON with comments
-/// whose value is an array, as VS Code's `keybindings.json`.
+/// The rules of a user's file, with a warning for each element that is dropped, and the patterns that
+/// aren't read: JSON with comments whose value is an array, as VS Code's `keybindings.json`.
 ///
 /// Errors: the first fault of the file, those of its text (1 to 4) and then another shape (41); or
 /// `NoMemory`.
 #[tactic(auto, unfolding(crate::specs::UserFile::user_rules))]
 pub fn read_user_rules(alloc: Global, bytes: &[u8]) -> Result<RuleList, Failure<Refusal>>
-    ensures { Gives (λ list. list) result (user_rules bytes.now) }
+    ensures { ReadsBy (λ marks. user_rules marks bytes.now) result }
+{
+    let elements = read_elements(alloc, bytes)?;
+    Ok(list_elements(alloc, elements)?)
+}
+
+/// What the elements of a file give, of which each is a rule or has a warning.
+fn list_elements(alloc: Global, elements: Vec<Value>) -> Result<RuleList, NoMemory>
+    ensures { IfOk result (λ list. list ≡ listed_of list.unread (map view elements.items)) }
+{
+    read_list(alloc, elements, Origin::User, None)
+}
+
+/// The elements that the bytes of a file hold.
+fn read_elements(alloc: Global, bytes: &[u8]) -> Result<Vec<Value>, Failure<Refusal>>
+    ensures { Gives (λ elements. map view elements.items) result (elements_held bytes.now) }
 {
     let value = read_value(alloc, bytes)?;
-    let elements = rule_elements(value).map_err(Failure::Fault)?;
-    Ok(read_list(alloc, elements)?)
+    rule_elements(value).map_err(Failure::Fault)
 }
 
 /// The elements of a file, which has to be an array (else 41). It takes no memory.

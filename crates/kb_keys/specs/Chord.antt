@@ -2,6 +2,7 @@
 use Rattle.std.specs.Prelude.{ℕ, List, [], ◌∷◌, ◌++◌, Bool, cond, ◌==◌, not, map, filter, nat_lt, length}
 use Rattle.std.specs.Prelude.{Result, Ok, Err}
 use Rattle.std.specs.List.{slice_split, starts_with, join_with_byte}
+use Rattle.std.specs.Cmp.Lexicographic.{pointwise}
 use Rattle.kb_keys.specs.declared.key_fault.KeyFault.{KeyFault}
 use Rattle.kb_keys.specs.declared.key_fault.KeyFault.TheVariants.{TooManySteps, EmptyKey}
 use Rattle.kb_keys.specs.declared.keystroke.Keystroke.{Keystroke}
@@ -62,3 +63,7 @@ chord_spelling strokes = join_with_byte 32 (map spelling strokes)
 -- whether the first keystrokes are the pressed ones
 abbrev pub begins_with : List Keystroke → List Keystroke → Bool
 begins_with chord pressed = starts_with same_stroke chord pressed
+
+-- whether the keystrokes are the same, in the same order
+abbrev pub same_keys : List Keystroke → List Keystroke → Bool
+same_keys one other = pointwise same_stroke one other

@@ -4,3 +4,4 @@ pub mod KeyName
 pub mod Keystroke
 pub mod Modifier
 pub mod Modifiers
+pub mod Platform

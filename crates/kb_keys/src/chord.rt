@@ -4,7 +4,7 @@ ghost use Rattle.std.specs.Prelude.{string_bytes, option_to_list, IsTrue, IsSome
 ghost use Rattle.std.specs.Str.{IsUtf8};
 ghost use Rattle.kb_keys.specs.Keystroke.{KnownKeys};
 ghost use Rattle.kb_keys.specs.Chord.{chord_limit, chord_of, steps_of, with_step, chord_spelling};
-ghost use Rattle.kb_keys.specs.Chord.{spelling_after, begins_with};
+ghost use Rattle.kb_keys.specs.Chord.{spelling_after, begins_with, same_keys};
 
 use crate::key_fault::KeyFault;
 use crate::keystroke::Keystroke;
@@ -157,7 +157,8 @@ impl Chord {
 
     /// Whether the chords have the same keystrokes in the same order.
     pub fn same_keys(&self, other: &Chord) -> bool
-        ensures { IsTrue result ↔ (self.now ≡ other.now) }
+        ensures value { result ≡ same_keys self.now other.now }
+        ensures meaning { IsTrue result ↔ (self.now ≡ other.now) }
     {
         self == other
     }

@@ -5,7 +5,6 @@ use Rattle.std.proofs.lemmas.List.{drop_more, drop_all}
 use Rattle.std.specs.Borrow.{Bor}
 use Rattle.std.specs.Prelude.{Option, Some, None, Result, Ok, Err, option_map}
 use Rattle.std.specs.Io.KnownBytes.{append_known}
-use Rattle.kb_context.specs.Failure.{Fails}
 use Rattle.kb_context.specs.declared.failure.Failure.{Failure}
 use Rattle.kb_context.specs.declared.failure.Failure.TheVariants as failure
 use Rattle.kb_ending.specs.Files.{Held, unknown, refuses, holds, HasRead, Opens, NamesBytes, NamesFile}
@@ -14,9 +13,8 @@ use Rattle.kb_ending.specs.Voice.{Heard, Says}
 use Rattle.kb_ending.specs.declared.outcome.Stop.{Stop}
 use Rattle.kb_main.specs.Run.{warning_text, FailsToLoad, HasBytes, HasScript, script_bytes}
 use Rattle.kb_rules.specs.declared.warning.Warning.{Warning}
-use Rattle.kb_session.specs.State.{State}
+use Rattle.kb_session.specs.Session.{LoadsBy, loaded}
 use Rattle.kb_session.specs.declared.fault.LoadFault.{LoadFault}
-use Rattle.kb_stream.specs.Fold.{Traced}
 
 says_nothing : (before : Heard) → Says before before []
 says_nothing before whole = (whole, Appends-nil before.said)
@@ -39,10 +37,10 @@ pub warned_none : (before : Heard) (warnings : List Warning) (i : ℕ) → lengt
 warned_none before warnings i past = rw (drop_all i warnings past) (says_nothing before)
 
 -- a load that fails stops the run
-pub load_fails : (meant : Result (Traced State) LoadFault) (failed : Failure LoadFault) → Fails failed meant
-    → FailsToLoad meant (load_stop failed)
-load_fails meant failure.NoMemory fails = tt
-load_fails meant (failure.Fault fault) fails = fails
+pub load_fails : (layout : Option (List ℕ)) (user : List ℕ) (failed : Failure LoadFault)
+    → LoadsBy (λ marks. loaded marks layout user) (Err failed) → FailsToLoad layout user (load_stop failed)
+load_fails layout user failure.NoMemory fails = tt
+load_fails layout user (failure.Fault fault) fails = fails
 
 pub nothing_left : (had : Option (List ℕ)) → had ≡ append_known had []
 nothing_left None = refl

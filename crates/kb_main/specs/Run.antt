@@ -17,12 +17,12 @@ use Rattle.kb_options.specs.declared.given.OptionsFault.TheVariants.{Line}
 use Rattle.kb_options.specs.declared.given.OptionsFault.TheVariants as options
 use Rattle.kb_options.specs.declared.given.WordsFault.{WordsFault}
 use Rattle.kb_options.specs.declared.given.WordsFault.TheVariants as words
+use Rattle.kb_rules.specs.declared.unread.UnreadAt.{UnreadAt}
 use Rattle.kb_rules.specs.declared.warning.Warning.{Warning}
 use Rattle.kb_script.specs.ScriptRun.{Answers}
 use Rattle.kb_script.specs.declared.fault.ScriptFault.{ScriptFault}
 use Rattle.kb_session.specs.Session.{loaded}
 use Rattle.kb_session.specs.State.{State}
-use Rattle.kb_session.specs.declared.fault.LoadFault.{LoadFault}
 use Rattle.kb_stream.specs.Fold.{Traced}
 
 -- ---- the script
@@ -68,33 +68,33 @@ pub record Silent (o : Streams) : Type 0 where
   pub said : o.said ≡ o.said_before
   pub printed : (left : List ℕ) × (o.had ≡ append_known o.has left)
 
--- the script was reached: each entry that the load left out is said in its line, and the script was played
-pub record Played (meant : Result (Traced State) LoadFault) (script : Option (List ℕ)) (o : Streams)
+-- the script was reached: the session is what its files load for the marks that it tells, each entry that the
+-- load left out is said in its line, and the script was played
+pub record Played (layout : Option (List ℕ)) (user : List ℕ) (script : Option (List ℕ)) (o : Streams)
     (end : Result (Unit {0}) Stop) : Type 0 where
   pub session : Traced State
-  pub loaded_is : meant ≡ Ok session
+  pub loaded_is : loaded session.state.user.unread layout user ≡ Ok session
   pub warned : Says o.said_before o.said (warning_text session.state.user.warnings)
   pub new : Traced State
   pub plays : PlaysAny script session new o.had o.has end
 
--- why nothing was loaded
-abbrev pub FailsToLoad : Result (Traced State) LoadFault → Stop → Type 0
-FailsToLoad meant (CannotRead path) = ⊥
-FailsToLoad meant (Load fault) = meant ≡ Err fault
-FailsToLoad meant (Script fault) = ⊥
-FailsToLoad meant NoMemory = ⊤
+-- why nothing was loaded; the marks of patterns make no fault
+abbrev pub FailsToLoad : Option (List ℕ) → List ℕ → Stop → Type 0
+FailsToLoad layout user (CannotRead path) = ⊥
+FailsToLoad layout user (Load fault) = (marks : List UnreadAt) → loaded marks layout user ≡ Err fault
+FailsToLoad layout user (Script fault) = ⊥
+FailsToLoad layout user NoMemory = ⊤
 
-pub record NotLoaded (meant : Result (Traced State) LoadFault) (o : Streams) (end : Result (Unit {0}) Stop)
-    : Type 0 where
+pub record NotLoaded (layout : Option (List ℕ)) (user : List ℕ) (o : Streams)
+    (end : Result (Unit {0}) Stop) : Type 0 where
   pub stop : Stop
   pub end_is : end ≡ Err stop
-  pub why : FailsToLoad meant stop
+  pub why : FailsToLoad layout user stop
   pub silent : Silent o
 
--- what a run does with what its files hold
-abbrev pub Runs : Result (Traced State) LoadFault → Option (List ℕ) → Streams → Result (Unit {0}) Stop
-    → Type 0
-Runs meant script o end = NotLoaded meant o end ⊎ Played meant script o end
+-- what a run does with what its files hold, by the marks of the patterns of the user's rules
+abbrev pub Runs : Option (List ℕ) → List ℕ → Option (List ℕ) → Streams → Result (Unit {0}) Stop → Type 0
+Runs layout user script o end = NotLoaded layout user o end ⊎ Played layout user script o end
 
 -- the script's bytes, where they are known: those of its file, or of standard input
 abbrev pub script_bytes : {F : Type 0} → (F → Option (List ℕ)) → Option F → Option (List ℕ) → Option (List ℕ)
@@ -122,7 +122,7 @@ pub record FilesRun (held : List ℕ → Held) (given : Options) (input : Option
   pub layout_had : HasBytes held given.layout layout
   pub user_had : HasBytes held given.user user
   pub script_had : HasScript held given.script input script
-  pub runs : Runs (loaded layout (unwrap_or user [])) script o end
+  pub runs : Runs layout (unwrap_or user []) script o end
 
 -- a file was not had: one that an option names wasn't read, or didn't open
 pub record FileMissing (held : List ℕ → Held) (given : Options) (o : Streams) (end : Result (Unit {0}) Stop)

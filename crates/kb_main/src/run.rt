@@ -4,7 +4,6 @@ ghost use Rattle.std.specs.Prelude.{◌≡◌, [], option_map, unwrap_or};
 ghost use Rattle.std.specs.Io.Buffered.{writer_contents, writer_inner};
 ghost use Rattle.kb_ending.specs.Voice.{Says, heard_by};
 ghost use Rattle.kb_main.specs.Run.{CarriesOut, Runs, Plays, PlaysAny, script_bytes, warning_text};
-ghost use Rattle.kb_session.specs.Session.{loaded};
 
 use kb_ending::{
     Console, FileSource, Stop, Voice, WarningLine, bytes_named, file_named, lent, script_stop,
@@ -67,7 +66,7 @@ fn run_loaded<'a, S: Read + Drop, I: Read, O: Write + Drop, C: Console + Drop>(
     trace: &mut BufWriter<O>,
     voice: &mut Voice<C>,
 ) -> Result<(), Stop<'a>>
-    ensures { Runs (loaded (option_map (λ layout. layout.now) inputs.entry.layout) inputs.entry.user.now)
+    ensures { Runs (option_map (λ layout. layout.now) inputs.entry.layout) inputs.entry.user.now
         (script_bytes S.remaining script (I.remaining input.old)) (record {
           said_before = heard_by C.said voice.old;
           said = heard_by C.said voice.new;

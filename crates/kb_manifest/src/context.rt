@@ -38,7 +38,10 @@ pub fn read_context(alloc: Global, value: Value) -> Result<ContextValue, Failure
 }
 
 /// The texts that the elements of a list are.
-fn read_texts(alloc: Global, elements: Vec<Value>) -> Result<Seq<Text>, Failure<FileFault>>
+pub(crate) fn read_texts(
+    alloc: Global,
+    elements: Vec<Value>,
+) -> Result<Seq<Text>, Failure<FileFault>>
     ensures { Gives (λ texts. texts) result
         (or_fault WrongShape (each as_str (listed (items_view elements.items)))) }
 {

@@ -65,7 +65,7 @@ fn lack_names(scopes: &[Value]) -> bool
 }
 
 /// Whether a value is an object without a member.
-fn lacks(value: &Value, name: &str) -> bool
+pub(crate) fn lacks(value: &Value, name: &str) -> bool
     ensures { result ≡ lacks name.now (view value.now) }
 {
     value.is_object() && value.get(name).is_none()

@@ -1,13 +1,27 @@
-//! The reading of manifests: JSON values become layouts and context values. Texts are moved out of
-//! the values, which are taken.
+//! The reading of files that are JSON: values become layouts, context values and manifests of
+//! extensions. Texts are moved out of the values, which are taken.
 #![tactic(auto)]
 
+pub mod command;
+pub mod command_table;
+mod condition;
 pub mod context;
 pub mod fault;
+mod judged;
 pub mod layout;
+pub mod manifest;
+mod member;
+pub mod palette_item;
 pub mod parts;
+mod points;
+pub mod warning;
 
+pub use command::Command;
+pub use command_table::{CommandTable, Named};
 pub use context::read_context;
 pub use fault::FileFault;
 pub use layout::read_layout;
+pub use manifest::Manifest;
+pub use palette_item::PaletteItem;
 pub use parts::{elements_in, members_in, take_member, text_in};
+pub use warning::{Notes, Part, Unread, Warning};

@@ -3,21 +3,31 @@ use Rattle.std.specs.Prelude.{◌≡◌, ◌<◌, List, [], ◌∷◌, ◌++◌,
 use Rattle.std.specs.Prelude.{if◌then◌else◌, Option, None, Some, All}
 use Rattle.std.specs.Option.{option_or}
 use Rattle.kb_context.specs.Scopes.{Keys}
-use Rattle.kb_when.specs.Clause.{Clause}
+use Rattle.kb_when.specs.Clause.{patterns_of}
+use Rattle.kb_when.specs.Marks.{MarkedClause}
 use Rattle.kb_when.specs.Value.{value}
 use Rattle.kb_keys.specs.declared.keystroke.Keystroke.{Keystroke}
 use Rattle.kb_keys.specs.Chord.{begins_with}
 use Rattle.kb_rules.specs.declared.rule.Rule.{Rule}
 use Rattle.kb_resolve.specs.Resolved.{Resolution, found, more, nothing}
 
--- a clause, if there is one, holds over these keys
-abbrev pub when_holds : Keys → Option Clause → Bool
+-- a clause, if there is one, holds over these keys by the marks of its patterns
+abbrev pub when_holds : Keys → Option MarkedClause → Bool
 when_holds keys None = true
-when_holds keys (Some clause) = value keys clause
+when_holds keys (Some clause) = value keys clause.marks clause.tree
 
 -- the rule's keystrokes begin with the pressed ones, and its clause holds
 abbrev pub matches : Keys → List Keystroke → Rule → Bool
 matches keys pressed rule = begins_with rule.chord pressed && when_holds keys rule.when
+
+-- a clause has a pattern, whose search may be refused memory
+abbrev pub HasPattern : Option MarkedClause → Type 0
+HasPattern None = ⊥
+HasPattern (Some clause) = 0 < length (patterns_of clause.tree)
+
+-- the rule's keystrokes begin with the pressed ones, so its clause is asked, and that has a pattern
+abbrev pub AsksPattern : List Keystroke → Rule → Type 0
+AsksPattern pressed rule = (begins_with rule.chord pressed ≡ true) × HasPattern rule.when
 
 -- of the rules that pass a test the one of greatest position, or none
 abbrev pub last_where : (Rule → Bool) → List Rule → Option Rule

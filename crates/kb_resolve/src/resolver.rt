@@ -1,8 +1,8 @@
 //! The search for the rule that pressed keystrokes choose.
-ghost use Rattle.std.specs.Prelude.{◌≡◌, ◌<◌, length, map, option_map, IfOk, IsOk};
+ghost use Rattle.std.specs.Prelude.{◌≡◌, ◌<◌, length, map, option_map, IfOk, IfErr};
 ghost use Rattle.kb_context.specs.Scopes.{context};
 ghost use Rattle.kb_resolve.specs.Resolved.{more, resolution_of};
-ghost use Rattle.kb_resolve.specs.Resolver.{chosen, matches, resolved, IsGreatest};
+ghost use Rattle.kb_resolve.specs.Resolver.{chosen, matches, resolved, IsGreatest, AsksPattern};
 
 use crate::resolved::Resolved;
 use kb_context::{NoMemory, Scopes};
@@ -42,7 +42,8 @@ impl Resolver {
     /// pressed ones and whose clause, if it has one, holds over what the focus of the scopes sees (VS
     /// Code's documentation: the rules are evaluated from the bottom to the top, and the first that
     /// matches in key and clause counts). A rule with the empty command is found as any other. The
-    /// rule is lent. Want of memory is a clause's (`Clause::holds`): nothing else takes memory.
+    /// rule is lent. Want of memory is that of a pattern in a clause (`Clause::holds`): nothing else takes
+    /// memory.
     #[tactic(auto, using(crate::proofs::ResolverLemmas::resolved_is_greatest))]
     pub fn resolve<'r>(
         &'r self,
@@ -76,9 +77,8 @@ fn lowest<'r>(
     pressed: &[Keystroke],
     scopes: &Scopes,
 ) -> Result<Option<&'r Rule>, NoMemory>
-    ensures value { IfOk result (λ found. option_map (λ rule. rule.now) found
+    ensures { IfOk result (λ found. option_map (λ rule. rule.now) found
         ≡ chosen pressed.now (context scopes.now) (map (λ r. r.value) rules.now)) }
-    ensures always { IsOk result }
 {
     for rule in rules.iter().rev() {
         if matches(rule, pressed, scopes)? {
@@ -93,7 +93,7 @@ fn lowest<'r>(
 fn matches(rule: &Rule, pressed: &[Keystroke], scopes: &Scopes) -> Result<bool, NoMemory>
     ensures value { IfOk result (λ answer.
         answer ≡ matches (context scopes.now) pressed.now rule.now) }
-    ensures always { IsOk result }
+    ensures memory { IfErr result (λ _. AsksPattern pressed.now rule.now) }
 {
     if !rule.chord.begins_with(pressed) {
         return Ok(false);

@@ -1,7 +1,7 @@
 //! Clauses: their faults, their trees, and whether they hold.
 use crate::answers::{fault, truth};
 use kb_context::{Failure, NoMemory, Scopes};
-use kb_when::{Clause, WhenFault};
+use kb_when::{Clause, UnreadPattern, WhenFault};
 use std::alloc::{AllocError, Global};
 
 fn when_fault(alloc: Global, wrong: Failure<WhenFault>) -> Result<String, NoMemory> {
@@ -60,6 +60,30 @@ fn add_fault_of(alloc: Global, text: &str, said: &mut String) -> Result<(), NoMe
             write!(said, "{number}")
         }
         Err(Failure::NoMemory) => Err(AllocError),
+    }
+}
+
+fn listed(alloc: Global, unread: &[UnreadPattern]) -> Result<String, NoMemory> {
+    if unread.is_empty() {
+        return String::from_str(alloc, "none");
+    }
+    let mut said = String::new(alloc);
+    for entry in unread {
+        if !said.is_empty() {
+            said.push(' ')?;
+        }
+        let number = entry.number;
+        write!(said, "{number}:")?;
+        said.push_str(entry.pattern.as_str())?;
+    }
+    Ok(said)
+}
+
+/// The patterns of a clause that `regex` doesn't read, each behind its number.
+pub(crate) fn unread(alloc: Global, text: &str) -> Result<String, NoMemory> {
+    match Clause::parse(alloc, text) {
+        Ok(clause) => listed(alloc, clause.unread()),
+        Err(wrong) => when_fault(alloc, wrong),
     }
 }
 

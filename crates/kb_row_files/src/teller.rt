@@ -5,7 +5,7 @@
 //! ` => ` and its answer; a line that begins with `#` is for the reader too. Of a block of kind
 //! `session` see there.
 use crate::escapes::{bytes_of, shown};
-use crate::{answers, clauses, natives, scopes, sessions, transcripts};
+use crate::{answers, clauses, manifests, natives, rules, scopes, sessions, transcripts};
 use kb_context::{NoMemory, Scopes};
 use std::alloc::Global;
 use std::str;
@@ -33,6 +33,9 @@ fn answer_of_text(
     text: &str,
 ) -> Result<String, NoMemory> {
     match kind {
+        "rules linux" => rules::in_force(alloc, "linux", text),
+        "rules mac" => rules::in_force(alloc, "mac", text),
+        "rules win" => rules::in_force(alloc, "win", text),
         "chord" => answers::chord(alloc, text),
         "keystroke" => answers::stroke(alloc, text),
         "plain" => answers::bare(alloc, text),
@@ -41,6 +44,7 @@ fn answer_of_text(
         "arguments" => natives::arguments(alloc, text),
         "transcript" => transcripts::text(alloc, text),
         "tree" => clauses::same(alloc, text),
+        "unread" => clauses::unread(alloc, text),
         _ => match scopes {
             Some(scopes) => answer_over(alloc, kind, scopes, text),
             None => String::from_str(alloc, "no scopes"),
@@ -57,6 +61,7 @@ fn answer(
     let bytes = bytes_of(alloc, &[], row)?;
     match kind {
         "json" => answers::json(alloc, bytes.as_slice()),
+        "manifest" => manifests::manifest(alloc, bytes.as_slice()),
         "layout" => scopes::layout(alloc, bytes.as_slice(), scopes),
         _ => match str::from_utf8(bytes.as_slice()) {
             Ok(text) => answer_of_text(alloc, kind, scopes, text),

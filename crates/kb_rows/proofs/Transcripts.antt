@@ -8,6 +8,7 @@ use Rattle.kb_files.specs.Layout.{layout_scopes}
 use Rattle.kb_files.specs.UserFile.{user_rules}
 use Rattle.kb_rows.specs.Transcript.{FailsToRun}
 use Rattle.kb_rules.specs.RuleList.{Listed}
+use Rattle.kb_rules.specs.declared.unread.UnreadAt.{UnreadAt}
 use Rattle.kb_script.specs.ScriptRun.{Fails}
 use Rattle.kb_script.specs.declared.fault.ScriptFault.{ScriptFault}
 use Rattle.kb_script.specs.declared.fault.ScriptFault.TheVariants as script
@@ -27,10 +28,10 @@ loads_running (Ok scopes) (Err refusal) = refl
 loads_running (Ok scopes) (Ok user) = refl
 
 -- a session that was just loaded isn't stopped
-pub loaded_runs : (layout : Option (List ℕ)) (user : List ℕ) (session : Traced State)
-    → loaded layout user ≡ Ok session → session.state.stopped ≡ false
-loaded_runs layout user session is =
-    sym (ap is_stopped is) ∙ loads_running (layout_scopes layout) (user_rules user)
+pub loaded_runs : (marks : List UnreadAt) (layout : Option (List ℕ)) (user : List ℕ) (session : Traced State)
+    → loaded marks layout user ≡ Ok session → session.state.stopped ≡ false
+loaded_runs marks layout user session is =
+    sym (ap is_stopped is) ∙ loads_running (layout_scopes layout) (user_rules marks user)
 
 apart : false ≡ true → ⊥
 apart e = cc

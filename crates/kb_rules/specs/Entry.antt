@@ -1,23 +1,32 @@
--- The rule that an element of a rule file is, or the number of its first fault.
-use Rattle.std.specs.Prelude.{ℕ, not, Bool, List, Option, None, Some, Result, Ok, Err, if◌then◌else◌, codes}
-use Rattle.std.specs.Prelude.{nat_eq, option_map}
-use Rattle.std.specs.List.{list_all, starts_with}
+-- The rule or the removal that an element of a list of rules is, or the number of its first fault.
+use Rattle.std.specs.Prelude.{ℕ, ◌==◌, List, [], ◌∷◌, Option, None, Some, Result, Ok, Err, if◌then◌else◌}
+use Rattle.std.specs.Prelude.{codes, option_map}
+use Rattle.std.specs.Option.{option_or}
+use Rattle.std.specs.List.{list_all}
 use Rattle.kb_context.specs.Blank.{is_blank}
 use Rattle.kb_context.specs.Reading.{◌>>=◌, or_fault, or_default, unless}
 use Rattle.kb_context.specs.declared.failure.Failure.{Failure}
 use Rattle.kb_context.specs.declared.failure.Failure.TheVariants.{NoMemory, Fault}
 use Rattle.kb_keys.specs.KeyFault as key
 use Rattle.kb_keys.specs.declared.keystroke.Keystroke.{Keystroke}
+use Rattle.kb_keys.specs.declared.platform.Platform.{Platform}
 use Rattle.kb_keys.specs.Chord.{chord_of}
+use Rattle.kb_keys.specs.Platform.{platform_name}
 use Rattle.kb_when.specs.WhenFault as when
 use Rattle.kb_when.specs.declared.fault.WhenFault.{WhenFault}
 use Rattle.kb_when.specs.Clause.{Clause}
 use Rattle.kb_when.specs.ClauseText.{clause_in}
+use Rattle.kb_when.specs.Marks.{MarkedClause}
+use Rattle.kb_when.specs.Unread.{marked_by}
 use Rattle.serde_json.specs.Data.{Data, Members}
 use Rattle.serde_json.specs.Find.{get_member, as_object, as_str}
 use Rattle.serde_json.specs.View.{view}
+use Rattle.kb_rules.specs.declared.entry.Binding.{Binding}
+use Rattle.kb_rules.specs.declared.entry.Binding.TheVariants as binding
+use Rattle.kb_rules.specs.declared.entry.Entry.{Entry}
+use Rattle.kb_rules.specs.declared.entry.Entry.TheVariants as entry
 use Rattle.kb_rules.specs.declared.entry.Parts.{Parts}
-use Rattle.kb_rules.specs.declared.rule.Rule.{Rule}
+use Rattle.kb_rules.specs.declared.origin.Origin.{Origin}
 use Rattle.kb_rules.specs.Whole.{is_whole}
 
 -- the same reading, with its fault by the fault's number
@@ -40,16 +49,22 @@ text_of d = or_fault 41 (as_str d)
 abbrev pub required_text : Option Data → Result (List ℕ) ℕ
 required_text member = or_fault 40 member >>= text_of
 
--- the command begins with `-`
-abbrev pub is_removal : List ℕ → Bool
-is_removal command = starts_with nat_eq command (codes "-")
+-- the command that a removal names: what stands behind the `-`
+abbrev pub removed_command : List ℕ → Option (List ℕ)
+removed_command [] = None
+removed_command (byte ∷ bytes) = if byte == 45 then Some bytes else None
 
--- a command that is no removal
-unfoldable pub command_of : Option Data → Result (List ℕ) ℕ
-command_of member = required_text member >>= λ command. unless 41 (not (is_removal command)) command
+-- the keystrokes of a text
+abbrev pub chord_in : List ℕ → Result (List Keystroke) ℕ
+chord_in text = by_number key.number_of (chord_of text)
 
 unfoldable pub keystrokes_of : Option Data → Result (List Keystroke) ℕ
-keystrokes_of member = required_text member >>= λ text. by_number key.number_of (chord_of text)
+keystrokes_of member = required_text member >>= chord_in
+
+-- those of a removal, which may have none
+unfoldable pub removed_keystrokes_of : Option Data → Result (Option (List Keystroke)) ℕ
+removed_keystrokes_of member =
+    or_default None (λ d. text_of d >>= λ text. chord_in text >>= λ keys. Ok (Some keys)) member
 
 -- a text that is empty, or white space alone, is no clause
 unfoldable pub when_of : List ℕ → Result (Option Clause) ℕ
@@ -74,10 +89,16 @@ pub record Found : Type 0 where
   pub when : Option Data
   pub args : Option Data
 
-abbrev pub found_in : Members → Found
-found_in members = record {
+-- the member that names the keystrokes: where a platform is given its own, if that is there, and else `key`
+abbrev pub key_member : Option Platform → Members → Option Data
+key_member None members = get_member (codes "key") members
+key_member (Some platform) members =
+    option_or (get_member (platform_name platform) members) (get_member (codes "key") members)
+
+abbrev pub found_in : Option Platform → Members → Found
+found_in platform members = record {
   command = get_member (codes "command") members;
-  key = get_member (codes "key") members;
+  key = key_member platform members;
   when = get_member (codes "when") members;
   args = get_member (codes "args") members;
 }
@@ -91,12 +112,14 @@ found_of parts = record {
   args = option_map view parts.args;
 }
 
--- the command and the keystrokes that start it; the faults come in this order
-unfoldable pub binding_of : Option Data → Option Data → Result (List ℕ × List Keystroke) ℕ
-binding_of command key = do
-  identifier ← command_of command
-  keystrokes ← keystrokes_of key
-  Ok (identifier, keystrokes)
+-- the command and its keystrokes, in this order
+abbrev pub bound_to : List ℕ → Option (List ℕ) → Option Data → Result Binding ℕ
+bound_to command None key = keystrokes_of key >>= λ keys. Ok (binding.Starts command keys)
+bound_to command (Some removed) key =
+    removed_keystrokes_of key >>= λ keys. Ok (binding.Removes removed keys)
+
+unfoldable pub binding_of : Option Data → Option Data → Result Binding ℕ
+binding_of command key = required_text command >>= λ text. bound_to text (removed_command text) key
 
 -- the condition and the arguments, in this order
 unfoldable pub terms_of : Option Data → Option Data → Result (Option Clause × Option Data) ℕ
@@ -105,13 +128,32 @@ terms_of when args = do
   arguments ← args_of args
   Ok (condition, arguments)
 
--- the rule that these are, at a place; the faults come in this order
-unfoldable pub rule_of : ℕ → Found → Result Rule ℕ
-rule_of place found = do
-  binding ← binding_of found.command found.key
-  terms ← terms_of found.when found.args
-  Ok (record { chord = binding.1; command = binding.0; when = terms.0; args = terms.1; place = place })
+-- the rule or the removal of these, at a place
+abbrev pub made : Origin → ℕ → Binding → Option MarkedClause → Option Data → Entry
+made origin place (binding.Starts command keys) condition arguments = entry.Starts (record {
+  chord = keys;
+  command = command;
+  when = condition;
+  args = arguments;
+  origin = origin;
+  place = place;
+})
+made origin place (binding.Removes command keys) condition arguments = entry.Removes (record {
+  command = command;
+  chord = keys;
+  when = condition;
+  origin = origin;
+  place = place;
+})
 
--- the rule that the element at a place is, or the number of its first fault
-abbrev pub entry_of : ℕ → Data → Result Rule ℕ
-entry_of place d = or_fault 41 (as_object d) >>= λ members. rule_of place (found_in members)
+-- the same of the members, with all patterns read; the faults come in this order
+unfoldable pub element_of : Origin → ℕ → Found → Result Entry ℕ
+element_of origin place found = do
+  bound ← binding_of found.command found.key
+  terms ← terms_of found.when found.args
+  Ok (made origin place bound (option_map (marked_by []) terms.0) terms.1)
+
+-- what the element at a place is, with all patterns read, or the number of its first fault
+abbrev pub entry_of : Origin → Option Platform → ℕ → Data → Result Entry ℕ
+entry_of origin platform place d =
+    or_fault 41 (as_object d) >>= λ members. element_of origin place (found_in platform members)

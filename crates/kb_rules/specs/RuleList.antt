@@ -1,49 +1,127 @@
--- What the elements of a rule file give: each that can be read is a rule, and each other has a
--- warning of its first fault. Places are counted from a number.
-use Rattle.std.specs.Prelude.{ℕ, List, [], ◌∷◌, ◌++◌, Option, Some, None, Result, Ok, Err, alloc_error}
-use Rattle.std.specs.List.{filter_map, enumerate_from}
-use Rattle.serde_json.specs.Data.{Data}
+-- What the elements of a list of rules give: each that can be read is a rule or a removal, and each other
+-- has a warning of its first fault.
+use Rattle.std.specs.Prelude.{◌≡◌, ℕ, ◌+◌, ◌==◌, List, [], ◌∷◌, ◌++◌, not, filter, Option, Some, None}
+use Rattle.std.specs.Prelude.{Result, Ok, Err, option_to_list, alloc_error}
 use Rattle.std.specs.declared.alloc.AllocError.{AllocError}
+use Rattle.std.specs.List.{filter_map, flat_map, AllByRecursion}
+use Rattle.serde_json.specs.Data.{Data}
+use Rattle.kb_context.specs.Reading.{seen}
 use Rattle.kb_context.specs.declared.failure.Failure.{Failure}
 use Rattle.kb_context.specs.declared.failure.Failure.TheVariants.{NoMemory, Fault}
+use Rattle.kb_keys.specs.declared.platform.Platform.{Platform}
+use Rattle.kb_when.specs.declared.unread.UnreadPattern.{UnreadPattern}
+use Rattle.kb_rules.specs.declared.entry.Entry.{Entry}
+use Rattle.kb_rules.specs.declared.entry.Entry.TheVariants.{Starts, Removes}
+use Rattle.kb_rules.specs.declared.origin.Origin.{Origin}
+use Rattle.kb_rules.specs.declared.removal.Removal.{Removal}
 use Rattle.kb_rules.specs.declared.rule.Rule.{Rule}
+use Rattle.kb_rules.specs.declared.unread.UnreadAt.{UnreadAt}
 use Rattle.kb_rules.specs.declared.warning.Warning.{Warning}
 use Rattle.kb_rules.specs.Entry.{entry_of}
-use Rattle.kb_rules.specs.declared.rule_list.Element.{Element}
-use Rattle.kb_rules.specs.declared.rule_list.Element.TheVariants.{Kept, Dropped}
+use Rattle.kb_rules.specs.Unread.{marked_entry, marks_at, unread_in, placed, IsRightlyMarked}
 
--- the rules of a file, from the top down, and the warnings in the order of the elements
+-- the rules of a list, from the top down, its removals, the warnings and the unread patterns, each in the
+-- order of the elements
 pub record Listed : Type 0 where
   pub rules : List Rule
+  pub removals : List Removal
   pub warnings : List Warning
+  pub unread : List UnreadAt
 
--- the same with one more rule at the bottom, or one more warning at the end
-abbrev pub with_rule : Rule → Listed → Listed
-with_rule rule list = record list { rules = list.rules ++ rule ∷ [] }
+abbrev pub no_elements : Listed
+no_elements = record { rules = []; removals = []; warnings = []; unread = [] }
+
+-- the rule that was read, if one was
+abbrev pub rule_in : Result Entry ℕ → Option Rule
+rule_in (Ok (Starts rule)) = Some rule
+rule_in (Ok (Removes removal)) = None
+rule_in (Err number) = None
+
+-- the removal that was read, if one was
+abbrev pub removal_in : Result Entry ℕ → Option Removal
+removal_in (Ok (Starts rule)) = None
+removal_in (Ok (Removes removal)) = Some removal
+removal_in (Err number) = None
+
+-- what is said of a rule or a removal with these unread patterns
+abbrev pub warning_of_unread : Origin → ℕ → List UnreadPattern → Option Warning
+warning_of_unread origin place [] = None
+warning_of_unread origin place (pattern ∷ unread) =
+    Some (record { origin = origin; number = 34; place = place })
+
+-- what is said of the element at a place: it has an unread pattern, or wasn't read
+abbrev pub warning_in : Origin → ℕ → Result Entry ℕ → Option Warning
+warning_in origin place (Ok entry) = warning_of_unread origin place (unread_in entry)
+warning_in origin place (Err number) = Some (record { origin = origin; number = number; place = place })
+
+abbrev pub unread_at : ℕ → Result Entry ℕ → List UnreadAt
+unread_at place (Ok entry) = placed place (unread_in entry)
+unread_at place (Err number) = []
+
+-- the list of what was read, each with its place
+abbrev pub collected : Origin → List (ℕ × Result Entry ℕ) → Listed
+collected origin read = record {
+  rules = filter_map (λ r. rule_in r.1) read;
+  removals = filter_map (λ r. removal_in r.1) read;
+  warnings = filter_map (λ r. warning_in origin r.0 r.1) read;
+  unread = flat_map (λ r. unread_at r.0 r.1) read;
+}
+
+-- what each of the elements is, with its place, counted from a number, and with its marks among these
+abbrev pub read_of : List UnreadAt → Origin → Option Platform → ℕ → List Data → List (ℕ × Result Entry ℕ)
+read_of unread origin platform place [] = []
+read_of unread origin platform place (d ∷ ds) =
+    (place, seen (marked_entry (marks_at place unread)) (entry_of origin platform place d))
+    ∷ read_of unread origin platform (place + 1) ds
+
+-- the list of the elements by these marks; keystrokes are those of a platform, if one is given
+abbrev pub listed : List UnreadAt → Origin → Option Platform → List Data → Listed
+listed unread origin platform elements = collected origin (read_of unread origin platform 0 elements)
+
+-- the warnings of elements that were dropped
+abbrev pub dropped_in : Listed → List Warning
+dropped_in list = filter (λ warning. not (warning.number == 34)) list.warnings
+
+-- all patterns of the list are marked as they are or aren't read
+abbrev pub AreRightlyMarked : Listed → Type 0
+AreRightlyMarked list =
+    AllByRecursion (λ rule. IsRightlyMarked rule.when) list.rules
+    × AllByRecursion (λ removal. IsRightlyMarked removal.when) list.removals
+
+-- ---- one element after another
+
+-- what was read, or its first fault, by how the reading ended; refused memory is neither
+abbrev pub judged : Result Entry (Failure ℕ) → Result (Result Entry ℕ) AllocError
+judged (Ok entry) = Ok (Ok entry)
+judged (Err (Fault number)) = Ok (Err number)
+judged (Err NoMemory) = Err alloc_error
+
+-- the list with what the element at a place is
+abbrev pub with_read : Origin → ℕ → Result Entry ℕ → Listed → Listed
+with_read origin place read list = record {
+  rules = list.rules ++ option_to_list (rule_in read);
+  removals = list.removals ++ option_to_list (removal_in read);
+  warnings = list.warnings ++ option_to_list (warning_in origin place read);
+  unread = list.unread ++ unread_at place read;
+}
 
 abbrev pub with_warning : Warning → Listed → Listed
 with_warning warning list = record list { warnings = list.warnings ++ warning ∷ [] }
 
--- what becomes of the element at a place, by how its reading ended; refused memory is no warning
-abbrev pub judged : ℕ → Result Rule (Failure ℕ) → Result Element AllocError
-judged place (Ok rule) = Ok (Kept rule)
-judged place (Err (Fault number)) = Ok (Dropped (record { number = number; place = place }))
-judged place (Err NoMemory) = Err alloc_error
+-- the list with the unread patterns of a condition alone
+abbrev pub with_unread : Origin → ℕ → List UnreadPattern → Listed → Listed
+with_unread origin place unread list = record list {
+  warnings = list.warnings ++ option_to_list (warning_of_unread origin place unread);
+  unread = list.unread ++ placed place unread;
+}
 
--- the rule that was read, if one was
-abbrev pub rule_in : Result Rule ℕ → Option Rule
-rule_in (Ok rule) = Some rule
-rule_in (Err number) = None
+-- what was read is what its own marks make of it
+abbrev pub IsWhole : Result Entry ℕ → Type 0
+IsWhole (Ok entry) = marked_entry (unread_in entry) entry ≡ entry
+IsWhole (Err number) = Unit {0}
 
--- the warning of what wasn't read
-abbrev pub warning_in : ℕ → Result Rule ℕ → Option Warning
-warning_in place (Ok rule) = None
-warning_in place (Err number) = Some (record { number = number; place = place })
-
-abbrev pub rules_of : ℕ → List Data → List Rule
-rules_of start elements =
-    filter_map (λ e. rule_in (entry_of e.0 e.1)) (enumerate_from start elements)
-
-abbrev pub warnings_of : ℕ → List Data → List Warning
-warnings_of start elements =
-    filter_map (λ e. warning_in e.0 (entry_of e.0 e.1)) (enumerate_from start elements)
+-- its patterns are marked as they are or aren't read
+abbrev pub IsRight : Result Entry ℕ → Type 0
+IsRight (Ok (Starts rule)) = IsRightlyMarked rule.when
+IsRight (Ok (Removes removal)) = IsRightlyMarked removal.when
+IsRight (Err number) = Unit {0}

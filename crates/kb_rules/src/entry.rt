@@ -1,5 +1,5 @@
-//! The reading of one element of a rule file.
-ghost use Rattle.std.specs.Prelude.{◌≡◌, Some, option_map, is_some, not, IfOk, codes};
+//! The reading of one element of a list of rules.
+ghost use Rattle.std.specs.Prelude.{◌≡◌, [], option_map, is_some, not, IfOk};
 ghost use Rattle.std.specs.List.{list_all};
 ghost use Rattle.kb_context.specs.Blank.{is_blank};
 ghost use Rattle.kb_context.specs.Failure.{Gives};
@@ -8,21 +8,25 @@ ghost use Rattle.kb_keys.specs.Chord.{chord_of};
 ghost use Rattle.kb_when.specs.WhenFault as when;
 ghost use Rattle.kb_when.specs.ClauseText.{clause_in};
 ghost use Rattle.serde_json.specs.View.{view, members_view};
-ghost use Rattle.kb_rules.specs.Entry.{by_number, failure_by_number, is_removal, text_of, required_text};
-ghost use Rattle.kb_rules.specs.Entry.{command_of, keystrokes_of, when_of, condition_of, args_of, rule_of};
-ghost use Rattle.kb_rules.specs.Entry.{binding_of, terms_of, found_of, found_in, entry_of};
+ghost use Rattle.kb_rules.specs.Entry.{by_number, failure_by_number, text_of, required_text, removed_command};
+ghost use Rattle.kb_rules.specs.Entry.{chord_in, keystrokes_of, removed_keystrokes_of, when_of, condition_of};
+ghost use Rattle.kb_rules.specs.Entry.{args_of, key_member, found_in, found_of, binding_of, terms_of, made};
+ghost use Rattle.kb_rules.specs.Entry.{element_of, entry_of};
+ghost use Rattle.kb_rules.specs.Unread.{tree_in, marked_entry};
 
 use crate::json::Json;
+use crate::origin::Origin;
+use crate::removal::Removal;
 use crate::rule::Rule;
 use crate::whole::has_whole_numbers;
-use kb_context::{Failure, Text, is_blank_text};
-use kb_keys::Chord;
+use kb_context::{Failure, NoMemory, Text, is_blank_text};
+use kb_keys::{Chord, Platform};
 use kb_manifest::{FileFault, members_in, take_member, text_in};
 use kb_when::{Clause, WhenFault};
 use serde_json::{Map, Value};
 use std::alloc::Global;
 
-/// The members that a rule is read from, each if it is there.
+/// The members that a rule or a removal is read from, each if it is there.
 #[derive(Drop)]
 struct Parts {
     command: Option<Value>,
@@ -31,58 +35,135 @@ struct Parts {
     args: Option<Value>,
 }
 
-/// The rule that an element is, with the place that it stands at, or the number of the element's first
-/// fault. Its texts and arguments are moved out of it.
-pub(crate) fn read_entry(alloc: Global, entry: Value, place: usize) -> Result<Rule, Failure<u32>>
-    ensures { Gives (λ rule. rule) result (entry_of place (view entry)) }
+/// A command and its keystrokes.
+#[derive(Drop)]
+enum Binding {
+    /// Those of a rule.
+    Starts(Text, Chord),
+    /// Those of a removal, without the `-`; it may have no keystrokes.
+    Removes(Text, Option<Chord>),
+}
+
+/// What an element is.
+#[derive(Drop)]
+pub(crate) enum Entry {
+    Starts(Rule),
+    Removes(Removal),
+}
+
+/// The rule or the removal that an element is, with the place that it stands at, or the number of the
+/// element's first fault. Its texts and arguments are moved out of it. The clause says itself which of its
+/// patterns aren't read.
+pub(crate) fn read_entry(
+    alloc: Global,
+    entry: Value,
+    origin: Origin,
+    platform: Option<Platform>,
+    place: usize,
+) -> Result<Entry, Failure<u32>>
+    ensures { Gives (marked_entry []) result (entry_of origin platform place (view entry)) }
 {
     match members_in(entry) {
-        Some(members) => read_rule(alloc, parts_of(members), place),
+        Some(members) => read_parts(alloc, parts_of(members, platform), origin, place),
         None => Err(Failure::Fault(FileFault::WrongShape.number())),
     }
 }
 
-/// The members that a rule is read from, taken out of an object.
-fn parts_of(members: Map<String, Value>) -> Parts
-    ensures { found_of result ≡ found_in (members_view members.entries) }
+/// The members that a rule or a removal is read from, taken out of an object.
+fn parts_of(members: Map<String, Value>, platform: Option<Platform>) -> Parts
+    ensures { found_of result ≡ found_in platform (members_view members.entries) }
 {
     let mut members = members;
+    let command = take_member(&mut members, "command");
+    let when = take_member(&mut members, "when");
+    let args = take_member(&mut members, "args");
     Parts {
-        command: take_member(&mut members, "command"),
-        key: take_member(&mut members, "key"),
-        when: take_member(&mut members, "when"),
-        args: take_member(&mut members, "args"),
+        command,
+        key: take_key(members, platform),
+        when,
+        args,
     }
 }
 
-/// The rule that these members are.
-#[tactic(auto, unfolding(crate::specs::Entry::rule_of))]
-fn read_rule(alloc: Global, parts: Parts, place: usize) -> Result<Rule, Failure<u32>>
-    ensures { Gives (λ rule. rule) result (rule_of place (found_of parts)) }
+/// The member that names the keystrokes: the platform's, if a platform is given and its member is there, and
+/// else `key` (VS Code's documentation of extensions).
+fn take_key(members: Map<String, Value>, platform: Option<Platform>) -> Option<Value>
+    ensures { option_map view result ≡ key_member platform (members_view members.entries) }
 {
-    let (command, chord) = read_binding(alloc, parts.command, parts.key).map_err(Failure::Fault)?;
-    let (when, args) = read_terms(alloc, parts.when, parts.args)?;
-    Ok(Rule {
-        chord,
-        command,
-        when,
-        args,
-        place,
-    })
+    let mut members = members;
+    if let Some(platform) = platform {
+        let own = take_member(&mut members, platform.name());
+        if own.is_some() {
+            return own;
+        }
+    }
+    take_member(&mut members, "key")
 }
 
-/// The command, and the keystrokes that start it.
+/// The rule or the removal that these members are.
+#[tactic(auto, unfolding(crate::specs::Entry::element_of), using(crate::proofs::EntryLemmas::made_as_read))]
+fn read_parts(
+    alloc: Global,
+    parts: Parts,
+    origin: Origin,
+    place: usize,
+) -> Result<Entry, Failure<u32>>
+    ensures { Gives (marked_entry []) result (element_of origin place (found_of parts)) }
+{
+    let binding = read_binding(alloc, parts.command, parts.key)?;
+    let (when, args) = read_terms(alloc, parts.when, parts.args)?;
+    Ok(made(binding, when, args, origin, place))
+}
+
+/// The rule or the removal of what was read of it. It takes no memory.
+fn made(
+    binding: Binding,
+    when: Option<Clause>,
+    args: Option<Json>,
+    origin: Origin,
+    place: usize,
+) -> Entry
+    ensures { result ≡ made origin place binding when args }
+{
+    match binding {
+        Binding::Starts(command, chord) => Entry::Starts(Rule {
+            chord,
+            command,
+            when,
+            args,
+            origin,
+            place,
+        }),
+        Binding::Removes(command, chord) => Entry::Removes(Removal {
+            command,
+            chord,
+            when,
+            origin,
+            place,
+        }),
+    }
+}
+
+/// The command and its keystrokes.
 #[tactic(auto, unfolding(crate::specs::Entry::binding_of))]
 fn read_binding(
     alloc: Global,
     command: Option<Value>,
     key: Option<Value>,
-) -> Result<(Text, Chord), u32>
-    ensures { result ≡ binding_of (option_map view command) (option_map view key) }
+) -> Result<Binding, Failure<u32>>
+    ensures { Gives (λ bound. bound) result (binding_of (option_map view command) (option_map view key)) }
 {
-    let command = read_command(command)?;
-    let chord = read_keystrokes(alloc, key)?;
-    Ok((command, chord))
+    let command = required_text(command).map_err(Failure::Fault)?;
+    match removed_command(alloc, command.as_str())? {
+        Some(removed) => {
+            let keys = read_removed_keystrokes(alloc, key).map_err(Failure::Fault)?;
+            Ok(Binding::Removes(removed, keys))
+        }
+        None => {
+            let keys = read_keystrokes(alloc, key).map_err(Failure::Fault)?;
+            Ok(Binding::Starts(command, keys))
+        }
+    }
 }
 
 /// The condition and the arguments.
@@ -92,7 +173,8 @@ fn read_terms(
     when: Option<Value>,
     args: Option<Value>,
 ) -> Result<(Option<Clause>, Option<Json>), Failure<u32>>
-    ensures { Gives (λ terms. terms) result (terms_of (option_map view when) (option_map view args)) }
+    ensures { Gives (λ terms. (tree_in terms.0, terms.1)) result
+        (terms_of (option_map view when) (option_map view args)) }
 {
     let when = read_condition(alloc, when)?;
     let args = read_args(args).map_err(Failure::Fault)?;
@@ -116,26 +198,18 @@ fn required_text(member: Option<Value>) -> Result<Text, u32>
     }
 }
 
-/// The command, which is no removal.
-#[tactic(auto, unfolding(crate::specs::Entry::command_of))]
-fn read_command(member: Option<Value>) -> Result<Text, u32>
-    ensures { result ≡ command_of (option_map view member) }
+/// The command that a removal names, or `None` for what is no removal (VS Code's documentation: a removal's
+/// command begins with `-`).
+fn removed_command(alloc: Global, command: &str) -> Result<Option<Text>, NoMemory>
+    ensures { IfOk result (λ removed. removed ≡ removed_command command.now) }
 {
-    let command = required_text(member)?;
-    if is_removal(command.as_str()) {
-        return Err(FileFault::WrongShape.number());
-    }
-    Ok(command)
+    let Some(removed) = command.strip_prefix("-") else {
+        return Ok(None);
+    };
+    Ok(Some(Text::from_str(alloc, removed)?))
 }
 
-/// Whether a command is one to be taken away (VS Code's documentation: it begins with `-`).
-fn is_removal(command: &str) -> bool
-    ensures { result ≡ is_removal command.now }
-{
-    command.as_bytes().starts_with(b"-")
-}
-
-/// The keystrokes.
+/// The keystrokes of a rule.
 #[tactic(auto, unfolding(crate::specs::Entry::keystrokes_of))]
 fn read_keystrokes(alloc: Global, member: Option<Value>) -> Result<Chord, u32>
     ensures { result ≡ keystrokes_of (option_map view member) }
@@ -144,9 +218,21 @@ fn read_keystrokes(alloc: Global, member: Option<Value>) -> Result<Chord, u32>
     read_chord(alloc, text.as_str())
 }
 
+/// The keystrokes of a removal, if it has some.
+#[tactic(auto, unfolding(crate::specs::Entry::removed_keystrokes_of))]
+fn read_removed_keystrokes(alloc: Global, member: Option<Value>) -> Result<Option<Chord>, u32>
+    ensures { result ≡ removed_keystrokes_of (option_map view member) }
+{
+    let Some(value) = member else {
+        return Ok(None);
+    };
+    let text = text_of(value)?;
+    Ok(Some(read_chord(alloc, text.as_str())?))
+}
+
 /// The keystrokes of a text.
 fn read_chord(alloc: Global, text: &str) -> Result<Chord, u32>
-    ensures { result ≡ by_number key.number_of (chord_of text.now) }
+    ensures { result ≡ chord_in text.now }
 {
     match Chord::parse(alloc, text) {
         Ok(chord) => Ok(chord),
@@ -157,7 +243,7 @@ fn read_chord(alloc: Global, text: &str) -> Result<Chord, u32>
 /// The clause that is the condition, if there is one.
 #[tactic(auto, unfolding(crate::specs::Entry::condition_of))]
 fn read_condition(alloc: Global, member: Option<Value>) -> Result<Option<Clause>, Failure<u32>>
-    ensures { Gives (λ when. when) result (condition_of (option_map view member)) }
+    ensures { Gives tree_in result (condition_of (option_map view member)) }
 {
     match member {
         Some(value) => {
@@ -171,7 +257,7 @@ fn read_condition(alloc: Global, member: Option<Value>) -> Result<Option<Clause>
 /// The clause of a `when` text, if it says something.
 #[tactic(auto, unfolding(crate::specs::Entry::when_of))]
 fn read_when(alloc: Global, text: &str) -> Result<Option<Clause>, Failure<u32>>
-    ensures read { Gives (λ when. when) result (when_of text.now) }
+    ensures read { Gives tree_in result (when_of text.now) }
 
     // What `read` cites: a text that says something is never a rule without a clause.
     ensures kept { IfOk result (λ when. is_some when ≡ not (list_all is_blank text.now)) }
@@ -184,7 +270,7 @@ fn read_when(alloc: Global, text: &str) -> Result<Option<Clause>, Failure<u32>>
 
 /// The clause of a text.
 fn read_clause(alloc: Global, text: &str) -> Result<Clause, Failure<u32>>
-    ensures { Gives (λ clause. clause) result (by_number when.number_of (clause_in text.now)) }
+    ensures { Gives (λ clause. clause.tree) result (by_number when.number_of (clause_in text.now)) }
 {
     Clause::parse(alloc, text).map_err(failure_by_number)
 }

@@ -7,14 +7,21 @@
 
 mod entry;
 pub mod json;
+pub mod origin;
+pub mod removal;
+mod removal_index;
 pub mod rule;
 pub mod rule_list;
 pub mod rule_set;
+pub mod unread;
 pub mod warning;
 mod whole;
 
 pub use json::Json;
+pub use origin::Origin;
+pub use removal::Removal;
 pub use rule::Rule;
 pub use rule_list::{RuleList, read_list};
 pub use rule_set::RuleSet;
+pub use unread::UnreadAt;
 pub use warning::Warning;

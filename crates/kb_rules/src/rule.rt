@@ -1,5 +1,6 @@
 //! One key rule.
 use crate::json::Json;
+use crate::origin::Origin;
 use kb_context::Text;
 use kb_keys::Chord;
 use kb_when::Clause;
@@ -18,6 +19,8 @@ pub struct Rule {
     pub when: Option<Clause>,
     /// The member `args`, if the rule has it: each number in it is whole within i64.
     pub args: Option<Json>,
-    /// Where the rule stands in its file: the number of elements above it, dropped ones too.
+    /// Whose rule it is.
+    pub origin: Origin,
+    /// Where the rule stands in its list: the number of elements above it, dropped ones and removals too.
     pub place: usize,
 }

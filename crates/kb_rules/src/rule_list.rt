@@ -1,47 +1,72 @@
 //! The rules of one file.
-ghost use Rattle.std.specs.Prelude.{◌≡◌, ◌+◌, [], length, IfOk, OnOk, map};
+ghost use Rattle.std.specs.Prelude.{◌≡◌, ◌+◌, [], ◌++◌, length, IfOk, OnOk, map};
 ghost use Rattle.serde_json.specs.View.{view};
-ghost use Rattle.kb_rules.specs.RuleList.{with_rule, with_warning, judged, rules_of, warnings_of};
+ghost use Rattle.kb_context.specs.Reading.{seen};
+ghost use Rattle.kb_rules.specs.Entry.{entry_of};
+ghost use Rattle.kb_rules.specs.RuleList.{no_elements, listed, dropped_in, with_warning, with_unread, judged};
+ghost use Rattle.kb_rules.specs.RuleList.{with_read, AreRightlyMarked, IsWhole, IsRight};
+ghost use Rattle.kb_rules.specs.Unread.{marked_when, marked_entry, unread_when, placed, IsRightlyMarked};
 
-use crate::entry::read_entry;
+use crate::entry::{Entry, read_entry};
+use crate::origin::Origin;
+use crate::removal::Removal;
 use crate::rule::Rule;
+use crate::unread::UnreadAt;
 use crate::warning::Warning;
 use kb_context::{Failure, NoMemory, Seq};
+use kb_keys::Platform;
+use kb_when::{Clause, UnreadPattern};
 use serde_json::Value;
 use std::alloc::{AllocError, Global};
 use std::marker::Model;
 use std::rc::Rc;
 
-/// The rules of one file, from the top down, and a warning for each element that was dropped. The
-/// rules are shared: a rule set and the search take no copies of them.
+/// The number of the warning of a rule or a removal that is kept, though a pattern of its clause isn't read.
+const UNREAD: u32 = 34;
+
+/// The rules of one file or manifest, from the top down, its removals, a warning for each element that was
+/// dropped or has an unread pattern, and those patterns. Rules and removals are shared: a rule set and the
+/// search take no copies of them.
 #[derive(Drop)]
 pub struct RuleList {
     rules: Seq<Rc<Rule>>,
+    removals: Seq<Rc<Removal>>,
     warnings: Seq<Warning>,
+    unread: Seq<UnreadAt>,
 }
 
 impl Model for RuleList {
     ghost use Rattle.std.specs.Prelude.{map};
     ghost use Rattle.std.specs.Coded.{codes};
     ghost use Rattle.kb_rules.specs.RuleList.{Listed};
+    ghost use Rattle.kb_rules.specs.contracts.removal.Removal as removal;
     ghost use Rattle.kb_rules.specs.contracts.rule.Rule as rule;
+    ghost use Rattle.kb_rules.specs.contracts.unread.UnreadAt as mark;
     ghost use Rattle.kb_rules.specs.contracts.warning.Warning as warning;
 
     ghost Value = { Listed };
 
-    ghost coded = { Prim.hlevel (codes, rule.the_row.coded, warning.the_row.coded) };
+    ghost coded = { Prim.hlevel
+        (codes, rule.the_row.coded, removal.the_row.coded, warning.the_row.coded, mark.the_row.coded) };
 
-    ghost view = { λ l. record { rules = map (λ r. r.value) l.rules; warnings = l.warnings } };
+    ghost view = { λ l. record {
+      rules = map (λ r. r.value) l.rules;
+      removals = map (λ r. r.value) l.removals;
+      warnings = l.warnings;
+      unread = l.unread;
+    } };
 }
 
 impl RuleList {
-    /// The list of nothing.
-    fn new(alloc: Global) -> RuleList
-        ensures { result ≡ record { rules = []; warnings = [] } }
+    /// The list of no elements, as of a file that isn't given. It takes no memory.
+    pub fn new(alloc: Global) -> RuleList
+        ensures { result ≡ no_elements }
     {
         RuleList {
             rules: Seq::new(alloc),
+            removals: Seq::new(alloc),
             warnings: Seq::new(alloc),
+            unread: Seq::new(alloc),
         }
     }
 
@@ -52,6 +77,13 @@ impl RuleList {
         self.rules.as_slice()
     }
 
+    /// The removals, in the order of the elements. It takes no memory.
+    pub fn removals(&self) -> &[Rc<Removal>]
+        ensures { map (λ r. r.value) result.now ≡ self.now.removals }
+    {
+        self.removals.as_slice()
+    }
+
     /// The warnings, in the order of the elements. It takes no memory.
     pub fn warnings(&self) -> &[Warning]
         ensures { result.now ≡ self.now.warnings }
@@ -59,12 +91,12 @@ impl RuleList {
         self.warnings.as_slice()
     }
 
-    /// Adds a rule at the bottom.
-    fn keep(&mut self, alloc: Global, rule: Rule) -> Result<(), NoMemory>
-        ensures { OnOk result (self.new ≡ with_rule rule self.old) }
+    /// The patterns of rules and removals that aren't read, in the order of the elements and of their texts.
+    /// It takes no memory.
+    pub fn unread(&self) -> &[UnreadAt]
+        ensures { result.now ≡ self.now.unread }
     {
-        self.rules.push(Rc::new(alloc, rule)?)?;
-        Ok(())
+        self.unread.as_slice()
     }
 
     /// Adds a warning at the end.
@@ -74,52 +106,143 @@ impl RuleList {
         self.warnings.push(warning)?;
         Ok(())
     }
+
+    /// Notes the unread patterns of a condition, if it has some, with a warning of the first.
+    fn note(&mut self, when: &Option<Clause>, origin: Origin, place: usize) -> Result<(), NoMemory>
+        ensures noted { OnOk result
+            (self.new ≡ with_unread origin place (unread_when when.now) self.old) }
+        ensures whole { OnOk result (marked_when (unread_when when.now) when.now ≡ when.now) }
+        ensures right { OnOk result (IsRightlyMarked when.now) }
+    {
+        let Some(clause) = when else {
+            return Ok(());
+        };
+        let unread = clause.unread();
+        if unread.is_empty() {
+            return Ok(());
+        }
+        self.warn(Warning {
+            origin,
+            number: UNREAD,
+            place,
+        })?;
+        push_unread(unread, place, &mut self.unread)
+    }
+
+    /// Adds what the element at a place is: a rule at the bottom or a removal, with its unread patterns, or
+    /// the warning of its first fault.
+    fn take(
+        &mut self,
+        alloc: Global,
+        read: Result<Entry, u32>,
+        origin: Origin,
+        place: usize,
+    ) -> Result<(), NoMemory>
+        ensures taken { OnOk result (self.new ≡ with_read origin place read self.old) }
+        ensures whole { OnOk result (IsWhole read) }
+        ensures right { OnOk result (IsRight read) }
+    {
+        match read {
+            Ok(Entry::Starts(rule)) => {
+                self.note(&rule.when, origin, place)?;
+                self.rules.push(Rc::new(alloc, rule)?)?;
+            }
+            Ok(Entry::Removes(removal)) => {
+                self.note(&removal.when, origin, place)?;
+                self.removals.push(Rc::new(alloc, removal)?)?;
+            }
+            Err(number) => self.warn(Warning {
+                origin,
+                number,
+                place,
+            })?,
+        }
+        Ok(())
+    }
 }
 
-/// What becomes of an element.
-enum Element {
-    /// It is a rule.
-    Kept(Rule),
-    /// It is dropped, and this is said of it.
-    Dropped(Warning),
+/// Adds unread patterns of the element at a place.
+fn push_unread(
+    patterns: &[UnreadPattern],
+    place: usize,
+    unread: &mut Seq<UnreadAt>,
+) -> Result<(), NoMemory>
+    ensures { OnOk result (unread.new ≡ unread.old ++ placed place patterns.now) }
+{
+    for pattern in patterns {
+        let number = pattern.number;
+        let pattern = pattern.pattern.copied()?;
+        unread.push(UnreadAt {
+            place,
+            number,
+            pattern,
+        })?;
+    }
+    Ok(())
 }
 
-/// What becomes of the element at a place, by how its reading ended. It takes no memory.
-fn judged(read: Result<Rule, Failure<u32>>, place: usize) -> Result<Element, NoMemory>
-    ensures { result ≡ judged place read }
+/// What was read of an element, or its first fault, by how its reading ended; refused memory is neither. It
+/// takes no memory.
+fn judged(read: Result<Entry, Failure<u32>>) -> Result<Result<Entry, u32>, NoMemory>
+    ensures { result ≡ judged read }
 {
     match read {
-        Ok(rule) => Ok(Element::Kept(rule)),
-        Err(Failure::Fault(number)) => Ok(Element::Dropped(Warning { number, place })),
+        Ok(entry) => Ok(Ok(entry)),
+        Err(Failure::Fault(number)) => Ok(Err(number)),
         Err(Failure::NoMemory) => Err(AllocError),
     }
 }
 
-/// Reads the elements of a rule file. Each becomes a rule, or is dropped with a warning of its
-/// first fault. The faults are looked for in this order (our decision): it is no object (41);
-/// `command` is absent (40), is no text (41) or begins with `-` (41, until such elements are read);
-/// `key` is absent (40), is no text (41) or can't be read (10 to 12); `when` is no text (41), or is
-/// neither blank nor a clause (30 to 33, the first fault of the clause); a number in `args`, at any
-/// depth, isn't whole within i64 (41). Other members are ignored, and `command` may be empty.
-///
-/// A rule whose `when` is absent or blank has no clause (our decision for a blank one). The values
-/// are taken, and each is dropped as soon as it is read: of a kept one the command and the arguments
-/// are moved. `NoMemory` where memory was refused; it is never a warning.
-pub fn read_list(alloc: Global, values: Vec<Value>) -> Result<RuleList, NoMemory>
-    ensures rules { IfOk result (λ list. list.rules ≡ rules_of 0 (map view values.items)) }
-    ensures warnings { IfOk result (λ list. list.warnings ≡ warnings_of 0 (map view values.items)) }
+/// What the element at a place is, or its first fault.
+fn read_element(
+    alloc: Global,
+    value: Value,
+    origin: Origin,
+    platform: Option<Platform>,
+    place: usize,
+) -> Result<Result<Entry, u32>, NoMemory>
+    ensures { IfOk result (λ read.
+        entry_of origin platform place (view value) ≡ seen (marked_entry []) read) }
+{
+    judged(read_entry(alloc, value, origin, platform, place))
+}
 
-    // What the others cite: no element is passed over, and none counts twice.
-    ensures each_once { IfOk result (λ list.
-        length list.rules + length list.warnings ≡ length values.items) }
+/// Reads the elements of a file of rules, or a manifest's key rules for a platform. Each becomes a rule, or a
+/// removal where its command begins with `-` (VS Code's documentation), or is dropped with a warning of its
+/// first fault. The faults are looked for in this order (our decision): it is no object (41); `command` is
+/// absent (40) or no text (41); the keystrokes are absent (40) but in a removal, are no text (41) or can't be
+/// read (10 to 12); `when` is no text (41), or is neither blank nor a clause (30 to 33, the clause's first
+/// fault); a number in `args`, at any depth, isn't whole within i64 (41). Other members are ignored, and
+/// `command` may be empty. A kept one with a pattern that isn't read has a warning too (34), one for all its
+/// patterns.
+///
+/// The keystrokes are those of the platform's member (`mac`, `linux`, `win`), if a platform is given and the
+/// member is there, and else those of `key`; the others aren't looked at. A `when` that is absent or blank is
+/// no clause (our decision for a blank one). The values are taken, and each is dropped as soon as it is
+/// read: of a kept one the command and the arguments are moved. `NoMemory` where memory was refused; it is
+/// never a warning.
+pub fn read_list(
+    alloc: Global,
+    values: Vec<Value>,
+    origin: Origin,
+    platform: Option<Platform>,
+) -> Result<RuleList, NoMemory>
+    // The list of the values by the marks that it has.
+    ensures read { IfOk result (λ list.
+        list ≡ listed list.unread origin platform (map view values.items)) }
+
+    // Its marks are right.
+    ensures right { IfOk result AreRightlyMarked }
+
+    // What `read` cites: no element is passed over, and none counts twice.
+    ensures each_once { IfOk result (λ list. length list.rules + length list.removals
+        + length (dropped_in list) ≡ length values.items) }
 {
     let mut list = RuleList::new(alloc);
     let mut place = 0;
     for value in values {
-        match judged(read_entry(alloc, value, place), place)? {
-            Element::Kept(rule) => list.keep(alloc, rule)?,
-            Element::Dropped(warning) => list.warn(warning)?,
-        }
+        let read = read_element(alloc, value, origin, platform, place)?;
+        list.take(alloc, read, origin, place)?;
         place += 1;
     }
     Ok(list)

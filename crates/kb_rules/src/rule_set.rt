@@ -1,6 +1,11 @@
 //! The rules in force.
-ghost use Rattle.std.specs.Prelude.{◌≡◌, IfOk, map};
+ghost use Rattle.std.specs.Prelude.{◌≡◌, ◌∷◌, ◌++◌, IfOk, OnOk, length, map};
+ghost use Rattle.std.specs.List.{flat_map};
+ghost use Rattle.kb_rules.specs.RemovalIndex.{left_in};
+ghost use Rattle.kb_rules.specs.RuleSet.{enabled_of, all_removals, rules_in_force};
 
+use crate::removal::Removal;
+use crate::removal_index::RemovalIndex;
 use crate::rule::Rule;
 use crate::rule_list::RuleList;
 use kb_context::{NoMemory, Seq};
@@ -29,15 +34,27 @@ impl Model for RuleSet {
 }
 
 impl RuleSet {
-    /// The rules in force: those of the user, in the order of their file. The rules are shared with
-    /// the list that they come from. `NoMemory` where memory was refused.
-    pub fn assemble(alloc: Global, user: &RuleList) -> Result<RuleSet, NoMemory>
-        ensures { IfOk result (λ set. set ≡ user.now.rules) }
+    /// The rules in force: the default rules, those of the enabled extensions in load order, and then the
+    /// user's (VS Code's documentation). What a removal of one of these lists takes (`Removal::takes`) is
+    /// left out, but no rule of the user ever is, and a removal acts wherever it stands (our decisions). The
+    /// lists of extensions that aren't enabled count for nothing. The rules are shared with the lists that
+    /// they come from. `NoMemory` where memory was refused.
+    pub fn assemble(
+        alloc: Global,
+        defaults: &RuleList,
+        extensions: &[RuleList],
+        enabled: &[bool],
+        user: &RuleList,
+    ) -> Result<RuleSet, NoMemory>
+        requires { length enabled.now ≡ length extensions.now }
+        ensures { IfOk result (λ set.
+            set ≡ rules_in_force defaults.now extensions.now enabled.now user.now) }
     {
-        let mut rules = Seq::new(alloc);
-        for rule in user.rules() {
-            rules.push(Rc::clone(rule)?)?;
-        }
+        let lists = counted_lists(alloc, defaults, extensions, enabled)?;
+        let removals = counted_removals(alloc, lists.as_slice(), user)?;
+        let index = RemovalIndex::new(alloc, removals.as_slice())?;
+        let mut rules = left_rules(alloc, lists.as_slice(), &index)?;
+        share_all(user.rules(), &mut rules)?;
         Ok(RuleSet { rules })
     }
 
@@ -47,4 +64,88 @@ impl RuleSet {
     {
         self.rules.as_slice()
     }
+}
+
+/// The default list, and those of the enabled extensions.
+fn counted_lists<'a>(
+    alloc: Global,
+    defaults: &'a RuleList,
+    extensions: &'a [RuleList],
+    enabled: &[bool],
+) -> Result<Vec<&'a RuleList>, NoMemory>
+    requires { length enabled.now ≡ length extensions.now }
+    ensures { IfOk result (λ lists. map (λ l. l.now) lists.items
+        ≡ defaults.now ∷ enabled_of extensions.now enabled.now) }
+{
+    let mut lists = Vec::new(alloc);
+    lists.push(defaults)?;
+    for (i, list) in extensions.iter().enumerate() {
+        if enabled[i] {
+            lists.push(list)?;
+        }
+    }
+    Ok(lists)
+}
+
+/// The removals that count: those of the lists, and the user's.
+fn counted_removals(
+    alloc: Global,
+    lists: &[&RuleList],
+    user: &RuleList,
+) -> Result<Seq<Rc<Removal>>, NoMemory>
+    ensures { IfOk result (λ removals. map (λ r. r.value) removals
+        ≡ all_removals (map (λ l. l.now) lists.now) ++ user.now.removals) }
+{
+    let mut removals = Seq::new(alloc);
+    for list in lists {
+        share_all(list.removals(), &mut removals)?;
+    }
+    share_all(user.removals(), &mut removals)?;
+    Ok(removals)
+}
+
+/// The rules of the lists that no removal of the index takes.
+fn left_rules(
+    alloc: Global,
+    lists: &[&RuleList],
+    index: &RemovalIndex,
+) -> Result<Seq<Rc<Rule>>, NoMemory>
+    ensures { IfOk result (λ rules. map (λ r. r.value) rules
+        ≡ flat_map (λ list. left_in index.now list.rules) (map (λ l. l.now) lists.now)) }
+{
+    let mut rules = Seq::new(alloc);
+    let mut text = String::new(alloc);
+    for list in lists {
+        share_left(list.rules(), index, &mut text, &mut rules)?;
+    }
+    Ok(rules)
+}
+
+/// Adds the rules that no removal of the index takes at the end of a list. The text is written over.
+fn share_left(
+    more: &[Rc<Rule>],
+    index: &RemovalIndex,
+    text: &mut String,
+    rules: &mut Seq<Rc<Rule>>,
+) -> Result<(), NoMemory>
+    ensures { OnOk result (map (λ r. r.value) rules.new
+        ≡ map (λ r. r.value) rules.old ++ left_in index.now (map (λ r. r.value) more.now)) }
+{
+    for rule in more {
+        if !index.takes(rule, text)? {
+            rules.push(Rc::clone(rule)?)?;
+        }
+    }
+    Ok(())
+}
+
+/// Adds items at the end of a list, which shares them.
+fn share_all<T: Drop>(more: &[Rc<T>], list: &mut Seq<Rc<T>>) -> Result<(), NoMemory>
+    ensures { OnOk result (map (λ r. r.value) list.new
+        ≡ map (λ r. r.value) list.old ++ map (λ r. r.value) more.now) }
+{
+    for item in more {
+        list.push(Rc::clone(item)?)?;
+    }
+    Ok(())
 }

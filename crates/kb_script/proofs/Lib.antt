@@ -1,2 +1,3 @@
+pub mod BareLemmas
 pub mod LineLemmas
 pub mod ScriptRuns

@@ -1,4 +1,4 @@
--- What the bytes of a script tell a session.
+-- What the bytes of a script tell a session. They tell no marks of patterns: a reload has none here.
 use Rattle.std.specs.Prelude.{ℕ, ◌+◌, ◌-◌, Bool, false, not, ◌&&◌, List, [], ◌∷◌, ◌++◌, codes, ◌==◌}
 use Rattle.std.specs.Prelude.{Option, Some, None, option_map, option_to_list, Result, Ok, Err}
 use Rattle.std.specs.Prelude.{nat_eq, nat_lt, length, take, slice_get, if◌then◌else◌}
@@ -101,13 +101,13 @@ event_told word rest =
 
 -- a line of one word: reload alone is told the empty text
 abbrev pub lone_told : List ℕ → Option Told
-lone_told word = if bytes_eq word (codes "reload") then Some (reload []) else None
+lone_told word = if bytes_eq word (codes "reload") then Some (reload [] []) else None
 
 -- a line by its first word and what follows the space behind it
 abbrev pub word_told : List ℕ → Option (List ℕ × List ℕ) → Option Told
 word_told text None = lone_told text
 word_told text (Some parts) =
-    if bytes_eq parts.0 (codes "reload") then Some (reload parts.1)
+    if bytes_eq parts.0 (codes "reload") then Some (reload parts.1 [])
     else option_map happens (event_told parts.0 parts.1)
 
 -- what a line tells, where it can be read
@@ -131,3 +131,8 @@ told_from number (line ∷ lines) = option_to_list (line_told number line) ++ to
 -- what a script tells
 abbrev pub told_of : List ℕ → List Told
 told_of bytes = told_from 1 (lines_of bytes)
+
+-- what a session is told, without the marks of a reload's patterns
+abbrev pub bare : Told → Told
+bare (happens e) = happens e
+bare (reload bytes marks) = reload bytes []

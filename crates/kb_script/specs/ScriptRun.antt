@@ -1,13 +1,15 @@
--- What running a script leaves: what was read, what the session did, and what was written.
-use Rattle.std.specs.Prelude.{◌≡◌, ℕ, true, false, List, Option, IfSome, Result, Ok, Err}
+-- What running a script leaves: what was read, what the session did, and what was written. A script tells no
+-- marks of patterns; what the session was told has them, for each reload, and they are those of its state.
+use Rattle.std.specs.Prelude.{◌≡◌, ℕ, true, false, List, map, Option, IfSome, Result, Ok, Err}
 use Rattle.std.specs.Io.KnownBytes.{Keeps}
 use Rattle.kb_context.specs.declared.failure.Failure.{Failure}
 use Rattle.kb_context.specs.declared.failure.Failure.TheVariants.{NoMemory, Fault}
+use Rattle.kb_rules.specs.declared.unread.UnreadAt.{UnreadAt}
 use Rattle.kb_script.specs.declared.fault.ScriptFault.{ScriptFault}
 use Rattle.kb_script.specs.declared.fault.ScriptFault.TheVariants.{Stopped, TooLong, ReadFailed, WriteFailed}
-use Rattle.kb_script.specs.Script.{told_of}
+use Rattle.kb_script.specs.Script.{told_of, bare}
 use Rattle.kb_session.specs.Session.{Halts}
-use Rattle.kb_session.specs.State.{State, Told, next}
+use Rattle.kb_session.specs.State.{State, Told, happens, reload, next}
 use Rattle.kb_stream.specs.Fold.{Traced}
 use Rattle.kb_stream.specs.FoldWriting.{RunsAndWrites, StopsAndWrites, LacksLines}
 use Rattle.kb_stream.specs.Reading.{IsRead, FailsToRead}
@@ -19,20 +21,15 @@ use Rattle.kb_stream.specs.declared.writing.WriteRefused.{WriteRefused}
 abbrev pub script_limit : ℕ
 script_limit = 16777216
 
--- why what is told broke off: memory was refused, and the writer has the lines of all that was taken; or the
--- writer lacks lines of the last that was taken
-abbrev pub BreaksOff : Failure WriteRefused → List Told → Traced State → Traced State
-    → Option (List ℕ) → Option (List ℕ) → Type 0
-BreaksOff NoMemory told old new before after = StopsAndWrites next Halts told old new before after
-BreaksOff (Fault refused) told old new before after = LacksLines next told old new before after
-
 -- the script was read to its end, the session took all that it tells, and the writer got their lines
 pub record Ran (had left : Option (List ℕ)) (old new : Traced State) (before after : Option (List ℕ))
     : Type 0 where
   pub script : List ℕ
   pub read : IsRead had left script_limit script
   pub was_running : old.state.stopped ≡ false
-  pub ran : RunsAndWrites next (told_of script) old new before after
+  pub told : List Told
+  pub tells : map bare told ≡ told_of script
+  pub ran : RunsAndWrites next told old new before after
 
 -- nothing ran, and nothing is written
 pub record NothingRan (old new : Traced State) (before after : Option (List ℕ)) : Type 0 where
@@ -53,7 +50,9 @@ pub record MemoryRefused (had : Option (List ℕ)) (old new : Traced State) (bef
     : Type 0 where
   pub script : List ℕ
   pub all : IfSome had (λ bytes. bytes ≡ script)
-  pub stops : StopsAndWrites next Halts (told_of script) old new before after
+  pub told : List Told
+  pub tells : map bare told ≡ told_of script
+  pub stops : StopsAndWrites next Halts told old new before after
   pub stays : old.state.stopped ≡ true → NothingRan old new before after
 
 -- the writer did not get all lines of a line of the script, which is the last that was run
@@ -62,7 +61,9 @@ pub record LinesLacked (had left : Option (List ℕ)) (old new : Traced State) (
   pub script : List ℕ
   pub read : IsRead had left script_limit script
   pub was_running : old.state.stopped ≡ false
-  pub lacks : LacksLines next (told_of script) old new before after
+  pub told : List Told
+  pub tells : map bare told ≡ told_of script
+  pub lacks : LacksLines next told old new before after
 
 -- the script was not read, for a reason of the reader's
 pub record NotRead (fault : Failure ReadFault) (had left : Option (List ℕ)) (old new : Traced State)
@@ -86,3 +87,31 @@ abbrev pub Answers : Result (Unit {0}) (Failure ScriptFault) → Option (List �
     → Traced State → Traced State → Option (List ℕ) → Option (List ℕ) → Type 0
 Answers (Ok done) had left old new before after = Ran had left old new before after
 Answers (Err failure) had left old new before after = Fails failure had left old new before after
+
+-- ---- for private functions
+
+-- the same, with these marks where it is a reload
+abbrev pub marked : List UnreadAt → Told → Told
+marked marks (happens e) = happens e
+marked marks (reload bytes none) = reload bytes marks
+
+-- what is said ran, with some marks for its reloads
+pub record RunsSaid (said : List Told) (old new : Traced State) (before after : Option (List ℕ))
+    : Type 0 where
+  pub told : List Told
+  pub tells : map bare told ≡ said
+  pub ran : RunsAndWrites next told old new before after
+
+-- why what is told broke off: memory was refused, and the writer has the lines of all that was taken; or the
+-- writer lacks lines of the last that was taken
+abbrev pub BreaksOff : Failure WriteRefused → List Told → Traced State → Traced State
+    → Option (List ℕ) → Option (List ℕ) → Type 0
+BreaksOff NoMemory told old new before after = StopsAndWrites next Halts told old new before after
+BreaksOff (Fault refused) told old new before after = LacksLines next told old new before after
+
+-- what is said broke off, with some marks for its reloads
+pub record BreaksSaid (failure : Failure WriteRefused) (said : List Told) (old new : Traced State)
+    (before after : Option (List ℕ)) : Type 0 where
+  pub told : List Told
+  pub tells : map bare told ≡ said
+  pub breaks : BreaksOff failure told old new before after

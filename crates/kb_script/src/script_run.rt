@@ -1,13 +1,12 @@
 //! Runs the script that a reader gives, and writes its lines of the trace to a writer.
 ghost use Rattle.std.specs.Prelude.{◌≡◌, ◌^◌, ◌<◌, ◌≤◌, ◌+◌, false, OnOk, OnErr, IfErr};
-ghost use Rattle.std.specs.Prelude.{option_to_list, length, drop};
+ghost use Rattle.std.specs.Prelude.{option_map, option_to_list, length, drop};
 ghost use Rattle.std.specs.Io.KnownBytes.{Appends};
 ghost use Rattle.kb_script.specs.Script as script;
-ghost use Rattle.kb_script.specs.ScriptRun.{Answers, BreaksOff, script_limit};
+ghost use Rattle.kb_script.specs.ScriptRun.{Answers, RunsSaid, BreaksSaid, marked, script_limit};
 ghost use Rattle.kb_session.specs.Session.{Halts};
 ghost use Rattle.kb_session.specs.State.{next};
 ghost use Rattle.kb_stream.specs.Fold.{after_all};
-ghost use Rattle.kb_stream.specs.FoldWriting.{RunsAndWrites};
 ghost use Rattle.kb_stream.specs.Reading.{ConsumesAtMost};
 ghost use Rattle.kb_stream.specs.Writing.{AppendsPart, text_of_lines};
 
@@ -72,9 +71,9 @@ fn run_lines<W: Write>(
 ) -> Result<(), Failure<WriteRefused>>
     requires running { session.old.state.stopped ≡ false }
     requires short { length bytes.now < 2 ^ 32 }
-    ensures ok { OnOk result (RunsAndWrites next (script.told_of bytes.now)
+    ensures ok { OnOk result (RunsSaid (script.told_of bytes.now)
         session.old session.new (W.contents writer.old) (W.contents writer.new)) }
-    ensures err { IfErr result (λ failure. BreaksOff failure (script.told_of bytes.now)
+    ensures err { IfErr result (λ failure. BreaksSaid failure (script.told_of bytes.now)
         session.old session.new (W.contents writer.old) (W.contents writer.new)) }
 {
     let mut rest = bytes;
@@ -101,10 +100,10 @@ fn run_line<W: Write>(
     session: &mut Session,
 ) -> Result<(), Failure<WriteRefused>>
     requires { session.old.state.stopped ≡ false }
-    ensures ok { OnOk result (RunsAndWrites next (option_to_list (script.line_told number line.now))
+    ensures ok { OnOk result (RunsSaid (option_to_list (script.line_told number line.now))
         session.old session.new (W.contents writer.old) (W.contents writer.new)) }
     ensures on { OnOk result (session.new.state.stopped ≡ false) }
-    ensures err { IfErr result (λ failure. BreaksOff failure
+    ensures err { IfErr result (λ failure. BreaksSaid failure
         (option_to_list (script.line_told number line.now))
         session.old session.new (W.contents writer.old) (W.contents writer.new)) }
 {
@@ -119,13 +118,14 @@ fn run_line<W: Write>(
     }
 }
 
-/// Has the session do what a line tells, if it tells something. Where memory is refused, also to reading
+/// Has the session do what a line tells, if it tells something, with the marks that it found. Where memory is refused, also to reading
 /// the line, the session is stopped.
 #[tactic(auto, using(crate::proofs::ScriptRuns::halting))]
 fn obey(alloc: Global, number: u64, line: &[u8], session: &mut Session) -> Result<(), NoMemory>
     requires { session.old.state.stopped ≡ false }
-    ensures ok { OnOk result (session.new
-        ≡ after_all next (option_to_list (script.line_told number line.now)) session.old) }
+    ensures ok { OnOk result (session.new ≡ after_all next (option_to_list
+        (option_map (marked session.new.state.user.unread) (script.line_told number line.now)))
+        session.old) }
     ensures err { OnErr result (Halts session.old.state session.new.state) }
     ensures trace { OnErr result (session.new.trace ≡ session.old.trace) }
 {

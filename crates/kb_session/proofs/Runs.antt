@@ -4,10 +4,9 @@ use Rattle.kb_session.specs.declared.fault.SessionFault.{SessionFault}
 use Rattle.kb_session.specs.declared.fault.SessionFault.TheVariants as fault
 use Rattle.kb_session.specs.Session.{took, halt, half_done, Halts, HaltsAt, FailsAt, FailsAmong}
 use Rattle.kb_session.specs.State.{State, Told, happens, reload, step_unless, next, out_of}
-use Rattle.kb_stream.specs.Fold.{Traced, nothing, fold, after_all, StopsAmong}
+use Rattle.kb_stream.specs.Fold.{Traced, nothing, fold, after_all}
 use Rattle.kb_stream.proofs.FoldLemmas.{fold-still, after_none, RunsUpTo, run_start, run_step, run_end}
 use Rattle.kb_stream.proofs.FoldLemmas.{run_stop}
-use Rattle.kb_trace.specs.declared.event.Event.{Event}
 use Rattle.kb_trace.specs.declared.event.Event.TheVariants as event
 
 -- a session that is stopped takes nothing
@@ -46,7 +45,7 @@ halts_at (happens (event.Focus name)) old new h = halt_halts old new h
 halts_at (happens (event.SetKey name key value)) old new h = halt_halts old new h
 halts_at (happens (event.UnsetKey name key)) old new h = halt_halts old new h
 halts_at (happens (event.Unread number)) old new h = halt_halts old new h
-halts_at (reload bytes) old new h = halt_halts old new h
+halts_at (reload bytes marks) old new h = halt_halts old new h
 
 -- the fault of an event is the fault of the run
 pub runs_fail : (old now new : Traced State) (events rest : List Told) (event : Told) (f : SessionFault)

@@ -1,5 +1,6 @@
 -- A trace that goes back to what it was.
-use Rattle.std.proofs.Common.{◌≡◌, ℕ, List, ◌++◌, sym, ap, ◌∙◌, subst, length, take, append-nil, []}
+use Rattle.std.proofs.Common.{◌≡◌, ℕ, List, ◌++◌, sym, ap, ◌∙◌, length, take, append-nil, append_assoc}
+use Rattle.std.proofs.Common.{[]}
 use Rattle.std.proofs.Math.Seq.{take-append_seam}
 use Rattle.kb_session.specs.Session.{Begins}
 
@@ -14,4 +15,11 @@ begins_more old new more is = ap (take (length old)) is ∙ take-append_seam old
 pub begins_still : (old mid new more : List (List ℕ)) → mid ≡ old ++ more → new ≡ mid → Begins old new
 begins_still old mid new more is same = begins_more old new more (same ∙ is)
 
-pub ruleset undoing = (begins_same, begins_more, begins_still)
+-- lines were added twice
+pub begins_twice : (old mid new more last : List (List ℕ)) → mid ≡ old ++ more → new ≡ mid ++ last
+    → Begins old new
+begins_twice old mid new more last first is =
+    begins_more old new (more ++ last)
+    (is ∙ ap (λ (lines : List (List ℕ)). lines ++ last) first ∙ append_assoc old more last)
+
+pub ruleset undoing = (begins_same, begins_more, begins_still, begins_twice)

@@ -1,12 +1,15 @@
 -- What the calls of a session do to it.
 use Rattle.std.specs.Prelude.{◌≡◌, ℕ, true, false, List, [], length, take, Option, Result, Ok, Err}
 use Rattle.kb_context.specs.Scopes.{ScopesData}
+use Rattle.kb_context.specs.declared.failure.Failure.{Failure}
 use Rattle.kb_context.specs.declared.refusal.Refusal.{Refusal}
 use Rattle.kb_core.specs.declared.run.Core.{Core}
 use Rattle.kb_files.specs.Layout.{layout_scopes}
+use Rattle.kb_files.specs.Marked.{GivesByMarks}
 use Rattle.kb_files.specs.UserFile.{user_rules}
 use Rattle.kb_keys.specs.declared.keystroke.Keystroke.{Keystroke}
 use Rattle.kb_rules.specs.RuleList.{Listed}
+use Rattle.kb_rules.specs.declared.unread.UnreadAt.{UnreadAt}
 use Rattle.kb_session.specs.Fault.{refused_file}
 use Rattle.kb_session.specs.State.{State, Told, happens, Answered, did, refused, step, step_on, out_of, next}
 use Rattle.kb_session.specs.State.{loaded_state}
@@ -32,8 +35,14 @@ loaded_by (Err refusal) user = Err (refused_file Layout refusal)
 loaded_by (Ok scopes) (Err refusal) = Err (refused_file User refusal)
 loaded_by (Ok scopes) (Ok user) = Ok (loaded_session scopes user)
 
-abbrev pub loaded : Option (List ℕ) → List ℕ → Result Seen LoadFault
-loaded layout user = loaded_by (layout_scopes layout) (user_rules user)
+-- for the marks of the patterns of the user's rules
+abbrev pub loaded : List UnreadAt → Option (List ℕ) → List ℕ → Result Seen LoadFault
+loaded marks layout user = loaded_by (layout_scopes layout) (user_rules marks user)
+
+-- a load answered what is meant for the marks that its session tells, or the fault that is meant for all
+-- marks, or was refused memory
+abbrev pub LoadsBy : (List UnreadAt → Result Seen LoadFault) → Result Seen (Failure LoadFault) → Type 0
+LoadsBy meant result = GivesByMarks (λ session. session.state.user.unread) meant result
 
 abbrev pub answered : Answer → Answered
 answered answer.Did = did
@@ -54,7 +63,7 @@ halt old = record old { state = record old.state { stopped = true } }
 
 -- the same where a press was half done: the core and the pressed keystrokes may have changed
 abbrev pub half_done : Core → List Keystroke → State → State
-half_done core pressed s = record { core = core; user = s.user; pressed = pressed; stopped = true }
+half_done core pressed s = record s { core = core; pressed = pressed; stopped = true }
 
 abbrev pub Halts : State → State → Type 0
 Halts old new = new ≡ half_done new.core new.pressed old

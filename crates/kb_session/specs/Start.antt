@@ -9,7 +9,6 @@ use Rattle.kb_core.specs.declared.native.Native.{Native}
 use Rattle.kb_core.specs.declared.run.Core.{Core}
 use Rattle.kb_resolve.specs.Pressed as press
 use Rattle.kb_resolve.specs.Pressed.{Step}
-use Rattle.kb_rules.specs.declared.rule.Rule.{Rule}
 use Rattle.kb_session.specs.declared.start.Finish.{Finish}
 use Rattle.kb_session.specs.declared.start.Finish.TheVariants.{Done, NotFound, BadArguments}
 use Rattle.kb_trace.specs.Lines as line

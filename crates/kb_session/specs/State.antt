@@ -15,22 +15,26 @@ use Rattle.kb_files.specs.UserFile.{user_rules}
 use Rattle.kb_keys.specs.declared.keystroke.Keystroke.{Keystroke}
 use Rattle.kb_resolve.specs.ChordState as chord
 use Rattle.kb_rules.specs.RuleList.{Listed}
+use Rattle.kb_rules.specs.declared.unread.UnreadAt.{UnreadAt}
 use Rattle.kb_session.specs.Start.{Started, press_started}
 use Rattle.kb_stream.specs.Fold.{Out}
 use Rattle.kb_trace.specs.Lines as line
 use Rattle.kb_trace.specs.declared.event.Event.{Event}
 use Rattle.kb_trace.specs.declared.event.Event.TheVariants as event
 
+-- the patterns that aren't read are told list by list, of the load and then of each reload that was taken
 pub record State : Type 0 where
   pub core : Core
   pub user : Listed
   pub pressed : List Keystroke
   pub stopped : Bool
+  pub unread : List (List UnreadAt)
 
--- what a session is told: an event, or the bytes of the user's rules, to be read anew
+-- what a session is told: an event, or the bytes of the user's rules, to be read anew, with the marks of
+-- their patterns that aren't read
 pub data Told : Type 0 where
   happens : Event → Told
-  reload : List ℕ → Told
+  reload : List ℕ → List UnreadAt → Told
 
 -- what it answers; a session that was stopped is halted
 pub data Answered : Type 0 where
@@ -108,15 +112,19 @@ abbrev pub taken_unless : Option Refusal → Event → State → Stepped
 taken_unless None e s = taken e s
 taken_unless (Some r) e s = refuse r s
 
+-- other rules of the user, whose marks are told behind those before
+abbrev pub with_user : Listed → State → State
+with_user user s = record s { user = user; unread = s.unread ++ user.unread ∷ [] }
+
 -- rules that are read anew leave the chord; a file that is refused changes nothing
 abbrev pub reloaded : Result Listed Refusal → State → Stepped
-reloaded (Ok user) s = leave line.reloaded_line (record s { user = user })
+reloaded (Ok user) s = leave line.reloaded_line (with_user user s)
 reloaded (Err r) s = refuse r s
 
 -- what a session does that is running
 abbrev pub step_on : Told → State → Stepped
 step_on (happens e) s = taken_unless (refusal_of e s) e s
-step_on (reload bytes) s = reloaded (user_rules bytes) s
+step_on (reload bytes marks) s = reloaded (user_rules marks bytes) s
 
 abbrev pub step_unless : Bool → Told → State → Stepped
 step_unless true told s = stepped s [] halted
@@ -131,4 +139,10 @@ next told s = out_of (step told s)
 
 -- what a session is loaded as
 abbrev pub loaded_state : ScopesData → Listed → State
-loaded_state scopes user = record { core = new_core scopes; user = user; pressed = []; stopped = false }
+loaded_state scopes user = record {
+  core = new_core scopes;
+  user = user;
+  pressed = [];
+  stopped = false;
+  unread = user.unread ∷ [];
+}

@@ -6,6 +6,7 @@ pub mod inputs;
 mod press;
 pub mod session;
 pub mod start;
+mod unread;
 
 pub use fault::{LoadFault, LoadFile, SessionFault};
 pub use inputs::Inputs;

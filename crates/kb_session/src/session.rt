@@ -1,11 +1,10 @@
 //! A session: its state, what it is told and does, and the trace of that.
 ghost use Rattle.std.specs.Prelude.{◌≡◌, true, false, [], ◌∷◌, ◌++◌, take, map, option_map};
 ghost use Rattle.std.specs.Prelude.{OnOk, OnErr, IfOk, IfErr};
-ghost use Rattle.kb_context.specs.Failure.{Gives};
 ghost use Rattle.kb_context.specs.Refusal.{refused_for};
 ghost use Rattle.kb_context.specs.ScopeFault.{number_of};
-ghost use Rattle.kb_session.specs.Session.{loaded, Takes, Does, halt, Undone, HalfDone, FailsAt, FailsAmong};
-ghost use Rattle.kb_session.specs.State.{happens, reload, next, left_lines};
+ghost use Rattle.kb_session.specs.Session.{loaded, LoadsBy, Takes, Does, halt, Undone, HalfDone, FailsAt, FailsAmong};
+ghost use Rattle.kb_session.specs.State.{happens, reload, next, left_lines, with_user};
 ghost use Rattle.kb_session.specs.declared.fault.SessionFault.TheVariants.{NoMemory};
 ghost use Rattle.kb_stream.specs.Fold.{after_all};
 ghost use Rattle.kb_trace.specs.Lines as line;
@@ -13,12 +12,13 @@ ghost use Rattle.kb_trace.specs.Lines as line;
 use crate::fault::{LoadFault, LoadFile, SessionFault, failure_of, fault_in};
 use crate::inputs::Inputs;
 use crate::press::press_key;
-use kb_context::{ContextValue, Failure, NoMemory, Refusal, ScopeFault};
+use crate::unread::copied_all;
+use kb_context::{ContextValue, Failure, NoMemory, Refusal, ScopeFault, Seq};
 use kb_core::{Core, HeldCore};
 use kb_files::{read_scopes, read_user_rules};
 use kb_keys::Keystroke;
 use kb_resolve::{ChordState, Resolver};
-use kb_rules::{RuleList, RuleSet, Warning};
+use kb_rules::{RuleList, RuleSet, UnreadAt, Warning};
 use kb_stream::Lines;
 use kb_trace::{Answer, Event, lines};
 use std::alloc::Global;
@@ -26,7 +26,8 @@ use std::collections::VecDeque;
 use std::marker::Model;
 
 /// A session of the engine. Contracts see its state (the core with its text and scopes, the user's rules,
-/// the keystrokes of the chord that is open, and whether it is stopped), and the trace that led to it. Once
+/// the keystrokes of the chord that is open, whether it is stopped, and which patterns weren't read in the
+/// load and in each reload), and the trace that led to it. Once
 /// memory was refused it is stopped for good: each later call answers `Stopped`, and `trace` gives the lines
 /// up to the one call that was refused memory.
 #[derive(Drop)]
@@ -36,6 +37,7 @@ pub struct Session {
     resolver: Resolver,
     chord: ChordState,
     stopped: bool,
+    unread: Seq<Seq<UnreadAt>>,
     trace: Lines,
     alloc: Global,
 }
@@ -44,17 +46,32 @@ impl Model for Session {
     ghost use Rattle.std.specs.Prelude.{◌≡◌};
     ghost use Rattle.std.specs.Coded.{codes};
     ghost use Rattle.kb_core.specs.contracts.run.Core as whole;
+    ghost use Rattle.kb_rules.specs.contracts.removal.Removal as removal;
     ghost use Rattle.kb_rules.specs.contracts.rule.Rule as rule;
+    ghost use Rattle.kb_rules.specs.contracts.unread.UnreadAt as marks;
     ghost use Rattle.kb_rules.specs.contracts.warning.Warning as warning;
     ghost use Rattle.kb_session.specs.State.{State};
     ghost use Rattle.kb_stream.specs.Fold.{Traced};
 
     ghost Value = { Traced State };
 
-    ghost coded = { Prim.hlevel (codes, whole.the_row.coded, rule.the_row.coded, warning.the_row.coded) };
+    ghost coded = { Prim.hlevel (
+      codes,
+      whole.the_row.coded,
+      rule.the_row.coded,
+      removal.the_row.coded,
+      warning.the_row.coded,
+      marks.the_row.coded,
+    ) };
 
     ghost view = { λ s. record {
-      state = record { core = s.core; user = s.user; pressed = s.chord; stopped = s.stopped };
+      state = record {
+        core = s.core;
+        user = s.user;
+        pressed = s.chord;
+        stopped = s.stopped;
+        unread = s.unread;
+      };
       trace = s.trace;
     } };
 
@@ -68,8 +85,8 @@ impl Session {
     /// Errors: the first file that is refused, and why (the layout: 1 to 4, 40, 41, 21, 22; then the user's
     /// rules: 1 to 4, 41); or refused memory.
     pub fn load(alloc: Global, inputs: Inputs<'_>) -> Result<Session, Failure<LoadFault>>
-        ensures { Gives (λ session. session) result
-            (loaded (option_map (λ layout. layout.now) inputs.entry.layout) inputs.entry.user.now) }
+        ensures { LoadsBy (λ marks.
+            loaded marks (option_map (λ layout. layout.now) inputs.entry.layout) inputs.entry.user.now) result }
     {
         let scopes = match read_scopes(alloc, inputs.layout) {
             Ok(scopes) => scopes,
@@ -79,13 +96,16 @@ impl Session {
             Ok(user) => user,
             Err(failure) => return Err(failure_of(LoadFile::User, failure)),
         };
-        let resolver = Resolver::new(RuleSet::assemble(alloc, &user)?);
+        let resolver = search_among(alloc, &user)?;
+        let mut unread = Seq::new(alloc);
+        unread.push(copied_all(alloc, user.unread())?)?;
         Ok(Session {
             core: HeldCore::new(Core::new(alloc, scopes)),
             user,
             resolver,
             chord: ChordState::new(alloc),
             stopped: false,
+            unread,
             trace: Lines::new(alloc),
             alloc,
         })
@@ -104,6 +124,15 @@ impl Session {
         ensures { result.now ≡ self.now.state.user.warnings }
     {
         self.user.warnings()
+    }
+
+    /// The patterns of clauses that weren't read, of the rules of the load and then of those of each reload
+    /// that was taken, each list in the order of its file: with the bytes that it was told, these determine
+    /// what the session does. It takes no memory.
+    pub fn unread(&self) -> &[Seq<UnreadAt>]
+        ensures { result.now ≡ self.now.state.unread }
+    {
+        self.unread.as_slice()
     }
 
     /// Whether memory was refused, so that each call answers `Stopped`. It takes no memory.
@@ -153,8 +182,9 @@ impl Session {
     /// Errors: `Stopped` where the session was stopped before; `NoMemory` where memory was refused: the
     /// session is stopped and else as before.
     pub fn reload_user(&mut self, bytes: &[u8]) -> Result<Answer, SessionFault>
-        ensures ok { IfOk result (λ answer. Takes (reload bytes.now) self.old answer self.new) }
-        ensures err { IfErr result (λ fault. FailsAt fault (reload bytes.now) self.old self.new) }
+        ensures ok { IfOk result (λ answer.
+            Takes (reload bytes.now self.new.state.user.unread) self.old answer self.new) }
+        ensures err { IfErr result (λ fault. FailsAt fault (reload bytes.now []) self.old self.new) }
     {
         if self.stopped {
             return Err(SessionFault::Stopped);
@@ -309,7 +339,8 @@ impl Session {
 
     #[tactic(auto, using(crate::proofs::Undoing::undoing))]
     fn reload(&mut self, bytes: &[u8]) -> Result<Answer, NoMemory>
-        ensures ok { IfOk result (λ answer. Does (reload bytes.now) self.old answer self.new) }
+        ensures ok { IfOk result (λ answer.
+            Does (reload bytes.now self.new.state.user.unread) self.old answer self.new) }
         ensures err { OnErr result (Undone self.old self.new) }
     {
         match read_user_rules(self.alloc, bytes) {
@@ -325,17 +356,27 @@ impl Session {
     #[tactic(auto, using(crate::proofs::Undoing::undoing))]
     fn take_rules(&mut self, user: RuleList) -> Result<(), NoMemory>
         ensures ok { OnOk result (self.new ≡ record self.old {
-          state = record self.old.state { user = user; pressed = [] };
+          state = record (with_user user self.old.state) { pressed = [] };
           trace = self.old.trace ++ (left_lines self.old.state.pressed ++ line.reloaded_line ∷ []);
         }) }
         ensures err { OnErr result (Undone self.old self.new) }
     {
-        let resolver = Resolver::new(RuleSet::assemble(self.alloc, &user)?);
+        let resolver = search_among(self.alloc, &user)?;
+        let unread = copied_all(self.alloc, user.unread())?;
         self.note_leaving()?;
         lines::reloaded_line(&mut self.trace)?;
+        self.unread.push(unread)?;
         self.chord.leave();
         self.resolver = resolver;
         self.user = user;
         Ok(())
     }
+}
+
+/// The search among the user's rules, with no others.
+fn search_among(alloc: Global, user: &RuleList) -> Result<Resolver, NoMemory>
+    ensures { IfOk result (λ resolver. resolver ≡ user.now.rules) }
+{
+    let defaults = RuleList::new(alloc);
+    Ok(Resolver::new(RuleSet::assemble(alloc, &defaults, &[], &[], user)?))
 }

@@ -7,17 +7,18 @@ use Rattle.std.proofs.lemmas.Bool.Decides.{nat_tests}
 use Rattle.kb_when.specs.declared.operator.Operator.{Operator}
 use Rattle.kb_when.specs.declared.token.Token.{Token}
 use Rattle.kb_when.specs.declared.token.Token.TheVariants.{Or, And, Not, Open, Close, Equal, Unequal}
-use Rattle.kb_when.specs.declared.token.Token.TheVariants.{Comparison, Word, Quoted}
+use Rattle.kb_when.specs.declared.token.Token.TheVariants.{Comparison, Like, Word, Quoted, Pattern}
 use Rattle.kb_when.specs.declared.fault.WhenFault.{WhenFault}
 use Rattle.kb_when.specs.declared.fault.WhenFault.TheVariants.{Unexpected, TooDeep}
 use Rattle.kb_when.specs.Number.{number_of}
 use Rattle.kb_when.specs.Words.{the_true, the_false, the_in, the_not, is_reserved, is_equal, is_unequal}
 use Rattle.kb_when.specs.Clause.{Clause, Clauses, no_clauses, clause, always, never, key, equals, compare}
-use Rattle.kb_when.specs.Clause.{member, not_of}
+use Rattle.kb_when.specs.Clause.{matches, member, not_of}
+use Rattle.kb_when.specs.Pattern.{flags_of}
 use Rattle.kb_when.specs.Grammar.{Disjuncts, Conjuncts, Operand, KeyTail, alone, equal_word, equal_quoted}
-use Rattle.kb_when.specs.Grammar.{unequal_word, unequal_quoted, compared, among, not_among, last_or, more_or}
-use Rattle.kb_when.specs.Grammar.{last_and, more_and, negated, enclosed, truth, falsity, keyed, IsClause}
-use Rattle.kb_when.specs.Grammar.{any_joined, all_joined}
+use Rattle.kb_when.specs.Grammar.{unequal_word, unequal_quoted, compared, matched, among, not_among}
+use Rattle.kb_when.specs.Grammar.{last_or, more_or, last_and, more_and, negated, enclosed, truth, falsity}
+use Rattle.kb_when.specs.Grammar.{keyed, IsClause, any_joined, all_joined}
 use Rattle.kb_when.specs.Reading.{Step, at_operand, behind_operand, behind_key, behind_not, at_other}
 use Rattle.kb_when.specs.Reading.{compared_with, Opened, bang, paren, Built, append, snoc, operand, members}
 use Rattle.kb_when.specs.Reading.{nothing, closed, whole, go, read_from, clause_of_tokens}
@@ -58,6 +59,7 @@ read_tail (equal_quoted v) h b = refl
 read_tail (unequal_word v) h b = refl
 read_tail (unequal_quoted v) h b = refl
 read_tail (compared o w z e) h b = rw e refl
+read_tail (matched p letters) h b = refl
 read_tail (among o r) h b = rw r refl
 read_tail (not_among o r) h b = rw r refl
 
@@ -241,6 +243,16 @@ find_tail k b (Unequal ∷ _ ∷ rest) t h = absurd (no_ok h)
 find_tail k b (Comparison o ∷ Word w ∷ rest) t h = find_number k w o b rest t h
 find_tail k b (Comparison o ∷ []) t h = absurd (no_ok h)
 find_tail k b (Comparison o ∷ _ ∷ rest) t h = absurd (no_ok h)
+find_tail k b (Like ∷ Pattern p letters ∷ rest) t h =
+    record {
+      tree = matches k p (flags_of letters);
+      rest = rest;
+      derived = matched p letters;
+      goes_on = h;
+      shorter = omega arith;
+    }
+find_tail k b (Like ∷ []) t h = absurd (no_ok h)
+find_tail k b (Like ∷ _ ∷ rest) t h = absurd (no_ok h)
 find_tail k b (Word w ∷ ts) t h = find_word k w b ts t h
 find_tail k b [] t h = record { tree = key k; rest = []; derived = alone; goes_on = h; shorter = omega arith }
 find_tail k b (And ∷ ts) t h =

@@ -1,7 +1,10 @@
 pub mod ClauseLemmas
 pub mod DescentLemmas
 pub mod GrammarLemmas
+pub mod MarkedLemmas
 pub mod NumberLemmas
+pub mod PatternLemmas
 pub mod SameLemmas
 pub mod TokenizerLemmas
+pub mod UnreadLemmas
 pub mod WordsLemmas

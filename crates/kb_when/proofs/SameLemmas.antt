@@ -1,5 +1,6 @@
 -- The test says exactly whether two clauses are the same.
-use Rattle.std.proofs.Common.{◌≡◌, ℕ, suc, List, [], ◌∷◌, length, Bool, true, false, ◌&&◌, refl, ap, sym, ◌∙◌}
+use Rattle.std.proofs.Common.{◌≡◌, ℕ, suc, List, [], ◌∷◌, length, Bool, true, false, ◌&&◌, refl, ap, sym}
+use Rattle.std.proofs.Common.{◌∙◌}
 use Rattle.std.proofs.Common.{Decides, subst}
 use Rattle.std.specs.Prelude.{ℤ}
 use Rattle.std.specs.Str.{bytes_eq}
@@ -10,10 +11,13 @@ use Rattle.std.proofs.lemmas.Slice.Eq.{bytes_eq-Decides}
 use Rattle.kb_when.specs.declared.operator.Operator.{Operator}
 use Rattle.kb_when.specs.declared.operator.Operator.TheVariants.{Below, AtMost, Above, AtLeast}
 use Rattle.kb_when.specs.Operator.{operator_eq}
-use Rattle.kb_when.specs.Clause.{Clause, always, never, key, equals, compare, member, not_of, all_of, any_of}
-use Rattle.kb_when.specs.Clause.{Clauses, no_clauses, clause}
+use Rattle.kb_when.specs.Clause.{Clause, always, never, key, equals, compare, matches, member, not_of}
+use Rattle.kb_when.specs.Clause.{all_of, any_of, Clauses, no_clauses, clause}
+use Rattle.kb_when.specs.Pattern.{same_truth, same_flags}
+use Rattle.kb_when.specs.declared.flags.Flags.{Flags}
 use Rattle.kb_when.specs.Tree.{clauses_of}
-use Rattle.kb_when.specs.Same.{same, same_all, is_always, is_never, is_key, is_equals, is_compare, is_member}
+use Rattle.kb_when.specs.Same.{same, same_all, is_always, is_never, is_key, is_equals, is_compare}
+use Rattle.kb_when.specs.Same.{is_matches, is_member}
 
 both : (a b : Bool) → a && b ≡ true → (a ≡ true) × (b ≡ true)
 both true b h = (refl, h)
@@ -59,6 +63,37 @@ of_equals k v (equals l w) h =
     λ i. equals (of_bytes k l p.0 i) (of_bytes v w p.1 i)
 of_equals k v _ h = absurd (false≢true h)
 
+of_truth : (b c : Bool) → same_truth b c ≡ true → b ≡ c
+of_truth true true h = refl
+of_truth false false h = refl
+of_truth true false h = absurd (false≢true h)
+of_truth false true h = absurd (false≢true h)
+
+of_flags : (f g : Flags) → same_flags f g ≡ true → f ≡ g
+of_flags f g h =
+    let p = both (same_truth f.ignore_case g.ignore_case) _ h in
+    let q = both (same_truth f.multi_line g.multi_line) (same_truth f.dot_all g.dot_all) p.1 in
+    λ i. record {
+      ignore_case = of_truth f.ignore_case g.ignore_case p.0 i;
+      multi_line = of_truth f.multi_line g.multi_line q.0 i;
+      dot_all = of_truth f.dot_all g.dot_all q.1 i;
+    }
+
+of_matches : (k v : List ℕ) (f : Flags) (u : Clause) → is_matches k v f u ≡ true → matches k v f ≡ u
+of_matches k v f (matches l w g) h =
+    let p = both (bytes_eq k l) (bytes_eq v w && same_flags f g) h in
+    let q = both (bytes_eq v w) (same_flags f g) p.1 in
+    λ i. matches (of_bytes k l p.0 i) (of_bytes v w q.0 i) (of_flags f g q.1 i)
+of_matches k v f _ h = absurd (false≢true h)
+
+same_truth_self : (b : Bool) → same_truth b b ≡ true
+same_truth_self true = refl
+same_truth_self false = refl
+
+same_flags_self : (f : Flags) → same_flags f f ≡ true
+same_flags_self f =
+    rw (same_truth_self f.ignore_case, same_truth_self f.multi_line, same_truth_self f.dot_all) refl
+
 of_member : (k v : List ℕ) (u : Clause) → is_member k v u ≡ true → member k v ≡ u
 of_member k v (member l w) h =
     let p = both (bytes_eq k l) (bytes_eq v w) h in
@@ -79,6 +114,7 @@ mutual
   of_same (key k) u h = of_key k u h
   of_same (equals k v) u h = of_equals k v u h
   of_same (compare k o n) u h = of_compare k o n u h
+  of_same (matches k v f) u h = of_matches k v f u h
   of_same (member k v) u h = of_member k v u h
   of_same (not_of t) (not_of u) h = ap not_of (of_same t u h)
   of_same (not_of t) _ h = absurd (false≢true h)
@@ -102,6 +138,7 @@ mutual
   same_self (key k) = same_bytes k
   same_self (equals k v) = rw (same_bytes k, same_bytes v) refl
   same_self (compare k o n) = rw (same_bytes k, same_op o, (Decides-int_eq n n).1 refl) refl
+  same_self (matches k v f) = rw (same_bytes k, same_bytes v, same_flags_self f) refl
   same_self (member k v) = rw (same_bytes k, same_bytes v) refl
   same_self (not_of t) = same_self t
   same_self (all_of ts) = same_all_self ts

@@ -8,7 +8,8 @@ use Rattle.kb_when.specs.Characters.{behind, front, ends_word, is_quote, is_no_l
 use Rattle.kb_when.specs.Characters.{is_no_blank, behind_sign}
 use Rattle.kb_when.specs.Tokenizer.{Read, lex, next_token, next_word, is_like, tokens_of, tokens_within}
 use Rattle.kb_when.specs.Tokenizer.{CountSuffices, after_token, unless_empty, sign_or, signs_or, comparisons}
-use Rattle.kb_when.specs.Tokenizer.{signs, blank_around, in_class, closes, up_to_close, from_close, patterned}
+use Rattle.kb_when.specs.Tokenizer.{signs, blank_around, in_class, closes, up_to_close, from_close}
+use Rattle.kb_when.specs.Tokenizer.{patterned}
 use Rattle.kb_when.specs.Tokenizer.{pattern_or, quoted, quoted_or, word_of}
 use Rattle.kb_when.specs.declared.fault.WhenFault.{WhenFault}
 use Rattle.kb_when.specs.declared.fault.WhenFault.TheVariants.{BadToken}

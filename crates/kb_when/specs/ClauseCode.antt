@@ -1,12 +1,13 @@
 -- A clause as a tree of numbers.
-use Rattle.std.specs.Prelude.{◌≡◌, ℕ, zero, suc, ℤ, pos, negsuc, List, [], ◌∷◌, refl}
+use Rattle.std.specs.Prelude.{◌≡◌, ℕ, zero, suc, ℤ, pos, negsuc, List, [], ◌∷◌, Bool, true, false, refl}
 use Rattle.std.proofs.Common.{ap, sym, ◌∙◌}
 use Rattle.std.specs.Coded.{Coded}
 use base.Stored.{Gv, gnil, gnum, gcons, num}
 use Rattle.kb_when.specs.declared.operator.Operator.{Operator}
 use Rattle.kb_when.specs.declared.operator.Operator.TheVariants.{Below, AtMost, Above, AtLeast}
-use Rattle.kb_when.specs.Clause.{Clause, always, never, key, equals, compare, member, not_of, all_of, any_of}
-use Rattle.kb_when.specs.Clause.{Clauses, no_clauses, clause}
+use Rattle.kb_when.specs.Clause.{Clause, always, never, key, equals, compare, matches, member, not_of}
+use Rattle.kb_when.specs.Clause.{all_of, any_of, Clauses, no_clauses, clause}
+use Rattle.kb_when.specs.declared.flags.Flags.{Flags}
 
 abbrev head : Gv → Gv
 head gnil = gnil
@@ -64,6 +65,38 @@ to_z-of_z : (z : ℤ) → to_z (of_z z) ≡ z
 to_z-of_z (pos n) = refl
 to_z-of_z (negsuc n) = refl
 
+abbrev of_truth : Bool → Gv
+of_truth false = gnum 0
+of_truth true = gnum 1
+
+abbrev to_truth_by : ℕ → Bool
+to_truth_by zero = false
+to_truth_by (suc n) = true
+
+abbrev to_truth : Gv → Bool
+to_truth g = to_truth_by (num g)
+
+to_truth-of_truth : (b : Bool) → to_truth (of_truth b) ≡ b
+to_truth-of_truth false = refl
+to_truth-of_truth true = refl
+
+abbrev of_flags : Flags → Gv
+of_flags f = gcons (of_truth f.ignore_case) (gcons (of_truth f.multi_line) (of_truth f.dot_all))
+
+abbrev to_flags : Gv → Flags
+to_flags g = record {
+  ignore_case = to_truth (head g);
+  multi_line = to_truth (head (tail g));
+  dot_all = to_truth (tail (tail g));
+}
+
+to_flags-of_flags : (f : Flags) → to_flags (of_flags f) ≡ f
+to_flags-of_flags f = λ i. record {
+  ignore_case = to_truth-of_truth f.ignore_case i;
+  multi_line = to_truth-of_truth f.multi_line i;
+  dot_all = to_truth-of_truth f.dot_all i;
+}
+
 abbrev mutual
   pub of_clause : Clause → Gv
   of_clause always = gcons (gnum 0) gnil
@@ -75,6 +108,7 @@ abbrev mutual
   of_clause (not_of t) = gcons (gnum 6) (of_clause t)
   of_clause (all_of ts) = gcons (gnum 7) (of_clauses ts)
   of_clause (any_of ts) = gcons (gnum 8) (of_clauses ts)
+  of_clause (matches k p f) = gcons (gnum 9) (gcons (of_text k) (gcons (of_text p) (of_flags f)))
 
   pub of_clauses : Clauses → Gv
   of_clauses no_clauses = gnil
@@ -90,7 +124,9 @@ by_tag (suc (suc (suc (suc zero)))) g r =
 by_tag (suc (suc (suc (suc (suc zero))))) g r = member (to_text (head g)) (to_text (tail g))
 by_tag (suc (suc (suc (suc (suc (suc zero)))))) g r = not_of r.0
 by_tag (suc (suc (suc (suc (suc (suc (suc zero))))))) g r = all_of r.1
-by_tag (suc (suc (suc (suc (suc (suc (suc (suc n)))))))) g r = any_of r.1
+by_tag (suc (suc (suc (suc (suc (suc (suc (suc zero)))))))) g r = any_of r.1
+by_tag (suc (suc (suc (suc (suc (suc (suc (suc (suc n))))))))) g r =
+    matches (to_text (head g)) (to_text (head (tail g))) (to_flags (tail (tail g)))
 
 -- what a tree of numbers gives as a clause, and as clauses
 abbrev to_both : Gv → Clause × Clauses
@@ -109,6 +145,8 @@ mutual
   back (not_of t) = ap not_of (back t)
   back (all_of ts) = ap all_of (backs ts)
   back (any_of ts) = ap any_of (backs ts)
+  back (matches k p f) =
+      λ i. matches (to_text-of_text k i) (to_text-of_text p i) (to_flags-of_flags f i)
 
   pub backs : (ts : Clauses) → (to_both (of_clauses ts)).1 ≡ ts
   backs no_clauses = refl

@@ -3,10 +3,11 @@ use Rattle.std.specs.Prelude.{◌≡◌, ℕ, ℤ, suc, ◌<◌, List, [], ◌�
 use Rattle.kb_when.specs.declared.operator.Operator.{Operator}
 use Rattle.kb_when.specs.declared.token.Token.{Token}
 use Rattle.kb_when.specs.declared.token.Token.TheVariants.{Or, And, Not, Open, Close, Equal, Unequal}
-use Rattle.kb_when.specs.declared.token.Token.TheVariants.{Comparison, Word, Quoted}
+use Rattle.kb_when.specs.declared.token.Token.TheVariants.{Comparison, Like, Word, Quoted, Pattern}
 use Rattle.kb_when.specs.Number.{number_of}
-use Rattle.kb_when.specs.Clause.{Clause, always, never, key, equals, compare, member, not_of, all_of, any_of}
-use Rattle.kb_when.specs.Clause.{Clauses, no_clauses, clause}
+use Rattle.kb_when.specs.Clause.{Clause, always, never, key, equals, compare, matches, member, not_of}
+use Rattle.kb_when.specs.Clause.{all_of, any_of, Clauses, no_clauses, clause}
+use Rattle.kb_when.specs.Pattern.{flags_of}
 use Rattle.kb_when.specs.Words.{the_true, the_false, the_in, the_not, is_reserved, is_equal, is_unequal}
 
 -- one clause is itself, and several are joined; the grammar gives at least one
@@ -30,6 +31,8 @@ pub data KeyTail (k : List ℕ) : List Token → Clause → List Token → Type 
       → KeyTail k (Unequal ∷ Quoted v ∷ rest) (not_of (equals k v)) rest
   compared : {rest : List Token} (o : Operator) (w : List ℕ) (n : ℤ) → number_of w ≡ Some n
       → KeyTail k (Comparison o ∷ Word w ∷ rest) (compare k o n) rest
+  matched : {rest : List Token} (p letters : List ℕ)
+      → KeyTail k (Like ∷ Pattern p letters ∷ rest) (matches k p (flags_of letters)) rest
   among : {rest : List Token} (other : List ℕ) → is_reserved other ≡ false
       → KeyTail k (Word the_in ∷ Word other ∷ rest) (member k other) rest
   not_among : {rest : List Token} (other : List ℕ) → is_reserved other ≡ false

@@ -3,13 +3,17 @@ pub mod Clause
 pub mod ClauseCode
 pub mod ClauseText
 pub mod Grammar
+pub mod Marked
+pub mod Marks
 pub mod Number
 pub mod Operator
 pub mod Parser
+pub mod Pattern
 pub mod Reading
 pub mod Same
 pub mod Tokenizer
 pub mod Tree
+pub mod Unread
 pub mod Value
 pub mod WhenFault
 pub mod Words

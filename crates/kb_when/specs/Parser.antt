@@ -11,10 +11,12 @@ use Rattle.kb_when.specs.declared.fault.WhenFault.{WhenFault}
 use Rattle.kb_when.specs.declared.fault.WhenFault.TheVariants.{Unexpected}
 use Rattle.kb_context.specs.declared.failure.Failure.{Failure}
 use Rattle.kb_context.specs.Failure.{Fails}
-use Rattle.kb_when.specs.Clause.{Clause, always, never, key, equals, compare, member, not_of, Clauses}
-use Rattle.kb_when.specs.Clause.{no_clauses}
+use Rattle.kb_when.specs.Clause.{Clause, always, never, key, equals, compare, matches, member, not_of}
+use Rattle.kb_when.specs.Clause.{Clauses, no_clauses}
+use Rattle.kb_when.specs.Pattern.{flags_of}
 use Rattle.kb_when.specs.Grammar.{any_joined, all_joined}
-use Rattle.kb_when.specs.Reading.{State, at_operand, behind_operand, Opened, bang, paren, Built, append, snoc}
+use Rattle.kb_when.specs.Reading.{State, at_operand, behind_operand, Opened, bang, paren, Built, append}
+use Rattle.kb_when.specs.Reading.{snoc}
 use Rattle.kb_when.specs.Reading.{operand, read_from}
 
 -- ---- atoms
@@ -25,6 +27,7 @@ clause_of_atom atoms.False = never
 clause_of_atom (atoms.Key k) = key k.now
 clause_of_atom (atoms.Equals k v) = equals k.now v.now
 clause_of_atom (atoms.Compare k o n) = compare k.now o n
+clause_of_atom (atoms.Matches k p letters) = matches k.now p.now (flags_of letters.now)
 clause_of_atom (atoms.Member k other) = member k.now other.now
 
 abbrev pub negated_if : Bool → Clause → Clause

@@ -7,21 +7,22 @@ use Rattle.std.specs.Str.{bytes_eq}
 use Rattle.kb_when.specs.declared.operator.Operator.{Operator}
 use Rattle.kb_when.specs.declared.token.Token.{Token}
 use Rattle.kb_when.specs.declared.token.Token.TheVariants.{Or, And, Not, Open, Close, Equal, Unequal}
-use Rattle.kb_when.specs.declared.token.Token.TheVariants.{Comparison, Word, Quoted}
+use Rattle.kb_when.specs.declared.token.Token.TheVariants.{Comparison, Like, Word, Quoted, Pattern}
 use Rattle.kb_when.specs.declared.fault.WhenFault.{WhenFault}
 use Rattle.kb_when.specs.declared.fault.WhenFault.TheVariants.{Unexpected, TooDeep, BadNumber}
 use Rattle.kb_when.specs.Number.{number_of}
-use Rattle.kb_when.specs.Clause.{Clause, always, never, key, equals, compare, member, not_of, Clauses}
-use Rattle.kb_when.specs.Clause.{no_clauses, clause}
+use Rattle.kb_when.specs.Clause.{Clause, always, never, key, equals, compare, matches, member, not_of}
+use Rattle.kb_when.specs.Clause.{Clauses, no_clauses, clause}
+use Rattle.kb_when.specs.Pattern.{flags_of}
 use Rattle.kb_when.specs.Words.{the_true, the_false, the_in, the_not, is_reserved, is_equal, is_unequal}
 use Rattle.kb_when.specs.Grammar.{any_joined, all_joined}
 
 -- where the reading stands: before an operand, or behind one; behind a key, or behind a key and "not"; before
--- the value of
--- "==" (true) or "!=", before the other key of "in" (true) or "not in"; before a number
+-- a pattern; before the value of "==" (true) or "!="; before the other key of "in" (true) or "not in"; before
+-- a number
 pub data State : Type 0 where
   at_operand behind_operand : State
-  behind_key behind_not : List ℕ → State
+  behind_key behind_not at_pattern : List ℕ → State
   at_value at_other : Bool → List ℕ → State
   at_number : Operator → List ℕ → State
 
@@ -112,6 +113,7 @@ abbrev pub step_behind_key : List ℕ → Built → Token → Step
 step_behind_key k b Equal = Ok (at_value true k, b)
 step_behind_key k b Unequal = Ok (at_value false k, b)
 step_behind_key k b (Comparison o) = Ok (at_number o k, b)
+step_behind_key k b Like = Ok (at_pattern k, b)
 step_behind_key k b (Word w) =
     if bytes_eq the_in w then Ok (at_other true k, b)
     else (if bytes_eq the_not w then Ok (behind_not k, b) else Err Unexpected)
@@ -131,6 +133,10 @@ step_at_number o k b (Word w) = compared_with o k b (number_of w)
 step_at_number o k b (Quoted v) = Err BadNumber
 step_at_number o k b _ = Err Unexpected
 
+abbrev pub step_at_pattern : List ℕ → Built → Token → Step
+step_at_pattern k b (Pattern p letters) = ended b (matches k p (flags_of letters))
+step_at_pattern k b _ = Err Unexpected
+
 abbrev pub step_behind_not : List ℕ → Built → Token → Step
 step_behind_not k b (Word w) = if bytes_eq the_in w then Ok (at_other false k, b) else Err Unexpected
 step_behind_not k b _ = Err Unexpected
@@ -145,6 +151,7 @@ step at_operand = step_at_operand
 step behind_operand = step_behind_operand
 step (behind_key k) = step_behind_key k
 step (behind_not k) = step_behind_not k
+step (at_pattern k) = step_at_pattern k
 step (at_value equal k) = step_at_value equal k
 step (at_other inside k) = step_at_other inside k
 step (at_number o k) = step_at_number o k

@@ -1,7 +1,8 @@
--- The clause that a tree of the program stands for.
+-- The clause that a tree of the program stands for, with its marks and without.
 use Rattle.std.specs.Prelude.{List, [], ◌∷◌}
-use Rattle.kb_when.specs.Clause.{Clause, always, never, key, equals, compare, member, not_of, all_of, any_of}
-use Rattle.kb_when.specs.Clause.{Clauses, no_clauses, clause}
+use Rattle.kb_when.specs.Clause.{Clause, Clauses, no_clauses, clause}
+use Rattle.kb_when.specs.Marked as marked
+use Rattle.kb_when.specs.Marked.{Marked, Markeds, tree_of}
 use Rattle.kb_when.specs.declared.tree.Tree.{Tree, fold-Tree}
 use Rattle.kb_when.specs.declared.tree.Tree.TheOpen.{Tree-F}
 
@@ -9,17 +10,27 @@ abbrev pub clauses_of : List Clause → Clauses
 clauses_of [] = no_clauses
 clauses_of (t ∷ ts) = clause t (clauses_of ts)
 
--- one level, with each tree inside already seen as its clause
-abbrev pub clause_step : Tree-F Clause → Clause
-clause_step Tree-F.True = always
-clause_step Tree-F.False = never
-clause_step (Tree-F.Key k) = key k
-clause_step (Tree-F.Equals k v) = equals k v
-clause_step (Tree-F.Compare k o n) = compare k o n
-clause_step (Tree-F.Member k other) = member k other
-clause_step (Tree-F.Not t) = not_of t.value
-clause_step (Tree-F.And ts) = all_of (clauses_of ts.items)
-clause_step (Tree-F.Or ts) = any_of (clauses_of ts.items)
+-- the same of clauses with their marks
+abbrev pub markeds_of : List Marked → Markeds
+markeds_of [] = marked.no_clauses
+markeds_of (m ∷ ms) = marked.clause m (markeds_of ms)
 
+-- one level, with each tree inside already seen as its clause
+abbrev pub marked_step : Tree-F Marked → Marked
+marked_step Tree-F.True = marked.always
+marked_step Tree-F.False = marked.never
+marked_step (Tree-F.Key k) = marked.key k
+marked_step (Tree-F.Equals k v) = marked.equals k v
+marked_step (Tree-F.Compare k o n) = marked.compare k o n
+marked_step (Tree-F.Matches k p) = marked.matches k p
+marked_step (Tree-F.Member k other) = marked.member k other
+marked_step (Tree-F.Not t) = marked.not_of t.value
+marked_step (Tree-F.And ts) = marked.all_of (markeds_of ts.items)
+marked_step (Tree-F.Or ts) = marked.any_of (markeds_of ts.items)
+
+abbrev pub marked_of : Tree → Marked
+marked_of = fold-Tree Marked marked_step
+
+-- the clause without marks
 abbrev pub clause_of : Tree → Clause
-clause_of = fold-Tree Clause clause_step
+clause_of t = tree_of (marked_of t)

@@ -1,6 +1,7 @@
 -- The value of a clause over the values of keys.
-use Rattle.std.specs.Prelude.{ℕ, ℤ, pos, negsuc, List, Bool, true, false, not, ◌&&◌, ◌||◌, Option, Some, None}
-use Rattle.std.specs.Prelude.{length, nat_eq}
+use Rattle.std.specs.Prelude.{ℕ, ℤ, pos, negsuc, List, [], ◌∷◌, Bool, true, false, not, ◌&&◌, ◌||◌, Option}
+use Rattle.std.specs.Prelude.{Some, None, length, drop, nat_eq, codes, if◌then◌else◌}
+use Rattle.std.specs.Option.{option_map_or}
 use Rattle.std.specs.List.{list_any}
 use Rattle.std.specs.Str.{bytes_eq}
 use Rattle.std.specs.Fmt.{signed_decimal}
@@ -11,8 +12,9 @@ use Rattle.kb_context.specs.declared.value.ContextValue.TheVariants.{Truth, Numb
 use Rattle.kb_when.specs.Number.{number_of}
 use Rattle.kb_when.specs.declared.operator.Operator.{Operator}
 use Rattle.kb_when.specs.Operator.{compared}
-use Rattle.kb_when.specs.Clause.{Clause, always, never, key, equals, compare, member, not_of, all_of, any_of}
-use Rattle.kb_when.specs.Clause.{Clauses, no_clauses, clause}
+use Rattle.kb_when.specs.Clause.{Clause, always, never, key, equals, compare, matches, member, not_of}
+use Rattle.kb_when.specs.Clause.{all_of, any_of, Clauses, no_clauses, clause, patterns_of}
+use Rattle.kb_when.specs.Pattern.{MarkedPattern, pattern_holds}
 
 abbrev pub is_zero : ℤ → Bool
 is_zero (pos n) = nat_eq n 0
@@ -54,22 +56,44 @@ abbrev pub member_holds : Option ContextValue → Option ContextValue → Bool
 member_holds (Some (Text text)) other = contains_text text other
 member_holds _ other = false
 
+-- the text of a value that a pattern is searched in: a number's is its decimal spelling, and lists and
+-- objects have none
+abbrev pub searched_text : Option ContextValue → Option (List ℕ)
+searched_text (Some (Text text)) = Some text
+searched_text (Some (Number n)) = Some (signed_decimal n)
+searched_text (Some (Truth b)) = Some (if b then codes "true" else codes "false")
+searched_text _ = None
+
+-- the pattern matches somewhere in that text
+abbrev pub match_holds : Option ContextValue → MarkedPattern → Bool
+match_holds v p = option_map_or (pattern_holds p) (searched_text v) false
+
+abbrev pub first_mark : List Bool → Bool
+first_mark [] = false
+first_mark (b ∷ marks) = b
+
+-- The value of a clause whose patterns have these marks, in the order of the text: behind as many marks as a
+-- clause has patterns stand those of the next.
 abbrev mutual
-  pub value : Keys → Clause → Bool
-  value keys always = true
-  value keys never = false
-  value keys (key k) = key_holds (get keys k)
-  value keys (equals k v) = equals_holds (get keys k) v
-  value keys (compare k o n) = compare_holds (get keys k) o n
-  value keys (member k other) = member_holds (get keys k) (get keys other)
-  value keys (not_of t) = not (value keys t)
-  value keys (all_of ts) = all_hold keys ts
-  value keys (any_of ts) = any_holds keys ts
+  pub value : Keys → List Bool → Clause → Bool
+  value keys marks always = true
+  value keys marks never = false
+  value keys marks (key k) = key_holds (get keys k)
+  value keys marks (equals k v) = equals_holds (get keys k) v
+  value keys marks (compare k o n) = compare_holds (get keys k) o n
+  value keys marks (matches k p f) =
+      match_holds (get keys k) (record { text = p; flags = f; unread = first_mark marks })
+  value keys marks (member k other) = member_holds (get keys k) (get keys other)
+  value keys marks (not_of t) = not (value keys marks t)
+  value keys marks (all_of ts) = all_hold keys marks ts
+  value keys marks (any_of ts) = any_holds keys marks ts
 
-  pub all_hold : Keys → Clauses → Bool
-  all_hold keys no_clauses = true
-  all_hold keys (clause t ts) = value keys t && all_hold keys ts
+  pub all_hold : Keys → List Bool → Clauses → Bool
+  all_hold keys marks no_clauses = true
+  all_hold keys marks (clause t ts) =
+      value keys marks t && all_hold keys (drop (length (patterns_of t)) marks) ts
 
-  pub any_holds : Keys → Clauses → Bool
-  any_holds keys no_clauses = false
-  any_holds keys (clause t ts) = value keys t || any_holds keys ts
+  pub any_holds : Keys → List Bool → Clauses → Bool
+  any_holds keys marks no_clauses = false
+  any_holds keys marks (clause t ts) =
+      value keys marks t || any_holds keys (drop (length (patterns_of t)) marks) ts

@@ -3,12 +3,14 @@
 ghost use Rattle.std.specs.Prelude.{◌≡◌, ◌∷◌, [], IfOk, IfErr, MatchOption, if◌then◌else◌};
 ghost use Rattle.kb_when.specs.Clause.{not_of, equals, member};
 ghost use Rattle.kb_when.specs.Words.{is_equal, is_unequal};
-ghost use Rattle.kb_when.specs.Reading.{behind_key, behind_not, at_value, at_other, at_number};
+ghost use Rattle.kb_when.specs.Reading.{behind_key, behind_not, at_value, at_other, at_number, at_pattern};
 ghost use Rattle.kb_when.specs.Parser.{clause_of_atom, clause_of_condition, ReadsAtom, FailsAt};
 
 use crate::fault::WhenFault;
+use crate::flags::Flags;
 use crate::number::read_number;
 use crate::operator::Operator;
+use crate::pattern::Pattern;
 use crate::token::Token;
 use crate::tree::Tree;
 use crate::words::{is_reserved, is_word};
@@ -28,6 +30,8 @@ pub(crate) enum Atom<'t> {
     Equals(&'t Text, &'t Text),
     /// A key and the number that its value is compared with.
     Compare(&'t Text, Operator, i64),
+    /// A key and the pattern that its value is to match, with the letters of its flags.
+    Matches(&'t Text, &'t Text, &'t Text),
     /// A key, and the key of the list or object in which its value is to be.
     Member(&'t Text, &'t Text),
 }
@@ -64,6 +68,7 @@ pub(crate) fn key_tail<'t>(
         Token::Equal => value(key, true, rest),
         Token::Unequal => value(key, false, rest),
         Token::Comparison(operator) => number(key, *operator, rest),
+        Token::Like => pattern(key, rest),
         Token::Word(word) => {
             if is_word(word, "in") {
                 return other(key, true, rest);
@@ -161,6 +166,24 @@ fn number<'t>(
     }
 }
 
+/// The pattern behind `=~`.
+fn pattern<'t>(
+    key: &'t Text,
+    tokens: &'t [Token],
+) -> Result<(Condition<'t>, &'t [Token]), WhenFault>
+    ensures ok { IfOk result (λ r.
+        ReadsAtom (at_pattern key.now) tokens.now (clause_of_condition r.0) r.1.now) }
+    ensures err { IfErr result (FailsAt (at_pattern key.now) tokens.now) }
+{
+    let Some((first, rest)) = next(tokens) else {
+        return Err(WhenFault::Unexpected);
+    };
+    match first {
+        Token::Pattern(text, letters) => Ok((plain(Atom::Matches(key, text, letters)), rest)),
+        _ => Err(WhenFault::Unexpected),
+    }
+}
+
 /// The other key behind `in`, or behind `not in`.
 fn other<'t>(
     key: &'t Text,
@@ -223,7 +246,7 @@ impl Atom<'_> {
     ghost use Rattle.kb_when.specs.Tree.{clause_of};
     ghost use Rattle.kb_when.specs.Parser.{clause_of_atom};
 
-    fn tree(self) -> Result<Tree, NoMemory>
+    fn tree(self, alloc: Global) -> Result<Tree, NoMemory>
         ensures { IfOk result (λ t. clause_of t ≡ clause_of_atom self.entry) }
     {
         match self {
@@ -234,6 +257,10 @@ impl Atom<'_> {
             Atom::Compare(key, operator, number) => {
                 Ok(Tree::compare(key.copied()?, operator, number))
             }
+            Atom::Matches(key, text, letters) => Ok(Tree::matching(
+                key.copied()?,
+                Pattern::new(alloc, text.copied()?, Flags::of(letters.as_str()))?,
+            )),
             Atom::Member(key, other) => Ok(Tree::member(key.copied()?, other.copied()?)),
         }
     }
@@ -247,7 +274,7 @@ impl Condition<'_> {
     pub(crate) fn tree(self, alloc: Global) -> Result<Tree, NoMemory>
         ensures { IfOk result (λ t. clause_of t ≡ clause_of_condition self.entry) }
     {
-        let tree = self.atom.tree()?;
+        let tree = self.atom.tree(alloc)?;
         if !self.negated {
             return Ok(tree);
         }

@@ -5,6 +5,7 @@ ghost use Rattle.kb_when.specs.Same.{same_all};
 ghost use Rattle.kb_when.specs.Tree.{clause_of, clauses_of};
 
 use crate::operator::Operator;
+use crate::pattern::Pattern;
 use kb_context::Text;
 
 /// A clause as the program holds it. Parentheses leave no node of their own.
@@ -20,6 +21,8 @@ pub(crate) enum Tree {
     Equals(Text, Text),
     /// A key and the number that its value is compared with.
     Compare(Text, Operator, i64),
+    /// A key and the pattern that its value is to match.
+    Matches(Text, Pattern),
     /// A key, and the key of the list or object in which its value is to be.
     Member(Text, Text),
     /// What is not to hold.
@@ -33,9 +36,10 @@ pub(crate) enum Tree {
 /// The trees by their cases. The clause of a tree is a fold, which doesn't compute in a proof:
 /// these functions say what each case stands for.
 impl Tree {
-    ghost use Rattle.kb_when.specs.Clause.{always, never, key, equals, compare, member};
+    ghost use Rattle.kb_when.specs.Clause.{always, never, key, equals, compare, matches, member};
     ghost use Rattle.kb_when.specs.Clause.{not_of, all_of, any_of};
-    ghost use Rattle.kb_when.specs.Tree.{clause_of, clauses_of};
+    ghost use Rattle.kb_when.specs.Marked as marked;
+    ghost use Rattle.kb_when.specs.Tree.{marked_of, clause_of, clauses_of};
 
     pub(crate) fn always() -> Tree
         ensures { clause_of result ≡ always }
@@ -44,7 +48,8 @@ impl Tree {
     }
 
     pub(crate) fn never() -> Tree
-        ensures { clause_of result ≡ never }
+        ensures clause { clause_of result ≡ never }
+        ensures marked { marked_of result ≡ marked.never }
     {
         Tree::False
     }
@@ -67,6 +72,12 @@ impl Tree {
         Tree::Compare(name, operator, number)
     }
 
+    pub(crate) fn matching(name: Text, pattern: Pattern) -> Tree
+        ensures { clause_of result ≡ matches name pattern.text pattern.flags }
+    {
+        Tree::Matches(name, pattern)
+    }
+
     pub(crate) fn member(name: Text, other: Text) -> Tree
         ensures { clause_of result ≡ member name other }
     {
@@ -79,12 +90,14 @@ impl Tree {
         Tree::Not(tree)
     }
 
+    #[tactic(auto, using(crate::proofs::MarkedLemmas::and_seen))]
     pub(crate) fn all(trees: Vec<Tree>) -> Tree
         ensures { clause_of result ≡ all_of (clauses_of (map clause_of trees.items)) }
     {
         Tree::And(trees)
     }
 
+    #[tactic(auto, using(crate::proofs::MarkedLemmas::or_seen))]
     pub(crate) fn any(trees: Vec<Tree>) -> Tree
         ensures { clause_of result ≡ any_of (clauses_of (map clause_of trees.items)) }
     {
@@ -120,6 +133,7 @@ impl Tree {
 
     /// Whether both are one clause. It takes no memory.
     #[cycle(same)]
+    #[tactic(auto, using(crate::proofs::MarkedLemmas::and_seen, crate::proofs::MarkedLemmas::or_seen))]
     pub(crate) fn same(&self, other: &Tree) -> bool
         ensures { result ≡ same (clause_of self.now) (clause_of other.now) }
     {
@@ -138,6 +152,10 @@ impl Tree {
                 Tree::Compare(other, by, with) => {
                     same_text(key, other) && operator.is(*by) && *number == *with
                 }
+                _ => false,
+            },
+            Tree::Matches(key, pattern) => match other {
+                Tree::Matches(other, with) => same_text(key, other) && pattern.is(with),
                 _ => false,
             },
             Tree::Member(key, among) => match other {

@@ -1,13 +1,16 @@
 //! The values of clauses over the values of context keys.
-ghost use Rattle.std.specs.Prelude.{◌≡◌, option_copied};
+ghost use Rattle.std.specs.Prelude.{◌≡◌, IfOk, IfErr, map, option_copied};
 ghost use Rattle.std.specs.List.{list_any};
 ghost use Rattle.std.specs.Str.{bytes_eq};
-ghost use Rattle.kb_when.specs.Value.{key_holds, equals_holds, compare_holds, member_holds};
+ghost use Rattle.kb_when.specs.Value.{key_holds, equals_holds, compare_holds, match_holds, member_holds};
 
 use crate::number::{is_spelling, read_number};
 use crate::operator::Operator;
+use crate::pattern::Pattern;
 use crate::tree::Tree;
-use kb_context::{ContextValue, Scopes, Seq, Text};
+use itoa::Buffer;
+use kb_context::{ContextValue, NoMemory, Scopes, Seq, Text};
+use std::alloc::Global;
 
 /// Whether a key alone holds.
 fn key_of(value: Option<&ContextValue>) -> bool
@@ -48,6 +51,28 @@ fn compare_of(value: Option<&ContextValue>, operator: Operator, number: i64) -> 
     }
 }
 
+/// Whether a key's value is a text that the pattern matches somewhere. That of a number is its decimal
+/// spelling, that of a truth value `true` or `false`.
+fn match_of(
+    alloc: Global,
+    value: Option<&ContextValue>,
+    pattern: &Pattern,
+) -> Result<bool, NoMemory>
+    ensures { IfOk result (λ holds. holds ≡ match_holds (option_copied value.entry) pattern.now) }
+{
+    match value {
+        Some(ContextValue::Text(text)) => pattern.matches(alloc, text.as_str()),
+        Some(ContextValue::Number(number)) => {
+            let mut buffer = Buffer::new();
+            pattern.matches(alloc, buffer.format(*number))
+        }
+        Some(ContextValue::Truth(truth)) => {
+            pattern.matches(alloc, if *truth { "true" } else { "false" })
+        }
+        _ => Ok(false),
+    }
+}
+
 fn contains(texts: &Seq<Text>, text: &str) -> bool
     ensures { result ≡ list_any (bytes_eq text.now) texts.now }
 {
@@ -76,41 +101,67 @@ fn member_of(value: Option<&ContextValue>, other: Option<&ContextValue>) -> bool
 
 impl Tree {
     ghost use Rattle.kb_context.specs.Scopes.{context};
-    ghost use Rattle.kb_when.specs.Tree.{clause_of};
-    ghost use Rattle.kb_when.specs.Value.{value};
+    ghost use Rattle.kb_when.specs.Tree.{marked_of, markeds_of};
+    ghost use Rattle.kb_when.specs.Marked.{marked_value, all_marked_hold, any_marked_holds};
+    ghost use Rattle.kb_when.specs.Marked.{patterns_in, all_patterns_in, HasPattern};
 
-    /// Whether the clause holds over the keys that the focus sees. It takes no memory.
-    pub(crate) fn holds(&self, scopes: &Scopes) -> bool
-        ensures { result ≡ value (context scopes.now) (clause_of self.now) }
+    /// Whether all of these clauses hold.
+    #[cycle(holding)]
+    fn all_hold(alloc: Global, trees: &[Tree], scopes: &Scopes) -> Result<bool, NoMemory>
+        ensures value { IfOk result (λ holds. holds ≡
+            all_marked_hold (context scopes.now) (markeds_of (map marked_of trees.now))) }
+        ensures memory { IfErr result (λ _.
+            HasPattern (all_patterns_in (markeds_of (map marked_of trees.now)))) }
+    {
+        for tree in trees {
+            if !tree.holds(alloc, scopes)? {
+                return Ok(false);
+            }
+        }
+        Ok(true)
+    }
+
+    /// Whether one of these clauses holds.
+    #[cycle(holding)]
+    fn any_holds(alloc: Global, trees: &[Tree], scopes: &Scopes) -> Result<bool, NoMemory>
+        ensures value { IfOk result (λ holds. holds ≡
+            any_marked_holds (context scopes.now) (markeds_of (map marked_of trees.now))) }
+        ensures memory { IfErr result (λ _.
+            HasPattern (all_patterns_in (markeds_of (map marked_of trees.now)))) }
+    {
+        for tree in trees {
+            if tree.holds(alloc, scopes)? {
+                return Ok(true);
+            }
+        }
+        Ok(false)
+    }
+
+    /// Whether the clause holds over the keys that the focus sees. Only patterns take memory.
+    #[cycle(holding)]
+    pub(crate) fn holds(&self, alloc: Global, scopes: &Scopes) -> Result<bool, NoMemory>
+        ensures value { IfOk result (λ holds.
+            holds ≡ marked_value (context scopes.now) (marked_of self.now)) }
+        ensures memory { IfErr result (λ _. HasPattern (patterns_in (marked_of self.now))) }
     {
         match self {
-            Tree::True => true,
-            Tree::False => false,
-            Tree::Key(key) => key_of(scopes.get(key.as_str())),
-            Tree::Equals(key, text) => equals_of(scopes.get(key.as_str()), text.as_str()),
-            Tree::Compare(key, operator, number) => {
-                compare_of(scopes.get(key.as_str()), *operator, *number)
-            }
-            Tree::Member(key, other) => {
-                member_of(scopes.get(key.as_str()), scopes.get(other.as_str()))
-            }
-            Tree::Not(tree) => !tree.holds(scopes),
-            Tree::And(trees) => {
-                for tree in trees {
-                    if !tree.holds(scopes) {
-                        return false;
-                    }
-                }
-                true
-            }
-            Tree::Or(trees) => {
-                for tree in trees {
-                    if tree.holds(scopes) {
-                        return true;
-                    }
-                }
-                false
-            }
+            Tree::True => Ok(true),
+            Tree::False => Ok(false),
+            Tree::Key(key) => Ok(key_of(scopes.get(key.as_str()))),
+            Tree::Equals(key, text) => Ok(equals_of(scopes.get(key.as_str()), text.as_str())),
+            Tree::Compare(key, operator, number) => Ok(compare_of(
+                scopes.get(key.as_str()),
+                *operator,
+                *number,
+            )),
+            Tree::Matches(key, pattern) => match_of(alloc, scopes.get(key.as_str()), pattern),
+            Tree::Member(key, other) => Ok(member_of(
+                scopes.get(key.as_str()),
+                scopes.get(other.as_str()),
+            )),
+            Tree::Not(tree) => Ok(!tree.holds(alloc, scopes)?),
+            Tree::And(trees) => Tree::all_hold(alloc, trees, scopes),
+            Tree::Or(trees) => Tree::any_holds(alloc, trees, scopes),
         }
     }
 }

@@ -6,8 +6,8 @@ use Rattle.kb_resolve.specs.Resolver.{matches}
 use Rattle.kb_resolve.proofs.ResolverLemmas.{lowest_passes, lowest_fails}
 use Rattle.kb_resolve.proofs.resolver.lowest.Goals as goal
 
-pub returns-then-branch-clause-value : goal.returns-then-branch-clause-value
-returns-then-branch-clause-value c =
+pub returns-then-branch : goal.returns-then-branch
+returns-then-branch c =
     let test = matches (context c.args.scopes.now) c.args.pressed.now in
     let passes : test c.in-Some.rule.now.value ≡ true = search rules in
     ap Some c.deref-then-branch.ensures

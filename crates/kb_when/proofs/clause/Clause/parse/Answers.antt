@@ -9,6 +9,9 @@ returns-in_err-tokens-clause-counted c = count_suffices c.args.text.now
 pub returns-in_err-tree-clause-counted : goal.returns-in_err-tree-clause-counted
 returns-in_err-tree-clause-counted c = count_suffices c.args.text.now
 
+pub returns-in_err-unread-clause-counted : goal.returns-in_err-unread-clause-counted
+returns-in_err-unread-clause-counted c = count_suffices c.args.text.now
+
 pub returns-clause-counted : goal.returns-clause-counted
 returns-clause-counted c = count_suffices c.args.text.now
 
@@ -17,6 +20,9 @@ returns-in_err-tokens-clause-grammar c = by_grammar c.args.text.now
 
 pub returns-in_err-tree-clause-grammar : goal.returns-in_err-tree-clause-grammar
 returns-in_err-tree-clause-grammar c = by_grammar c.args.text.now
+
+pub returns-in_err-unread-clause-grammar : goal.returns-in_err-unread-clause-grammar
+returns-in_err-unread-clause-grammar c = by_grammar c.args.text.now
 
 pub returns-clause-grammar : goal.returns-clause-grammar
 returns-clause-grammar c = by_grammar c.args.text.now

@@ -1,0 +1,18 @@
+use Rattle.std.proofs.Common.{◌≡◌, ◌+◌, ◌++◌, length}
+use Rattle.std.specs.Vec.Iter.{into_iter_items}
+use Rattle.serde_json.specs.View.{items_view}
+use Rattle.kb_manifest.specs.declared.warning.Part.TheVariants.{Palette}
+use Rattle.kb_manifest.specs.PaletteItem.{judged_at, IsRightAt}
+use Rattle.kb_manifest.specs.Parts.{listed}
+use Rattle.kb_manifest.proofs.JudgedLemmas.{Goes, StaysRight}
+use Rattle.kb_manifest.proofs.palette_item.read_items.Given as goal
+
+-- what there is, and then what the entries that are left give
+abbrev pub invariant-loop-entry : goal.invariant-loop-entry
+invariant-loop-entry l = record {
+  goes : Goes judged_at Palette ◌++◌ (listed (items_view l.fn.entries.items)) l.place
+      (listed (items_view (into_iter_items l.entry-iterator))) l.items l.notes;
+  right : StaysRight IsRightAt (listed (items_view l.fn.entries.items)) l.place
+      (listed (items_view (into_iter_items l.entry-iterator))) l.notes.unread;
+  places : l.place + length (into_iter_items l.entry-iterator) ≡ length l.fn.entries.items;
+}

@@ -1,0 +1,68 @@
+-- The commands that a manifest contributes.
+use Rattle.std.specs.Prelude.{ℕ, List, [], Some, None, Result, Ok, Err, codes}
+use Rattle.serde_json.specs.Data.{Data}
+use Rattle.serde_json.specs.Find.{as_object, get}
+use Rattle.kb_context.specs.Reading.{◌>>=◌, or_fault}
+use Rattle.kb_manifest.specs.declared.fault.FileFault.{FileFault}
+use Rattle.kb_manifest.specs.declared.fault.FileFault.TheVariants.{WrongShape}
+use Rattle.kb_manifest.specs.FileFault.{number_of}
+use Rattle.kb_manifest.specs.declared.judged.Judged.{Judged}
+use Rattle.kb_manifest.specs.declared.warning.Notes.{Notes}
+use Rattle.kb_manifest.specs.declared.warning.Part.TheVariants.{Commands}
+use Rattle.kb_when.specs.declared.unread.UnreadPattern.{UnreadPattern}
+use Rattle.kb_manifest.specs.declared.command_table.Named.{Named}
+use Rattle.kb_manifest.specs.declared.command.Texts.{Texts}
+use Rattle.kb_manifest.specs.Member.{required_text, optional_text}
+use Rattle.kb_manifest.specs.Condition.{optional_condition, IsOptionalRight}
+use Rattle.kb_manifest.specs.CommandTable.{firsts_behind}
+use Rattle.kb_manifest.specs.Judged.{kept_from, notes_of}
+
+-- the texts of an entry; the faults come in this order
+unfoldable pub texts_of : Data → Result Texts FileFault
+texts_of d = do
+  members ← or_fault WrongShape (as_object d)
+  name ← required_text (get (codes "command") d)
+  title ← required_text (get (codes "title") d)
+  category ← optional_text (get (codes "category") d)
+  enablement ← optional_text (get (codes "enablement") d)
+  Ok (record { name = name; title = title; category = category; enablement = enablement })
+
+-- the command of these texts, and what is said of its clause
+abbrev pub command_of : List UnreadPattern → ℕ → Texts → Judged Named
+command_of told place texts = record {
+  kept = Some (record {
+    name = texts.name;
+    command = record {
+      title = texts.title;
+      category = texts.category;
+      enablement = (optional_condition told texts.enablement).clause;
+      place = place;
+    };
+  });
+  number = (optional_condition told texts.enablement).number;
+  unread = (optional_condition told texts.enablement).unread;
+}
+
+abbrev pub judged_by : List UnreadPattern → ℕ → Result Texts FileFault → Judged Named
+judged_by told place (Ok texts) = command_of told place texts
+judged_by told place (Err fault) = record { kept = None; number = Some (number_of fault); unread = [] }
+
+-- what becomes of the entry at a place
+abbrev pub judged_at : List UnreadPattern → ℕ → Data → Judged Named
+judged_at told place d = judged_by told place (texts_of d)
+
+-- the first entries of their identifiers; a dropped entry counts for nothing
+abbrev pub commands_of : (ℕ → List UnreadPattern) → List Data → List Named
+commands_of told entries = firsts_behind [] (kept_from judged_at told 0 entries)
+
+-- the commands of entries, and what is said of these
+abbrev pub commands_by : (ℕ → List UnreadPattern) → List Data → List Named × Notes
+commands_by told entries = (commands_of told entries, notes_of judged_at told Commands entries)
+
+-- what is told of the patterns of an entry is right
+abbrev pub IsRightBy : List UnreadPattern → Result Texts FileFault → Type 0
+IsRightBy told (Ok texts) = IsOptionalRight told texts.enablement
+IsRightBy told (Err fault) = Unit {0}
+
+abbrev pub IsRightAt : List UnreadPattern → Data → Type 0
+IsRightAt told d = IsRightBy told (texts_of d)

@@ -1,0 +1,47 @@
+-- What the contribution points of a manifest hold, entry by entry.
+use Rattle.std.specs.Prelude.{List, [], ◌∷◌, Option, Some, None, codes}
+use Rattle.serde_json.specs.Data.{Data, null, boolean, number, string, array, object}
+use Rattle.serde_json.specs.Find.{get, as_object}
+use Rattle.serde_json.specs.View.{items_view}
+use Rattle.kb_manifest.specs.declared.points.Points.{Points}
+use Rattle.kb_manifest.specs.Parts.{◌>>=◌, optional, listed}
+
+pub record Held : Type 0 where
+  pub commands : List Data
+  pub keybindings : List Data
+  pub palette : List Data
+
+abbrev pub no_points : Held
+no_points = record { commands = []; keybindings = []; palette = [] }
+
+-- the entries of a point: the elements of a list; an object alone is read as a list of one
+abbrev pub entries_of : Data → Option (List Data)
+entries_of null = None
+entries_of (boolean b) = None
+entries_of (number n) = None
+entries_of (string s) = None
+entries_of (array ds) = Some (listed ds)
+entries_of (object ms) = Some (object ms ∷ [])
+
+-- the palette's menu in the menus of a manifest
+unfoldable pub palette_of : Data → Option (List Data)
+palette_of menus = do
+  members ← as_object menus
+  optional [] entries_of (get (codes "commandPalette") menus)
+
+-- what the contributions of a manifest hold; a point that is absent has no entry
+unfoldable pub points_in : Data → Option Held
+points_in d = do
+  members ← as_object d
+  commands ← optional [] entries_of (get (codes "commands") d)
+  keybindings ← optional [] entries_of (get (codes "keybindings") d)
+  palette ← optional [] palette_of (get (codes "menus") d)
+  Some (record { commands = commands; keybindings = keybindings; palette = palette })
+
+-- the same of points that were taken out of a manifest
+abbrev pub seen_points : Points → Held
+seen_points points = record {
+  commands = listed (items_view points.commands.items);
+  keybindings = listed (items_view points.keybindings.items);
+  palette = listed (items_view points.palette.items);
+}

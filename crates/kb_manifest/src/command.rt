@@ -1,0 +1,130 @@
+//! The commands that a manifest contributes.
+ghost use Rattle.std.specs.Prelude.{◌≡◌, ◌++◌, [], IfOk, OnOk};
+ghost use Rattle.serde_json.specs.View.{view, items_view};
+ghost use Rattle.kb_manifest.specs.Parts.{listed};
+ghost use Rattle.kb_manifest.specs.Command.{texts_of, command_of, judged_at, commands_by, IsRightAt};
+ghost use Rattle.kb_manifest.specs.Condition.{IsOptionalRight};
+ghost use Rattle.kb_manifest.specs.Judged.{AllRight};
+ghost use Rattle.kb_manifest.specs.Warning.{patterns_at};
+
+use crate::command_table::{CommandTable, Named};
+use crate::condition::optional_condition;
+use crate::fault::FileFault;
+use crate::judged::Judged;
+use crate::member::{optional_text, required_text};
+use crate::parts::{members_in, take_member};
+use crate::warning::{Notes, Part};
+use kb_context::{NoMemory, Seq, Text};
+use kb_when::Clause;
+use serde_json::Value;
+use std::alloc::Global;
+
+/// A command that an extension contributes. The members are those of VS Code's documentation of
+/// contribution points.
+#[derive(Debug, Drop)]
+pub struct Command {
+    /// What people read of it in the palette.
+    pub title: Text,
+    /// What stands in front of the title, if there is anything; it may be empty.
+    pub category: Option<Text>,
+    /// The clause without which no key starts the command, if there is one. One that can't be read
+    /// is the clause `false` (our decision).
+    pub enablement: Option<Clause>,
+    /// Where the entry stands among the contributed commands: the number of entries above it,
+    /// dropped ones too.
+    pub place: usize,
+}
+
+/// The texts of an entry of `commands`.
+#[derive(Drop)]
+struct Texts {
+    name: Text,
+    title: Text,
+    category: Option<Text>,
+    enablement: Option<Text>,
+}
+
+/// The texts of an entry, moved out of it. It takes no memory.
+#[tactic(auto, unfolding(crate::specs::Command::texts_of))]
+fn texts_of(entry: Value) -> Result<Texts, FileFault>
+    ensures { result ≡ texts_of (view entry) }
+{
+    let mut members = members_in(entry).ok_or(FileFault::WrongShape)?;
+    let name = take_member(&mut members, "command");
+    let title = take_member(&mut members, "title");
+    let category = take_member(&mut members, "category");
+    let enablement = take_member(&mut members, "enablement");
+    let name = required_text(name)?;
+    let title = required_text(title)?;
+    let category = optional_text(category)?;
+    let enablement = optional_text(enablement)?;
+    Ok(Texts {
+        name,
+        title,
+        category,
+        enablement,
+    })
+}
+
+/// The command of these texts, and what is said of its clause.
+fn command_of(alloc: Global, texts: Texts, place: usize) -> Result<Judged<Named>, NoMemory>
+    ensures read { IfOk result (λ judged. judged ≡ command_of judged.unread place texts) }
+    ensures right { IfOk result (λ judged. IsOptionalRight judged.unread texts.enablement) }
+{
+    let Texts {
+        name,
+        title,
+        category,
+        enablement,
+    } = texts;
+    let condition = optional_condition(alloc, enablement)?;
+    let command = Command {
+        title,
+        category,
+        enablement: condition.clause,
+        place,
+    };
+    Ok(Judged {
+        kept: Some(Named { name, command }),
+        number: condition.number,
+        unread: condition.unread,
+    })
+}
+
+/// What becomes of the entry at a place.
+fn read_command(alloc: Global, entry: Value, place: usize) -> Result<Judged<Named>, NoMemory>
+    ensures read { IfOk result (λ judged. judged ≡ judged_at judged.unread place (view entry)) }
+    ensures right { IfOk result (λ judged. IsRightAt judged.unread (view entry)) }
+{
+    match texts_of(entry) {
+        Ok(texts) => command_of(alloc, texts, place),
+        Err(fault) => Ok(Judged {
+            kept: None,
+            number: Some(fault.number()),
+            unread: Seq::new(alloc),
+        }),
+    }
+}
+
+/// The commands of the entries of a manifest, and what is said of these.
+pub(crate) fn read_commands(
+    alloc: Global,
+    entries: Vec<Value>,
+) -> Result<(CommandTable, Notes), NoMemory>
+    ensures read { IfOk result (λ r.
+        r ≡ commands_by (patterns_at r.1.unread) (listed (items_view entries.items))) }
+    ensures right { IfOk result (λ r.
+        AllRight IsRightAt (patterns_at r.1.unread) 0 (listed (items_view entries.items))) }
+{
+    let mut commands = CommandTable::new(alloc);
+    let mut notes = Notes::new(alloc);
+    let mut place = 0;
+    for entry in entries {
+        let judged = read_command(alloc, entry, place)?;
+        commands.keep(judged.kept)?;
+        notes.warn(Part::Commands, place, judged.number)?;
+        notes.mark(Part::Commands, place, judged.unread)?;
+        place += 1;
+    }
+    Ok((commands, notes))
+}

@@ -1,0 +1,98 @@
+//! The clauses of a manifest.
+ghost use Rattle.std.specs.Prelude.{◌≡◌, ◌++◌, Ok, IfOk, option_map};
+ghost use Rattle.kb_context.specs.Failure.{Gives};
+ghost use Rattle.kb_when.specs.ClauseText.{clause_in};
+ghost use Rattle.kb_when.specs.Unread.{unread_of};
+ghost use Rattle.kb_manifest.specs.Condition.{number_by, never_holds, condition_by, condition_of};
+ghost use Rattle.kb_manifest.specs.Condition.{optional_condition, IsRightBy, IsRightOf, IsOptionalRight};
+
+use kb_context::{Failure, NoMemory, Seq, Text};
+use kb_when::{Clause, UnreadPattern, WhenFault};
+use std::alloc::{AllocError, Global};
+
+/// A clause of a manifest, the number of what is said of it, and its patterns that aren't read.
+#[derive(Drop)]
+pub(crate) struct Condition {
+    pub(crate) clause: Option<Clause>,
+    pub(crate) number: Option<u32>,
+    pub(crate) unread: Seq<UnreadPattern>,
+}
+
+/// A copy of patterns.
+fn copied(alloc: Global, patterns: &[UnreadPattern]) -> Result<Seq<UnreadPattern>, NoMemory>
+    ensures { IfOk result (λ made. made ≡ patterns.now) }
+{
+    let mut made = Seq::new(alloc);
+    for unread in patterns {
+        let number = unread.number;
+        let pattern = unread.pattern.copied()?;
+        made.push(UnreadPattern { number, pattern })?;
+    }
+    Ok(made)
+}
+
+/// The number of the warning of a clause with these patterns that aren't read, if it has one.
+fn number_by(unread: &[UnreadPattern]) -> Option<u32>
+    ensures { result ≡ number_by unread.now }
+{
+    match unread {
+        [] => None,
+        _ => Some(34),
+    }
+}
+
+/// A clause that was read, and what is said of it.
+fn marked_condition(alloc: Global, clause: Clause) -> Result<Condition, NoMemory>
+    ensures read { IfOk result (λ condition.
+        condition ≡ condition_by condition.unread (Ok clause.tree)) }
+    ensures right { IfOk result (λ condition. IsRightBy condition.unread (Ok clause.tree)) }
+{
+    let unread = copied(alloc, clause.unread())?;
+    let number = number_by(unread.as_slice());
+    Ok(Condition {
+        clause: Some(clause),
+        number,
+        unread,
+    })
+}
+
+/// The clause `false` in place of one that can't be read, and what is said of it: a command must
+/// not start where its clause was to forbid it (our decision). It takes no memory.
+fn never_holds(alloc: Global, fault: WhenFault) -> Condition
+    ensures { result ≡ never_holds fault }
+{
+    Condition {
+        clause: Some(Clause::never(alloc)),
+        number: Some(fault.number()),
+        unread: Seq::new(alloc),
+    }
+}
+
+/// The clause of a text, or the clause `false` where the text can't be read.
+#[tactic(auto, unfolding(crate::specs::Condition::condition_of, crate::specs::Condition::IsRightOf))]
+fn read_condition(alloc: Global, text: &str) -> Result<Condition, NoMemory>
+    ensures read { IfOk result (λ condition. condition ≡ condition_of condition.unread text.now) }
+    ensures right { IfOk result (λ condition. IsRightOf condition.unread text.now) }
+{
+    match Clause::parse(alloc, text) {
+        Ok(clause) => marked_condition(alloc, clause),
+        Err(Failure::Fault(fault)) => Ok(never_holds(alloc, fault)),
+        Err(Failure::NoMemory) => Err(AllocError),
+    }
+}
+
+/// The clause of a text, if there is one.
+pub(crate) fn optional_condition(alloc: Global, text: Option<Text>) -> Result<Condition, NoMemory>
+    ensures read { IfOk result (λ condition.
+        condition ≡ optional_condition condition.unread text) }
+    ensures right { IfOk result (λ condition. IsOptionalRight condition.unread text) }
+{
+    match text {
+        Some(text) => read_condition(alloc, text.as_str()),
+        None => Ok(Condition {
+            clause: None,
+            number: None,
+            unread: Seq::new(alloc),
+        }),
+    }
+}

@@ -1,0 +1,184 @@
+//! The manifest of an extension, read from JSON.
+ghost use Rattle.std.specs.Prelude.{◌≡◌, ◌++◌, [], IfOk, option_map, codes};
+ghost use Rattle.serde_json.specs.View.{view, items_view, members_view};
+ghost use Rattle.kb_context.specs.Failure.{Gives};
+ghost use Rattle.kb_context.specs.Reading.{or_fault};
+ghost use Rattle.kb_manifest.specs.declared.fault.FileFault.TheVariants.{WrongShape};
+ghost use Rattle.kb_manifest.specs.Parts.{optional, elements_of};
+ghost use Rattle.kb_manifest.specs.Manifest.{word_of, texts_of, publisher_of, id_of, seen_head, head_of};
+ghost use Rattle.kb_manifest.specs.Manifest.{seen_manifest, told_by, contributed, manifest_of, IsRead};
+ghost use Rattle.kb_manifest.specs.Manifest.{IsRightIn, IsRightOf};
+
+use crate::command::read_commands;
+use crate::command_table::CommandTable;
+use crate::context::read_texts;
+use crate::fault::FileFault;
+use crate::layout::lacks;
+use crate::palette_item::{PaletteItem, read_items};
+use crate::parts::{elements_in, members_in, take_member, text_in};
+use crate::points::{Points, read_points};
+use crate::warning::Notes;
+use kb_context::{Failure, NoMemory, Seq, Text};
+use serde_json::Value;
+use std::alloc::Global;
+
+/// What an extension's `package.json` says, as far as this engine reads it.
+#[derive(Drop)]
+pub struct Manifest {
+    /// The extension's identifier, `publisher.name` (VS Code's documentation), as the file spells
+    /// it. Without a publisher it begins with `undefined_publisher` (our decision).
+    pub id: Text,
+    /// The identifiers of the extensions that it depends on, in the order of the file.
+    pub dependencies: Seq<Text>,
+    /// The commands that it contributes, each identifier once.
+    pub commands: CommandTable,
+    /// The entries of its key rules, as they stand in the file: `read_list` of `kb_rules` reads
+    /// them by a platform.
+    pub keybindings: Vec<Value>,
+    /// The items of the palette's menu.
+    pub palette: Seq<PaletteItem>,
+    /// What is said of the entries of its commands.
+    pub command_notes: Notes,
+    /// What is said of the items of the palette.
+    pub palette_notes: Notes,
+}
+
+/// What a manifest says before its entries are read.
+#[derive(Drop)]
+struct Head {
+    id: Text,
+    dependencies: Seq<Text>,
+    points: Points,
+}
+
+impl Manifest {
+    /// The manifest that a JSON value is. `name` has to be there. Other members that this engine
+    /// doesn't know are ignored, as VS Code does.
+    ///
+    /// A lone object in place of a list is read as a list of one (our decision). An entry of
+    /// `commands` needs `command` and `title`, and may have `category` and `enablement`; of several
+    /// with one identifier the first counts, whole. An entry of `menus.commandPalette` needs
+    /// `command` and may have `when`. An entry that is no object (41), lacks a member (40) or has
+    /// one that is no text (41) is dropped, and has a warning of its first fault in this order. A
+    /// clause there that can't be read (30 to 33) has a warning, and counts as `false`; one with a
+    /// pattern that isn't read has the warning 34, once. Which patterns aren't read is told by
+    /// `kb_when`, and the notes list them.
+    ///
+    /// Errors: `MissingMember` (40) where an object lacks `name`, whatever else is wrong. Then
+    /// `WrongShape` (41) where the value, `contributes` or `menus` is no object, `name` or
+    /// `publisher` no text or empty, `extensionDependencies` no list of texts, or `commands`,
+    /// `keybindings` or `menus.commandPalette` neither a list nor an object: `null` is there, and
+    /// is none of these; or `NoMemory`.
+    #[tactic(auto, unfolding(crate::specs::Manifest::manifest_of))]
+    pub fn read(alloc: Global, value: Value) -> Result<Manifest, Failure<FileFault>>
+        ensures read { IsRead (view value) result }
+
+        // A pattern is listed only where `regex` doesn't read it, and isn't listed only where it does.
+        ensures right { IfOk result (λ manifest. IsRightOf (told_by manifest) (view value)) }
+    {
+        if lacks(&value, "name") {
+            return Err(Failure::Fault(FileFault::MissingMember));
+        }
+        let head = read_head(alloc, value)?;
+        Ok(contribute(alloc, head)?)
+    }
+}
+
+/// The text that a value is, if it isn't empty.
+fn word_of(value: Value) -> Option<Text>
+    ensures { result ≡ word_of (view value) }
+{
+    let text = text_in(value)?;
+    if text.as_str().is_empty() {
+        return None;
+    }
+    Some(text)
+}
+
+/// The publisher of an extension.
+fn read_publisher(alloc: Global, publisher: Option<Value>) -> Result<Text, Failure<FileFault>>
+    ensures { Gives (λ text. text) result (or_fault WrongShape (publisher_of (option_map view publisher))) }
+{
+    match publisher {
+        Some(publisher) => Ok(word_of(publisher).ok_or(FileFault::WrongShape)?),
+        None => Ok(Text::from_str(alloc, "undefined_publisher")?),
+    }
+}
+
+/// The identifier of an extension.
+#[tactic(auto, unfolding(crate::specs::Manifest::id_of))]
+fn read_id(
+    alloc: Global,
+    name: Option<Value>,
+    publisher: Option<Value>,
+) -> Result<Text, Failure<FileFault>>
+    ensures { Gives (λ id. id) result
+        (or_fault WrongShape (id_of (option_map view name) (option_map view publisher))) }
+{
+    let name = name.and_then(word_of).ok_or(FileFault::WrongShape)?;
+    let mut id = read_publisher(alloc, publisher)?;
+    id.push_str(".")?;
+    id.push_str(name.as_str())?;
+    Ok(id)
+}
+
+/// The identifiers of the extensions that one depends on, none where the member is absent.
+fn read_dependencies(
+    alloc: Global,
+    dependencies: Option<Value>,
+) -> Result<Seq<Text>, Failure<FileFault>>
+    ensures { Gives (λ texts. texts) result
+        (or_fault WrongShape (optional [] texts_of (option_map view dependencies))) }
+{
+    match dependencies {
+        Some(dependencies) => {
+            let elements = elements_in(dependencies).ok_or(FileFault::WrongShape)?;
+            read_texts(alloc, elements)
+        }
+        None => Ok(Seq::new(alloc)),
+    }
+}
+
+/// What a manifest says before its entries are read.
+#[tactic(auto, unfolding(crate::specs::Manifest::head_of))]
+fn read_head(alloc: Global, value: Value) -> Result<Head, Failure<FileFault>>
+    ensures { Gives seen_head result (or_fault WrongShape (head_of (view value))) }
+{
+    let mut members = members_in(value).ok_or(FileFault::WrongShape)?;
+    let name = take_member(&mut members, "name");
+    let publisher = take_member(&mut members, "publisher");
+    let dependencies = take_member(&mut members, "extensionDependencies");
+    let contributes = take_member(&mut members, "contributes");
+    let id = read_id(alloc, name, publisher)?;
+    let dependencies = read_dependencies(alloc, dependencies)?;
+    let points = read_points(alloc, contributes)?;
+    Ok(Head {
+        id,
+        dependencies,
+        points,
+    })
+}
+
+/// The manifest whose entries these are.
+fn contribute(alloc: Global, head: Head) -> Result<Manifest, NoMemory>
+    ensures read { IfOk result (λ manifest.
+        contributed (told_by manifest) (seen_head head) ≡ seen_manifest manifest) }
+    ensures right { IfOk result (λ manifest. IsRightIn (told_by manifest) (seen_head head)) }
+{
+    let Head {
+        id,
+        dependencies,
+        points,
+    } = head;
+    let (commands, command_notes) = read_commands(alloc, points.commands)?;
+    let (palette, palette_notes) = read_items(alloc, points.palette)?;
+    Ok(Manifest {
+        id,
+        dependencies,
+        commands,
+        keybindings: points.keybindings,
+        palette,
+        command_notes,
+        palette_notes,
+    })
+}

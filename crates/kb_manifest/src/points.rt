@@ -1,0 +1,112 @@
+//! What the contribution points of a manifest hold.
+ghost use Rattle.std.specs.Prelude.{[], option_map, IfOk, ◌≡◌, ◌∷◌};
+ghost use Rattle.serde_json.specs.View.{view, items_view};
+ghost use Rattle.kb_context.specs.Failure.{Gives};
+ghost use Rattle.kb_context.specs.Reading.{or_fault};
+ghost use Rattle.kb_manifest.specs.declared.fault.FileFault.TheVariants.{WrongShape};
+ghost use Rattle.kb_manifest.specs.Parts.{optional, listed};
+ghost use Rattle.kb_manifest.specs.Points.{entries_of, palette_of, no_points, points_in, seen_points};
+
+use crate::fault::FileFault;
+use crate::parts::{members_in, take_member};
+use kb_context::{Failure, NoMemory};
+use serde_json::Value;
+use std::alloc::Global;
+
+/// What the three contribution points hold that this engine reads, entry by entry.
+#[derive(Drop)]
+pub(crate) struct Points {
+    pub(crate) commands: Vec<Value>,
+    pub(crate) keybindings: Vec<Value>,
+    pub(crate) palette: Vec<Value>,
+}
+
+/// The list of one value.
+fn list_of_one(alloc: Global, value: Value) -> Result<Vec<Value>, NoMemory>
+    ensures { IfOk result (λ list. list.items ≡ value ∷ []) }
+{
+    let mut list = Vec::new(alloc);
+    list.push(value)?;
+    Ok(list)
+}
+
+/// The entries of a point: the elements of a list, or a lone object.
+fn entries_in(alloc: Global, point: Value) -> Result<Vec<Value>, Failure<FileFault>>
+    ensures { Gives (λ list. listed (items_view list.items)) result
+        (or_fault WrongShape (entries_of (view point))) }
+{
+    match point {
+        Value::Array(elements) => Ok(elements),
+        Value::Object(members) => Ok(list_of_one(alloc, Value::Object(members))?),
+        _ => Err(Failure::Fault(FileFault::WrongShape)),
+    }
+}
+
+/// The entries of a point, none where its member is absent.
+fn entries_at(alloc: Global, point: Option<Value>) -> Result<Vec<Value>, Failure<FileFault>>
+    ensures { Gives (λ list. listed (items_view list.items)) result
+        (or_fault WrongShape (optional [] entries_of (option_map view point))) }
+{
+    match point {
+        Some(point) => entries_in(alloc, point),
+        None => Ok(Vec::new(alloc)),
+    }
+}
+
+/// The entries of the palette's menu, none where `menus` or its member is absent.
+fn palette_at(alloc: Global, menus: Option<Value>) -> Result<Vec<Value>, Failure<FileFault>>
+    ensures { Gives (λ list. listed (items_view list.items)) result
+        (or_fault WrongShape (optional [] palette_of (option_map view menus))) }
+{
+    match menus {
+        Some(menus) => palette_in(alloc, menus),
+        None => Ok(Vec::new(alloc)),
+    }
+}
+
+/// The entries of the palette's menu in the menus of a manifest.
+#[tactic(auto, unfolding(crate::specs::Points::palette_of))]
+fn palette_in(alloc: Global, menus: Value) -> Result<Vec<Value>, Failure<FileFault>>
+    ensures { Gives (λ list. listed (items_view list.items)) result
+        (or_fault WrongShape (palette_of (view menus))) }
+{
+    let mut members = members_in(menus).ok_or(FileFault::WrongShape)?;
+    entries_at(alloc, take_member(&mut members, "commandPalette"))
+}
+
+/// What the points hold, nothing where `contributes` is absent.
+pub(crate) fn read_points(
+    alloc: Global,
+    contributes: Option<Value>,
+) -> Result<Points, Failure<FileFault>>
+    ensures { Gives seen_points result
+        (or_fault WrongShape (optional no_points points_in (option_map view contributes))) }
+{
+    match contributes {
+        Some(contributes) => points_in(alloc, contributes),
+        None => Ok(Points {
+            commands: Vec::new(alloc),
+            keybindings: Vec::new(alloc),
+            palette: Vec::new(alloc),
+        }),
+    }
+}
+
+/// What the points hold in the contributions of a manifest.
+#[tactic(auto, unfolding(crate::specs::Points::points_in))]
+fn points_in(alloc: Global, contributes: Value) -> Result<Points, Failure<FileFault>>
+    ensures { Gives seen_points result (or_fault WrongShape (points_in (view contributes))) }
+{
+    let mut members = members_in(contributes).ok_or(FileFault::WrongShape)?;
+    let commands = take_member(&mut members, "commands");
+    let keybindings = take_member(&mut members, "keybindings");
+    let menus = take_member(&mut members, "menus");
+    let commands = entries_at(alloc, commands)?;
+    let keybindings = entries_at(alloc, keybindings)?;
+    let palette = palette_at(alloc, menus)?;
+    Ok(Points {
+        commands,
+        keybindings,
+        palette,
+    })
+}

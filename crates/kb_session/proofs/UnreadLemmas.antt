@@ -1,0 +1,64 @@
+-- The lists of unread patterns that a session tells: one more for each reload that is taken, and none changes.
+use Rattle.std.proofs.Common.{◌≡◌, Bool, true, false, List, [], ◌∷◌, ◌++◌, refl, sym, ap, ◌∙◌, append-nil}
+use Rattle.std.proofs.Common.{append_assoc}
+use Rattle.std.specs.Prelude.{Option, Some, None, Result, Ok, Err}
+use Rattle.kb_context.specs.declared.refusal.Refusal.{Refusal}
+use Rattle.kb_files.specs.UserFile.{user_rules}
+use Rattle.kb_rules.specs.RuleList.{Listed}
+use Rattle.kb_rules.specs.declared.unread.UnreadAt.{UnreadAt}
+use Rattle.kb_session.specs.Session.{Halts}
+use Rattle.kb_session.specs.State.{State, Told, happens, reload, step, step_on, step_unless, next}
+use Rattle.kb_session.specs.State.{taken_unless, reloaded, refusal_of}
+use Rattle.kb_stream.specs.Fold.{fold}
+use Rattle.kb_trace.specs.declared.event.Event.{Event}
+use Rattle.kb_trace.specs.declared.event.Event.TheVariants as event
+
+-- an event adds none
+event_lists : (refusal : Option Refusal) (e : Event) (s : State) → (taken_unless refusal e s).state.unread ≡ s.unread
+event_lists (Some refusal) e s = refl
+event_lists None (event.Key key) s = refl
+event_lists None (event.Focus name) s = refl
+event_lists None (event.SetKey name key value) s = refl
+event_lists None (event.UnsetKey name key) s = refl
+event_lists None (event.Unread number) s = refl
+
+-- what lists there are, and then more
+pub record Grows (old new : List (List UnreadAt)) : Type 0 where
+  pub more : List (List UnreadAt)
+  pub is : new ≡ old ++ more
+
+same_grows : (old new : List (List UnreadAt)) → new ≡ old → Grows old new
+same_grows old new same = record { more = []; is = same ∙ sym (append-nil old) }
+
+reload_grows : (rules : Result Listed Refusal) (s : State) → Grows s.unread (reloaded rules s).state.unread
+reload_grows (Ok user) s = record { more = user.unread ∷ []; is = refl }
+reload_grows (Err refusal) s = same_grows s.unread s.unread refl
+
+on_grows : (told : Told) (s : State) → Grows s.unread (step_on told s).state.unread
+on_grows (happens e) s = same_grows s.unread (step_on (happens e) s).state.unread (event_lists (refusal_of e s) e s)
+on_grows (reload bytes marks) s = reload_grows (user_rules marks bytes) s
+
+unless_grows : (stopped : Bool) (told : Told) (s : State) → Grows s.unread (step_unless stopped told s).state.unread
+unless_grows true told s = same_grows s.unread s.unread refl
+unless_grows false told s = on_grows told s
+
+-- one step keeps what lists there are
+pub step_grows : (told : Told) (s : State) → Grows s.unread (step told s).state.unread
+step_grows told s = unless_grows s.stopped told s
+
+grows_on : (a b c : List (List UnreadAt)) → Grows a b → Grows b c → Grows a c
+grows_on a b c p q = record {
+  more = p.more ++ q.more;
+  is = q.is ∙ ap (λ (lists : List (List UnreadAt)). lists ++ q.more) p.is ∙ append_assoc a p.more q.more;
+}
+
+-- and so does a run
+pub run_grows : (told : List Told) (s : State) → Grows s.unread (fold next told s).state.unread
+run_grows [] s = same_grows s.unread s.unread refl
+run_grows (one ∷ told) s =
+    grows_on s.unread (next one s).state.unread (fold next told (next one s).state).state.unread
+    (step_grows one s) (run_grows told (next one s).state)
+
+-- refused memory adds none
+pub halt_keeps : (old new : State) → Halts old new → new.unread ≡ old.unread
+halt_keeps old new halts = ap (λ (s : State). s.unread) halts

@@ -1,0 +1,104 @@
+//! Patterns of a clause that `regex` doesn't read.
+ghost use Rattle.std.specs.Prelude.{◌≡◌, [], map, OnOk, IfOk};
+ghost use Rattle.kb_when.specs.Tree.{marked_of};
+ghost use Rattle.kb_when.specs.Unread.{IsKept};
+
+use crate::pattern::Pattern;
+use crate::tree::Tree;
+use kb_context::{NoMemory, Seq, Text};
+use std::alloc::Global;
+
+/// A pattern of a clause that `regex` doesn't read. What it stands for never holds (our decision).
+#[derive(Debug, Drop)]
+pub struct UnreadPattern {
+    /// Its number among the clause's patterns in the order of the text, from 0.
+    pub number: usize,
+    /// The pattern, without its flags.
+    pub pattern: Text,
+}
+
+/// The patterns so far: whether each is marked, and those that are.
+#[derive(Drop)]
+pub(crate) struct Noted {
+    pub(crate) marks: Seq<bool>,
+    pub(crate) unread: Seq<UnreadPattern>,
+}
+
+impl Noted {
+    ghost use Rattle.kb_when.specs.Unread.{note, HasRightMark};
+
+    /// No pattern so far.
+    fn new(alloc: Global) -> Noted
+        ensures { result ≡ record { marks = []; unread = [] } }
+    {
+        Noted {
+            marks: Seq::new(alloc),
+            unread: Seq::new(alloc),
+        }
+    }
+
+    /// Notes one more pattern.
+    fn note(&mut self, pattern: &Pattern) -> Result<(), NoMemory>
+        ensures noted { OnOk result (self.new ≡ note self.old pattern.now) }
+        ensures right { HasRightMark pattern.now }
+    {
+        let number = self.marks.len();
+        let is_unread = pattern.is_unread();
+        self.marks.push(is_unread)?;
+        if is_unread {
+            let pattern = pattern.text().copied()?;
+            self.unread.push(UnreadPattern { number, pattern })?;
+        }
+        Ok(())
+    }
+}
+
+impl Tree {
+    ghost use Rattle.kb_when.specs.Marked.{patterns_in, all_patterns_in};
+    ghost use Rattle.kb_when.specs.Tree.{marked_of, markeds_of};
+    ghost use Rattle.kb_when.specs.Unread.{note_all, HaveRightMarks};
+
+    /// Notes the patterns of trees.
+    #[cycle(noting)]
+    fn note_trees(trees: &[Tree], noted: &mut Noted) -> Result<(), NoMemory>
+        ensures noted { OnOk result (noted.new ≡
+            note_all noted.old (all_patterns_in (markeds_of (map marked_of trees.now)))) }
+        ensures right { OnOk result
+            (HaveRightMarks (all_patterns_in (markeds_of (map marked_of trees.now)))) }
+    {
+        for tree in trees {
+            tree.note_patterns(noted)?;
+        }
+        Ok(())
+    }
+
+    /// Notes the patterns of a tree in the order of the text.
+    #[cycle(noting)]
+    fn note_patterns(&self, noted: &mut Noted) -> Result<(), NoMemory>
+        ensures noted { OnOk result (noted.new ≡
+            note_all noted.old (patterns_in (marked_of self.now))) }
+        ensures right { OnOk result (HaveRightMarks (patterns_in (marked_of self.now))) }
+    {
+        match self {
+            Tree::Matches(_, pattern) => noted.note(pattern),
+            Tree::Not(tree) => tree.note_patterns(noted),
+            Tree::And(trees) => Tree::note_trees(trees, noted),
+            Tree::Or(trees) => Tree::note_trees(trees, noted),
+            Tree::True => Ok(()),
+            Tree::False => Ok(()),
+            Tree::Key(_) => Ok(()),
+            Tree::Equals(_, _) => Ok(()),
+            Tree::Compare(_, _, _) => Ok(()),
+            Tree::Member(_, _) => Ok(()),
+        }
+    }
+}
+
+/// The patterns of a tree that `regex` doesn't read.
+pub(crate) fn unread_patterns(alloc: Global, tree: &Tree) -> Result<Seq<UnreadPattern>, NoMemory>
+    ensures { IfOk result (IsKept (marked_of tree.now)) }
+{
+    let mut noted = Noted::new(alloc);
+    tree.note_patterns(&mut noted)?;
+    Ok(noted.unread)
+}

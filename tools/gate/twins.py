@@ -1,0 +1,94 @@
+"""Twins: copies of a function behind it, each with one wrong body.
+
+What holds a body is its function's contract, wherever the function stands and whatever its name. So a wrong body is tried in a
+copy of its function that has a name of its own, the same clauses, and the same files of proofs/ under that name. A twin calls
+what its function calls, and nothing calls the twin: twins don't disturb one another, and all of a crate fit one check.
+
+A copy without an edit, the control, stands beside the twins of a function that has files of proofs/: it must be proved,
+or what those files say of a copy tells nothing.
+"""
+
+import dataclasses
+import os
+import re
+
+
+@dataclasses.dataclass(eq=False)
+class Twin:
+    """A copy of a function: under which name, and with which edit, or without one."""
+
+    function: object
+    name: str
+    edit: object = None
+
+    @property
+    def unit(self):
+        return "::".join([*self.function.unit.split("::")[:-1], self.name])
+
+    def plain_name(self):
+        return "::".join([*self.function.plain_name().split("::")[:-1], self.name])
+
+    def lines(self, texts):
+        """The function's lines in these files, with the edit and under the twin's name."""
+        it, changed = self.function, self.edit.lines if self.edit else {}
+        lines = texts[it.file][it.head - 1 : it.closes]
+        lines = [changed.get((it.file, it.head + at), line) for at, line in enumerate(lines)]
+        return re.sub(rf"\bfn {it.name}\b", f"fn {self.name}", "\n".join(lines), count=1).split("\n")
+
+
+def folder_of(function):
+    """The function's folder of proofs, below the crate."""
+    return "/".join(["proofs", *function.unit.split("::")])
+
+
+def texts_below(folder):
+    """The texts of the .antt files below a folder, by their paths in it."""
+    found = {}
+    for at, _, names in os.walk(folder):
+        for name in sorted(it for it in names if it.endswith(".antt")):
+            path = os.path.join(at, name)
+            with open(path, encoding="utf-8") as text:
+                found[os.path.relpath(path, folder)] = text.read()
+    return found
+
+
+def proof_path(function):
+    """What begins the names of the modules of a function's proof."""
+    return re.compile(rf"(?<=\.proofs\.){re.escape('.'.join(function.unit.split('::')))}(?=\.(?!Met\b))")
+
+
+class Proofs:
+    """The proof files of a crate."""
+
+    def __init__(self, crate):
+        self.texts = {f"proofs/{path}": text for path, text in texts_below(os.path.join(crate.folder, "proofs")).items()}
+
+    def of(self, function):
+        """The files of a function's proof."""
+        return {path: text for path, text in self.texts.items() if path.startswith(f"{folder_of(function)}/")}
+
+    def let_twins_of(self, function, functions):
+        """Whether a copy of the function is proved as it is: no trait's or cycle's part, and no other file names its proof."""
+        parts = folder_of(function).rpartition("/")
+        calls_itself = any(path.startswith(f"{parts[0]}/+{parts[2]}/") for path in self.texts)
+        is_inner = any(it is not function and it.file == function.file and it.spans(function.head) for it in functions)
+        own, named = self.of(function), proof_path(function)
+        is_named = any(named.search(text) for path, text in self.texts.items() if path not in own)
+        return not (function.trait or function.cycle or calls_itself or is_inner or is_named)
+
+    def of_twin(self, twin):
+        """The proof files of a twin: those of its function under its own name."""
+        named = ".".join(twin.unit.split("::"))
+        start = folder_of(twin.function)
+        own = f"{start.rpartition('/')[0]}/{twin.name}"
+        path = proof_path(twin.function)
+        return {f"{own}{at[len(start):]}": path.sub(named, text) for at, text in self.of(twin.function).items()}
+
+
+def with_twins(twins, texts):
+    """Sources, as lists of lines, with these twins behind their functions."""
+    changed = {path: [*lines] for path, lines in texts.items()}
+    for it in sorted(twins, key=lambda it: -it.function.closes):
+        at = it.function.closes
+        changed[it.function.file][at:at] = it.lines(texts)
+    return changed
