@@ -42,13 +42,13 @@ impl RuleSet {
     pub fn assemble(
         alloc: Global,
         defaults: &RuleList,
-        extensions: &[RuleList],
+        extensions: &[&RuleList],
         enabled: &[bool],
         user: &RuleList,
     ) -> Result<RuleSet, NoMemory>
         requires { length enabled.now ≡ length extensions.now }
-        ensures { IfOk result (λ set.
-            set ≡ rules_in_force defaults.now extensions.now enabled.now user.now) }
+        ensures { IfOk result (λ set. set
+            ≡ rules_in_force defaults.now (map (λ l. l.now) extensions.now) enabled.now user.now) }
     {
         let lists = counted_lists(alloc, defaults, extensions, enabled)?;
         let removals = counted_removals(alloc, lists.as_slice(), user)?;
@@ -70,18 +70,18 @@ impl RuleSet {
 fn counted_lists<'a>(
     alloc: Global,
     defaults: &'a RuleList,
-    extensions: &'a [RuleList],
+    extensions: &[&'a RuleList],
     enabled: &[bool],
 ) -> Result<Vec<&'a RuleList>, NoMemory>
     requires { length enabled.now ≡ length extensions.now }
     ensures { IfOk result (λ lists. map (λ l. l.now) lists.items
-        ≡ defaults.now ∷ enabled_of extensions.now enabled.now) }
+        ≡ defaults.now ∷ enabled_of (map (λ l. l.now) extensions.now) enabled.now) }
 {
     let mut lists = Vec::new(alloc);
     lists.push(defaults)?;
     for (i, list) in extensions.iter().enumerate() {
         if enabled[i] {
-            lists.push(list)?;
+            lists.push(*list)?;
         }
     }
     Ok(lists)

@@ -8,7 +8,7 @@ use Rattle.kb_rules.proofs.rule_set.RuleSet.assemble.Goals as goal
 
 pub returns : goal.returns
 returns c =
-    let lists = c.args.defaults.now ∷ enabled_of c.args.extensions.now c.args.enabled.now in
+    let lists = c.args.defaults.now ∷ enabled_of (map (λ l. l.now) c.args.extensions.now) c.args.enabled.now in
     let index = c.in_ok-index.index in
     let kept : map (λ r. r.value) c.share_all.new.list
     ≡ flat_map (λ list. left_in index list.rules) lists ++ c.args.user.now.rules =

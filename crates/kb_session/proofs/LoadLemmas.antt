@@ -1,0 +1,276 @@
+-- What is read of the files of a load, by the marks that were found, is what they load.
+use Rattle.std.proofs.Common.{◌≡◌, ◌≤◌, ℕ, ◌+◌, List, [], ◌∷◌, ◌++◌, map, length, take, drop, refl, sym, ap, ◌∙◌}
+use Rattle.std.proofs.Common.{arith, length-append, append-nil}
+use Rattle.std.proofs.lemmas.List.{length-map, map-append}
+use Rattle.std.specs.Prelude.{Result, Ok, Err, MatchResult}
+use Rattle.serde_json.specs.Data.{Data}
+use Rattle.kb_context.specs.Failure.{Fails, Gives}
+use Rattle.kb_context.specs.Reading.{◌>>=◌, seen}
+use Rattle.kb_context.specs.Scopes.{ScopesData}
+use Rattle.kb_context.specs.declared.failure.Failure.{Failure}
+use Rattle.kb_context.specs.declared.failure.Failure.TheVariants.{NoMemory, Fault}
+use Rattle.kb_context.specs.declared.refusal.Refusal.{Refusal}
+use Rattle.kb_files.specs.ExtensionFile.{ExtensionMarks, marks_of, outline_in, extension_by, extension_in}
+use Rattle.kb_files.specs.Marked.{GivesByMarks, ReadsBy}
+use Rattle.kb_files.specs.RuleFile.{elements_held, rules_by, rules_in}
+use Rattle.kb_files.specs.declared.extension_file.Extension.{Extension}
+use Rattle.kb_keys.specs.declared.platform.Platform.{Platform}
+use Rattle.kb_manifest.specs.Manifest.{Outline}
+use Rattle.kb_rules.specs.RuleList.{Listed}
+use Rattle.kb_rules.specs.declared.origin.Origin.{Origin}
+use Rattle.kb_rules.specs.declared.origin.Origin.TheVariants as origin
+use Rattle.kb_rules.specs.declared.unread.UnreadAt.{UnreadAt}
+use Rattle.kb_session.specs.Fault.{refused_by, of_file}
+use Rattle.kb_session.specs.Load.{Held, GivesOf, AreRules, IsExtension, AreExtensions, outlines_from}
+use Rattle.kb_session.specs.Load.{first_marks, other_marks, extensions_by, marks_in, sources_by}
+use Rattle.kb_session.specs.Session.{Seen, loaded_session}
+use Rattle.kb_session.specs.Sources.{Sources}
+use Rattle.kb_session.specs.declared.fault.LoadFault.{LoadFault}
+use Rattle.kb_session.specs.declared.fault.LoadFile.{LoadFile}
+use Rattle.kb_session.specs.declared.fault.LoadFile.TheVariants as file
+
+-- ---- one file
+
+-- what is read by its own marks is made of what is held, whose fault hangs on no marks
+made_of : {M X Y F : Type 0} (marks_of : X → M) (none : M) (make : M → Y → X)
+    (held : Result Y F) (r : Result X (Failure F))
+    → GivesByMarks marks_of (λ marks. seen (make marks) held) r
+    → GivesOf (λ y x. x ≡ make (marks_of x) y) r held
+made_of marks_of none make (Ok y) (Ok x) h = cc
+made_of marks_of none make (Ok y) (Err NoMemory) h = tt
+made_of marks_of none make (Ok y) (Err (Fault f)) h = let impossible = h none in absurd (cc)
+made_of marks_of none make (Err e) (Ok x) h = absurd (cc)
+made_of marks_of none make (Err e) (Err NoMemory) h = tt
+made_of marks_of none make (Err e) (Err (Fault f)) h = let same = h none in cc
+
+-- the same, of a file that is named
+named : {X Y : Type 0} (IsMade : Y → X → Type 0) (file : LoadFile) (held : Result Y Refusal)
+    (r : Result X (Failure Refusal)) → GivesOf IsMade r held
+    → GivesOf IsMade (of_file file r) (refused_by file held)
+named IsMade file (Ok y) (Ok x) h = h
+named IsMade file (Err e) (Ok x) h = absurd h
+named IsMade file held (Err NoMemory) h = tt
+named IsMade file (Ok y) (Err (Fault f)) h = absurd (cc)
+named IsMade file (Err e) (Err (Fault f)) h = cc
+
+pub rules_of_file : (file : LoadFile) (origin : Origin) (bytes : List ℕ) (r : Result Listed (Failure Refusal))
+    → ReadsBy (λ marks. rules_in marks origin bytes) r
+    → GivesOf (AreRules origin) (of_file file r) (refused_by file (elements_held bytes))
+rules_of_file file origin bytes r h =
+    named (AreRules origin) file (elements_held bytes) r
+    (made_of (λ list. list.unread) [] (λ marks. rules_by marks origin) (elements_held bytes) r h)
+
+pub extension_of_file : (number : ℕ) (platform : Platform) (bytes : List ℕ)
+    (r : Result Extension (Failure Refusal))
+    → GivesByMarks marks_of (λ marks. extension_in marks number platform bytes) r
+    → GivesOf (IsExtension number platform) (of_file (file.Package number) r)
+    (refused_by (file.Package number) (outline_in bytes))
+extension_of_file number platform bytes r h =
+    named (IsExtension number platform) (file.Package number) (outline_in bytes) r
+    (made_of marks_of (record { commands = []; rules = []; palette = [] })
+    (λ marks. extension_by marks number platform) (outline_in bytes) r h)
+
+-- ---- the manifests in turn
+
+bind_ok : {F X : Type 0} (r : Result X F) → (r >>= λ x. Ok x) ≡ r
+bind_ok (Ok x) = refl
+bind_ok (Err f) = refl
+
+abbrev joined : Result (List Outline) LoadFault → Result (List Outline) LoadFault
+    → Result (List Outline) LoadFault
+joined first rest = first >>= λ done. rest >>= λ more. Ok (done ++ more)
+
+joined_behind : (r : Result Outline LoadFault) (first rest : Result (List Outline) LoadFault)
+    → (r >>= λ outline. joined first rest >>= λ outlines. Ok (outline ∷ outlines))
+    ≡ joined (r >>= λ outline. first >>= λ outlines. Ok (outline ∷ outlines)) rest
+joined_behind (Ok outline) (Ok done) (Ok more) = refl
+joined_behind (Ok outline) (Ok done) (Err f) = refl
+joined_behind (Ok outline) (Err f) rest = refl
+joined_behind (Err f) first rest = refl
+
+outlines-append : (number : ℕ) (done more : List (List ℕ))
+    → outlines_from number (done ++ more)
+    ≡ joined (outlines_from number done) (outlines_from (number + length done) more)
+outlines-append number [] more =
+    let same : number ≡ number + 0 = omega arith in
+    sym (bind_ok (outlines_from number more))
+    ∙ ap (λ n. outlines_from n more >>= λ outlines. Ok outlines) same
+outlines-append number (bytes ∷ done) more =
+    let count : number + 1 + length done ≡ number + (1 + length done) = omega arith in
+    let r = refused_by (file.Package number) (outline_in bytes) in
+    ap (λ rest. r >>= λ outline. rest >>= λ outlines. Ok (outline ∷ outlines))
+    (outlines-append (number + 1) done more)
+    ∙ joined_behind r (outlines_from (number + 1) done) (outlines_from (number + 1 + length done) more)
+    ∙ ap (λ n. joined (r >>= λ outline. outlines_from (number + 1) done >>= λ outlines. Ok (outline ∷ outlines))
+    (outlines_from n more)) count
+
+extensions-length : (platform : Platform) (marks : List ExtensionMarks) (number : ℕ) (outlines : List Outline)
+    → length (extensions_by platform marks number outlines) ≡ length outlines
+extensions-length platform marks number [] = refl
+extensions-length platform marks number (outline ∷ outlines) =
+    ap (λ n. 1 + n) (extensions-length platform (other_marks marks) (number + 1) outlines)
+
+extensions-push : (platform : Platform) (marks : List ExtensionMarks) (one : ExtensionMarks) (number : ℕ)
+    (outlines : List Outline) (outline : Outline) → length marks ≡ length outlines
+    → extensions_by platform (marks ++ one ∷ []) number (outlines ++ outline ∷ [])
+    ≡ extensions_by platform marks number outlines
+    ++ extension_by one (number + length outlines) platform outline ∷ []
+extensions-push platform [] one number [] outline e =
+    let same : number ≡ number + 0 = omega arith in
+    ap (λ n. extension_by one n platform outline ∷ []) same
+extensions-push platform [] one number (o ∷ outlines) outline e = absurd (omega (arith, e))
+extensions-push platform (m ∷ marks) one number [] outline e = absurd (omega (arith, e))
+extensions-push platform (m ∷ marks) one number (o ∷ outlines) outline e =
+    let rest : length marks ≡ length outlines = omega (arith, e) in
+    let count : number + 1 + length outlines ≡ number + (1 + length outlines) = omega arith in
+    ap (λ es. extension_by m number platform o ∷ es)
+    (extensions-push platform marks one (number + 1) outlines outline rest
+    ∙ ap (λ n. extensions_by platform marks (number + 1) outlines
+    ++ extension_by one n platform outline ∷ []) count)
+
+-- the extensions of the manifests so far
+pub record Reads (platform : Platform) (es : List Extension) (number : ℕ) (done : List (List ℕ)) : Type 0 where
+  pub made : MatchResult (outlines_from 0 done) (λ outlines. AreExtensions platform outlines es) (λ fault. ⊥)
+  pub count : length done ≡ number
+  pub size : length es ≡ number
+
+pub reads_none : (platform : Platform) → Reads platform [] 0 []
+reads_none platform = record { made = refl; count = refl; size = refl }
+
+made_next : (platform : Platform) (es : List Extension) (number : ℕ) (e : Extension)
+    (first : Result (List Outline) LoadFault) (next : Result Outline LoadFault)
+    → length es ≡ number
+    → MatchResult first (λ outlines. AreExtensions platform outlines es) (λ fault. ⊥)
+    → MatchResult next (λ outline. IsExtension number platform outline e) (λ fault. ⊥)
+    → MatchResult (joined first (next >>= λ outline. Ok (outline ∷ [])))
+    (λ outlines. AreExtensions platform outlines (es ++ e ∷ [])) (λ fault. ⊥)
+made_next platform es number e (Err f) next size h k = absurd h
+made_next platform es number e (Ok outlines) (Err f) size h k = absurd k
+made_next platform es number e (Ok outlines) (Ok outline) size h k =
+    let many : length outlines ≡ number =
+    sym (extensions-length platform (map marks_of es) 0 outlines) ∙ sym (ap length h) ∙ size in
+    let marks : length (map marks_of es) ≡ length outlines = length-map marks_of es ∙ size ∙ sym many in
+    let place : number ≡ 0 + length outlines = omega (arith, many) in
+    (λ i. h i ++ (k ∙ ap (λ n. extension_by (marks_of e) n platform outline) place) i ∷ [])
+    ∙ sym (extensions-push platform (map marks_of es) (marks_of e) 0 outlines outline marks)
+    ∙ ap (λ ms. extensions_by platform ms 0 (outlines ++ outline ∷ [])) (sym (map-append marks_of es (e ∷ [])))
+
+-- one manifest more
+pub reads_next : (platform : Platform) (es : List Extension) (number : ℕ) (done : List (List ℕ))
+    (bytes : List ℕ) (e : Extension) → Reads platform es number done
+    → MatchResult (refused_by (file.Package number) (outline_in bytes))
+    (λ outline. IsExtension number platform outline e) (λ fault. ⊥)
+    → Reads platform (es ++ e ∷ []) (number + 1) (done ++ bytes ∷ [])
+reads_next platform es number done bytes e r h =
+    let place : 0 + length done ≡ number = omega (arith, r.count) in
+    let whole : outlines_from 0 (done ++ bytes ∷ [])
+    ≡ joined (outlines_from 0 done)
+    (refused_by (file.Package number) (outline_in bytes) >>= λ outline. Ok (outline ∷ [])) =
+    outlines-append 0 done (bytes ∷ []) ∙ ap (λ n. joined (outlines_from 0 done) (outlines_from n (bytes ∷ []))) place in
+    record {
+      made = rw whole
+          (made_next platform es number e (outlines_from 0 done)
+          (refused_by (file.Package number) (outline_in bytes)) r.size r.made h);
+      count = length-append done (bytes ∷ []) ∙ ap (λ n. n + 1) r.count;
+      size = length-append es (e ∷ []) ∙ ap (λ n. n + 1) r.size;
+    }
+
+fails_joined : (P : List Outline → Type 0) (first rest : Result (List Outline) LoadFault) (f : LoadFault)
+    → MatchResult first P (λ fault. ⊥) → rest ≡ Err f → joined first rest ≡ Err f
+fails_joined P (Ok done) rest f h e = rw e refl
+fails_joined P (Err g) rest f h e = absurd h
+
+-- a manifest that is refused is the first fault
+pub reads_fail : (platform : Platform) (es : List Extension) (number : ℕ) (done rest : List (List ℕ))
+    (bytes : List ℕ) (failure : Failure LoadFault) → Reads platform es number done
+    → Fails failure (refused_by (file.Package number) (outline_in bytes))
+    → Fails failure (outlines_from 0 (done ++ bytes ∷ rest))
+reads_fail platform es number done rest bytes NoMemory r h = tt
+reads_fail platform es number done rest bytes (Fault f) r h =
+    let place : 0 + length done ≡ number = omega (arith, r.count) in
+    let here : outlines_from number (bytes ∷ rest) ≡ Err f = rw h refl in
+    outlines-append 0 done (bytes ∷ rest)
+    ∙ ap (λ n. joined (outlines_from 0 done) (outlines_from n (bytes ∷ rest))) place
+    ∙ fails_joined (λ outlines. AreExtensions platform outlines es) (outlines_from 0 done)
+    (outlines_from number (bytes ∷ rest)) f r.made here
+
+-- ---- all files
+
+fails_first : {X Y F : Type 0} (failure : Failure F) (r : Result X F) (next : X → Result Y F)
+    → Fails failure r → Fails failure (r >>= next)
+fails_first NoMemory r next h = tt
+fails_first (Fault f) r next h = rw h refl
+
+fails_behind : {X Y F : Type 0} (P : X → Type 0) (failure : Failure F) (r : Result X F) (next : X → Result Y F)
+    → MatchResult r P (λ fault. ⊥) → ((x : X) → Fails failure (next x)) → Fails failure (r >>= next)
+fails_behind P failure (Ok x) next h all = all x
+fails_behind P failure (Err e) next h all = absurd h
+
+-- what is held, in the order of the files
+abbrev held_in : Result ScopesData LoadFault → Result (List Data) LoadFault → Result (List Data) LoadFault
+    → Result (List Outline) LoadFault → Result Held LoadFault
+held_in layout defaults user extensions =
+    layout >>= λ s. defaults >>= λ d. user >>= λ u. extensions >>= λ o. Ok (record {
+      scopes = s;
+      defaults = d;
+      user = u;
+      outlines = o;
+    })
+
+module _ (layout : Result ScopesData LoadFault) (defaults user : Result (List Data) LoadFault)
+    (extensions : Result (List Outline) LoadFault) where
+  pub layout_fails : (failure : Failure LoadFault) → Fails failure layout
+      → Fails failure (held_in layout defaults user extensions)
+  layout_fails failure h = fails_first failure layout _ h
+
+  pub defaults_fail : (scopes : ScopesData) (failure : Failure LoadFault) → layout ≡ Ok scopes
+      → Fails failure defaults → Fails failure (held_in layout defaults user extensions)
+  defaults_fail scopes failure e h = rw e (fails_first failure defaults _ h)
+
+  pub user_fails : (scopes : ScopesData) (d : Listed) (failure : Failure LoadFault) → layout ≡ Ok scopes
+      → GivesOf {F = LoadFault} (AreRules origin.Defaults) (Ok d) defaults
+      → Fails failure user → Fails failure (held_in layout defaults user extensions)
+  user_fails scopes d failure e hd h =
+      rw e (fails_behind (λ ds. AreRules origin.Defaults ds d) failure defaults _ hd
+      (λ ds. fails_first failure user _ h))
+
+  pub extensions_fail : (scopes : ScopesData) (d u : Listed) (failure : Failure LoadFault)
+      → layout ≡ Ok scopes
+      → GivesOf {F = LoadFault} (AreRules origin.Defaults) (Ok d) defaults
+      → GivesOf {F = LoadFault} (AreRules origin.User) (Ok u) user
+      → Fails failure extensions → Fails failure (held_in layout defaults user extensions)
+  extensions_fail scopes d u failure e hd hu h =
+      rw e (fails_behind (λ ds. AreRules origin.Defaults ds d) failure defaults _ hd
+      (λ ds. fails_behind (λ us. AreRules origin.User us u) failure user _ hu
+      (λ us. fails_first failure extensions _ h)))
+
+all_made : (platform : Platform) (scopes : ScopesData) (sources : Sources)
+    (defaults user : Result (List Data) LoadFault) (extensions : Result (List Outline) LoadFault)
+    → MatchResult defaults (λ ds. AreRules origin.Defaults ds sources.defaults) (λ fault. ⊥)
+    → MatchResult user (λ us. AreRules origin.User us sources.user) (λ fault. ⊥)
+    → MatchResult extensions (λ os. AreExtensions platform os sources.extensions) (λ fault. ⊥)
+    → seen (λ held. loaded_session held.scopes (sources_by (marks_in sources) platform held))
+    (held_in (Ok scopes) defaults user extensions) ≡ Ok (loaded_session scopes sources)
+all_made platform scopes sources (Ok ds) (Ok us) (Ok os) hd hu he = λ i.
+    Ok (loaded_session scopes (record {
+      defaults = sym hd i;
+      extensions = sym he i;
+      user = sym hu i;
+    }))
+all_made platform scopes sources (Ok ds) (Ok us) (Err f) hd hu he = absurd he
+all_made platform scopes sources (Ok ds) (Err f) extensions hd hu he = absurd hu
+all_made platform scopes sources (Err f) user extensions hd hu he = absurd hd
+
+pub all_loaded : (platform : Platform) (layout : Result ScopesData LoadFault)
+    (defaults user : Result (List Data) LoadFault) (extensions : Result (List Outline) LoadFault)
+    (scopes : ScopesData) (sources : Sources) (session : Seen) → layout ≡ Ok scopes
+    → GivesOf {F = LoadFault} (AreRules origin.Defaults) (Ok sources.defaults) defaults
+    → GivesOf {F = LoadFault} (AreRules origin.User) (Ok sources.user) user
+    → GivesOf {F = LoadFault} (AreExtensions platform) (Ok sources.extensions) extensions
+    → session ≡ loaded_session scopes sources
+    → seen (λ held. loaded_session held.scopes (sources_by (marks_in session.state.sources) platform held))
+    (held_in layout defaults user extensions) ≡ Ok session
+all_loaded platform layout defaults user extensions scopes sources session e hd hu he is =
+    rw (is, e) (all_made platform scopes sources defaults user extensions hd hu he)
+
+pub ruleset whole_load = (layout_fails, defaults_fail, user_fails, extensions_fail, all_loaded)
