@@ -93,9 +93,18 @@ fn add_warnings(warnings: &[Warning], said: &mut String) -> Result<(), NoMemory>
     Ok(())
 }
 
+fn lent_lists(alloc: Global, lists: &[RuleList]) -> Result<Vec<&RuleList>, NoMemory> {
+    let mut lent = Vec::new(alloc);
+    for list in lists {
+        lent.push(list).map_err(NoMemory::from)?;
+    }
+    Ok(lent)
+}
+
 fn said_of(alloc: Global, lists: &Lists) -> Result<String, NoMemory> {
     let mut said = String::new(alloc);
-    let extensions = lists.extensions.as_slice();
+    let extensions = lent_lists(alloc, lists.extensions.as_slice())?;
+    let extensions = extensions.as_slice();
     let enabled = lists.enabled.as_slice();
     if enabled.len() != extensions.len() {
         return String::from_str(alloc, "one truth value for each extension");

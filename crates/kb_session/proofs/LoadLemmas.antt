@@ -10,7 +10,7 @@ use Rattle.kb_context.specs.Scopes.{ScopesData}
 use Rattle.kb_context.specs.declared.failure.Failure.{Failure}
 use Rattle.kb_context.specs.declared.failure.Failure.TheVariants.{NoMemory, Fault}
 use Rattle.kb_context.specs.declared.refusal.Refusal.{Refusal}
-use Rattle.kb_files.specs.ExtensionFile.{ExtensionMarks, marks_of, outline_in, extension_by, extension_in}
+use Rattle.kb_files.specs.Extension.{ExtensionMarks, marks_of, outline_in, extension_by, extension_in}
 use Rattle.kb_files.specs.Marked.{GivesByMarks, ReadsBy}
 use Rattle.kb_files.specs.RuleFile.{elements_held, rules_by, rules_in}
 use Rattle.kb_files.specs.declared.extension_file.Extension.{Extension}
@@ -56,6 +56,7 @@ named IsMade file (Err e) (Err (Fault f)) h = cc
 pub rules_of_file : (file : LoadFile) (origin : Origin) (bytes : List ℕ) (r : Result Listed (Failure Refusal))
     → ReadsBy (λ marks. rules_in marks origin bytes) r
     → GivesOf (AreRules origin) (of_file file r) (refused_by file (elements_held bytes))
+unfolding rules_in
 rules_of_file file origin bytes r h =
     named (AreRules origin) file (elements_held bytes) r
     (made_of (λ list. list.unread) [] (λ marks. rules_by marks origin) (elements_held bytes) r h)
@@ -65,6 +66,7 @@ pub extension_of_file : (number : ℕ) (platform : Platform) (bytes : List ℕ)
     → GivesByMarks marks_of (λ marks. extension_in marks number platform bytes) r
     → GivesOf (IsExtension number platform) (of_file (file.Package number) r)
     (refused_by (file.Package number) (outline_in bytes))
+unfolding extension_in
 extension_of_file number platform bytes r h =
     named (IsExtension number platform) (file.Package number) (outline_in bytes) r
     (made_of marks_of (record { commands = []; rules = []; palette = [] })
@@ -149,7 +151,7 @@ made_next platform es number e (Ok outlines) (Err f) size h k = absurd k
 made_next platform es number e (Ok outlines) (Ok outline) size h k =
     let many : length outlines ≡ number =
     sym (extensions-length platform (map marks_of es) 0 outlines) ∙ sym (ap length h) ∙ size in
-    let marks : length (map marks_of es) ≡ length outlines = length-map marks_of es ∙ size ∙ sym many in
+    let marks : length (map marks_of es) ≡ length outlines = length-map es marks_of ∙ size ∙ sym many in
     let place : number ≡ 0 + length outlines = omega (arith, many) in
     (λ i. h i ++ (k ∙ ap (λ n. extension_by (marks_of e) n platform outline) place) i ∷ [])
     ∙ sym (extensions-push platform (map marks_of es) (marks_of e) 0 outlines outline marks)

@@ -12,7 +12,7 @@ use Rattle.kb_context.specs.Scopes.{ScopesData}
 use Rattle.kb_context.specs.declared.failure.Failure.{Failure}
 use Rattle.kb_context.specs.declared.failure.Failure.TheVariants.{NoMemory, Fault}
 use Rattle.kb_context.specs.declared.refusal.Refusal.{Refusal}
-use Rattle.kb_files.specs.ExtensionFile.{ExtensionMarks, marks_of, outline_in, extension_by}
+use Rattle.kb_files.specs.Extension.{ExtensionMarks, marks_of, outline_in, extension_by}
 use Rattle.kb_files.specs.Layout.{layout_scopes}
 use Rattle.kb_files.specs.RuleFile.{elements_held, rules_by}
 use Rattle.kb_files.specs.declared.extension_file.Extension.{Extension}

@@ -4,7 +4,7 @@ ghost use Rattle.kb_session.specs.Fault.{refused_by};
 ghost use Rattle.kb_session.specs.Load.{is_among, repeats, lacks, first_failing, refused_manifest};
 ghost use Rattle.kb_session.specs.Load.{names_fault, extensions_held, outlines_from};
 ghost use Rattle.kb_session.specs.Load.{GivesOf, AreRules, IsExtension, AreExtensions, names_of};
-ghost use Rattle.kb_files.specs.ExtensionFile.{outline_in};
+ghost use Rattle.kb_files.specs.Extension.{outline_in};
 ghost use Rattle.kb_files.specs.RuleFile.{elements_held};
 
 use crate::fault::{LoadFault, LoadFile, of_file};
