@@ -47,7 +47,8 @@ IsUnmatched pressed keys enablement rules = All (λ rule. ¬ Matches pressed key
 
 last_step : (pressed : List Keystroke) (keys : Keys) (enablement : Enabling) (rule : Rule)
     (below : List Rule) (later : Option Rule) (b : Bool)
-    → MatchOption later (IsUnmatched pressed keys enablement below) (IsLastMatch pressed keys enablement below)
+    → MatchOption later (IsUnmatched pressed keys enablement below)
+    (IsLastMatch pressed keys enablement below)
     → matches keys enablement pressed rule ≡ b
     → MatchOption (option_or later (if b then Some rule else None))
     (IsUnmatched pressed keys enablement (rule ∷ below))
@@ -93,7 +94,8 @@ whole_chord pressed rest chord e h =
 
 greatest_by : (pressed : List Keystroke) (keys : Keys) (enablement : Enabling) (rules : List Rule)
     (rule : Rule) (b : Bool) → IsLastMatch pressed keys enablement rules rule
-    → nat_lt (length pressed) (length rule.chord) ≡ b → IsGreatest pressed keys enablement rules (if b then more else found rule)
+    → nat_lt (length pressed) (length rule.chord) ≡ b
+    → IsGreatest pressed keys enablement rules (if b then more else found rule)
 greatest_by pressed keys enablement rules rule true h e = (rule, h, grind (arith, nat_tests))
 greatest_by pressed keys enablement rules rule false h e =
     (h, whole_chord pressed h.matching.0 rule.chord h.matching.1 (grind (arith, nat_tests)))
@@ -106,8 +108,8 @@ greatest_of pressed keys enablement rules None h = h
 greatest_of pressed keys enablement rules (Some rule) h =
     greatest_by pressed keys enablement rules rule (nat_lt (length pressed) (length rule.chord)) h refl
 
-pub resolved_is_greatest : (pressed : List Keystroke) (keys : Keys) (enablement : Enabling) (rules : List Rule)
-    → IsGreatest pressed keys enablement rules (resolved pressed keys enablement rules)
+pub resolved_is_greatest : (pressed : List Keystroke) (keys : Keys) (enablement : Enabling)
+    (rules : List Rule) → IsGreatest pressed keys enablement rules (resolved pressed keys enablement rules)
 resolved_is_greatest pressed keys enablement rules =
     greatest_of pressed keys enablement rules (chosen pressed keys enablement rules)
     (chosen_is_last pressed keys enablement rules)

@@ -63,10 +63,10 @@ impl ChordState {
     }
 
     /// Presses a key: what it does is what a search for the keystrokes pressed so far with this one
-    /// finds, over what the focus sees now and these enablements. A longer rule keeps them pressed (VS Code's documentation
-    /// of chords); after the other answers no chord is open, and a key that ends a chord without a
-    /// rule does nothing else (our decision). So is that each press asks the clauses and the enablements anew: what the
-    /// focus saw at the presses before doesn't count.
+    /// finds, over what the focus sees now and these enablements. A longer rule keeps them pressed (VS
+    /// Code's documentation of chords); after the other answers no chord is open, and a key that ends a
+    /// chord without a rule does nothing else (our decision). So is that each press asks the clauses and
+    /// the enablements anew: what the focus saw at the presses before doesn't count.
     ///
     /// The rule to be started is lent. Want of memory as for `Resolver::resolve`; the chord then stays
     /// as it was. Nothing else takes memory.

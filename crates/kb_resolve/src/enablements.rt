@@ -43,7 +43,7 @@ impl Enablements {
 
     /// The enablement of a command, lent, if it has one. It takes no memory.
     #[tactic(auto, unfolding(crate::specs::Enablements::enablement_in))]
-    pub fn of(&self, command: &str) -> Option<&SharedClause>
+    pub(crate) fn of(&self, command: &str) -> Option<&SharedClause>
         ensures { option_map (λ clause. clause.now) result ≡ enablement_in self.now command.now }
     {
         match self.table.get(command) {

@@ -46,9 +46,8 @@ impl Resolver {
     /// pressed ones and whose clause, if it has one, holds over what the focus of the scopes sees (VS
     /// Code's documentation: the rules are evaluated from the bottom to the top, and the first that
     /// matches in key and clause counts), and so does the enablement of its command, whosever the rule
-    /// is. A rule with the empty command is found as any other. The
-    /// rule is lent. Want of memory is that of a pattern in a clause or an enablement (`Clause::holds`):
-    /// nothing else takes memory.
+    /// is. A rule with the empty command is found as any other. The rule is lent. Want of memory is that
+    /// of a pattern in a clause or an enablement (`Clause::holds`): nothing else takes memory.
     #[tactic(auto, using(crate::proofs::ResolverLemmas::resolved_is_greatest))]
     pub fn resolve<'r>(
         &'r self,
@@ -60,8 +59,8 @@ impl Resolver {
             ≡ resolved pressed.now (context scopes.now) (enablement_in enablements.now) self.now) }
 
         // What `value` cites, in terms of positions.
-        ensures greatest { IsGreatest pressed.now (context scopes.now) (enablement_in enablements.now) self.now
-            (resolved pressed.now (context scopes.now) (enablement_in enablements.now) self.now) }
+        ensures greatest { IsGreatest pressed.now (context scopes.now) (enablement_in enablements.now)
+            self.now (resolved pressed.now (context scopes.now) (enablement_in enablements.now) self.now) }
 
         // A longer rule has at most `LIMIT` keystrokes, so there is room for one more.
         ensures fits { IfOk result (λ found.

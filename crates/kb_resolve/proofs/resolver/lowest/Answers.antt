@@ -9,7 +9,8 @@ use Rattle.kb_resolve.proofs.resolver.lowest.Goals as goal
 
 pub returns-then-branch : goal.returns-then-branch
 returns-then-branch c =
-    let test = matches (context c.args.scopes.now) (enablement_in c.args.enablements.now) c.args.pressed.now in
+    let enablement = enablement_in c.args.enablements.now in
+    let test = matches (context c.args.scopes.now) enablement c.args.pressed.now in
     let passes : test c.in-Some.rule.now.value ≡ true = search rules in
     ap Some c.deref-then-branch.ensures
     ∙ sym
@@ -19,7 +20,8 @@ returns-then-branch c =
 
 pub loop-rule-preserved : goal.loop-rule-preserved
 loop-rule-preserved c =
-    let test = matches (context c.args.scopes.now) (enablement_in c.args.enablements.now) c.args.pressed.now in
+    let enablement = enablement_in c.args.enablements.now in
+    let test = matches (context c.args.scopes.now) enablement c.args.pressed.now in
     let fails : test c.in-Some.rule.now.value ≡ false = search rules in
     sym (lowest_fails test
     (λ (r : Rc Rule Global). r.value) _ _ c.in-Some.rule.now c.in-Some.ensures.steps fails)

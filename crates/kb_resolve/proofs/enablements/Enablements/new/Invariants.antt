@@ -9,5 +9,6 @@ abbrev pub invariant-loop-contribution : goal.invariant-loop-contribution
 invariant-loop-contribution l =
     (length (into_iter_items l.contribution-iterator) ≡ into_iter_len l.contribution-iterator)
     × ((command : List ℕ)
-    → unwrap_or (get_by_text l.table command) (enablement_of (into_iter_items l.contribution-iterator) command)
+    → unwrap_or (get_by_text l.table command)
+    (enablement_of (into_iter_items l.contribution-iterator) command)
     ≡ enablement_of l.fn.contributions.items command)
