@@ -46,6 +46,7 @@ told_of marks = record {
 -- the extension of a number whose manifest states this; its keys are those of a platform
 abbrev pub extension_of : List UnreadAt → ℕ → Platform → Stated → Extension
 extension_of marks number platform m = record {
+  number = number;
   id = m.id;
   dependencies = m.dependencies;
   commands = m.commands;

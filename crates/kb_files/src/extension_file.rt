@@ -21,6 +21,8 @@ use std::alloc::Global;
 /// What an extension contributes, as far as this engine reads it.
 #[derive(Drop)]
 pub struct Extension {
+    /// Its number in load order, from 0 on.
+    pub number: u32,
     /// Its identifier, `publisher.name` (VS Code's documentation), as its manifest spells it.
     pub id: Text,
     /// The identifiers of the extensions that it depends on, in the order of the manifest.
@@ -55,7 +57,8 @@ pub fn read_extension(
     ensures right { IfOk result (IsRightlyMarked bytes.now) }
 {
     let manifest = read_manifest(alloc, bytes)?;
-    Ok(extend(alloc, manifest, number, platform)?)
+    let extension = extend(alloc, manifest, number, platform)?;
+    Ok(extension)
 }
 
 /// The manifest that the bytes of a file hold.
@@ -64,7 +67,10 @@ fn read_manifest(alloc: Global, bytes: &[u8]) -> Result<Manifest, Failure<Refusa
     ensures right { IfOk result (λ manifest. IsRightBy (told_by manifest) (outline_in bytes.now)) }
 {
     let value = read_value(alloc, bytes)?;
-    Manifest::read(alloc, value).map_err(shape_failure)
+    match Manifest::read(alloc, value) {
+        Ok(manifest) => Ok(manifest),
+        Err(failure) => Err(shape_failure(failure)),
+    }
 }
 
 /// The extension that a manifest states.
@@ -89,6 +95,7 @@ fn extend(
     } = manifest;
     let rules = list_keybindings(alloc, keybindings, number, platform)?;
     Ok(Extension {
+        number,
         id,
         dependencies,
         commands,
