@@ -85,7 +85,10 @@ impl Bindings {
             made ≡ record { defaults = defaults; extensions = extensions; user = user }) }
     {
         let resolver = search_among(alloc, &defaults, extensions.as_slice(), &user)?;
-        let enablements = Enablements::new(alloc, all_contributions(alloc, extensions.as_slice())?)?;
+        let enablements = Enablements::new(
+            alloc,
+            all_contributions(alloc, extensions.as_slice())?,
+        )?;
         let warnings = all_warnings(alloc, &defaults, extensions.as_slice(), &user)?;
         Ok(Bindings {
             defaults,
@@ -124,7 +127,12 @@ impl Bindings {
     pub(crate) fn unread(&self, alloc: Global) -> Result<Seq<UnreadIn>, NoMemory>
         ensures { IfOk result (λ all. all ≡ unread.unread_of self.now) }
     {
-        all_unread(alloc, &self.defaults, self.extensions.as_slice(), &self.user)
+        all_unread(
+            alloc,
+            &self.defaults,
+            self.extensions.as_slice(),
+            &self.user,
+        )
     }
 
     /// How messages name a file. It takes no memory.
