@@ -6,7 +6,7 @@ use Rattle.kb_context.specs.Refusal.{numbered}
 use Rattle.kb_manifest.specs.declared.fault.FileFault.TheVariants.{WrongShape}
 use Rattle.kb_manifest.specs.FileFault.{number_of}
 use Rattle.kb_files.proofs.Elements.{elements_view}
-use Rattle.kb_files.proofs.user_file.rule_elements.Goals as goal
+use Rattle.kb_files.proofs.rule_file.rule_elements.Goals as goal
 
 pub returns-in-Some : goal.returns-in-Some
 returns-in-Some c =

@@ -1,10 +1,11 @@
-//! The user's rules, read from the bytes of their file.
+//! Rules, read from the bytes of their file.
 ghost use Rattle.std.specs.Prelude.{◌≡◌, map, IfOk};
 ghost use Rattle.serde_json.specs.View.{view};
 ghost use Rattle.kb_context.specs.Failure.{Gives};
 ghost use Rattle.kb_context.specs.Reading.{seen};
+ghost use Rattle.kb_rules.specs.RuleList.{AreRightlyMarked};
 ghost use Rattle.kb_files.specs.Marked.{ReadsBy};
-ghost use Rattle.kb_files.specs.UserFile.{user_rules, elements_in, elements_held, listed_of};
+ghost use Rattle.kb_files.specs.RuleFile.{rules_in, rules_by, elements_in, elements_held};
 
 use crate::value::read_value;
 use kb_context::{Failure, NoMemory, Refusal};
@@ -13,24 +14,29 @@ use kb_rules::{Origin, RuleList, read_list};
 use serde_json::Value;
 use std::alloc::Global;
 
-/// The rules of a user's file, with a warning for each element that is dropped, and the patterns that
+/// The rules of a file, with a warning for each element that is dropped, and the patterns that
 /// aren't read: JSON with comments whose value is an array, as VS Code's `keybindings.json`.
 ///
 /// Errors: the first fault of the file, those of its text (1 to 4) and then another shape (41); or
 /// `NoMemory`.
-#[tactic(auto, unfolding(crate::specs::UserFile::user_rules))]
-pub fn read_user_rules(alloc: Global, bytes: &[u8]) -> Result<RuleList, Failure<Refusal>>
-    ensures { ReadsBy (λ marks. user_rules marks bytes.now) result }
+#[tactic(auto, unfolding(crate::specs::RuleFile::rules_in))]
+pub fn read_rules(alloc: Global, bytes: &[u8], origin: Origin) -> Result<RuleList, Failure<Refusal>>
+    ensures read { ReadsBy (λ marks. rules_in marks origin bytes.now) result }
+
+    // A pattern is marked exactly where `regex` doesn't read it.
+    ensures right { IfOk result AreRightlyMarked }
 {
     let elements = read_elements(alloc, bytes)?;
-    Ok(list_elements(alloc, elements)?)
+    Ok(list_elements(alloc, elements, origin)?)
 }
 
 /// What the elements of a file give, of which each is a rule or has a warning.
-fn list_elements(alloc: Global, elements: Vec<Value>) -> Result<RuleList, NoMemory>
-    ensures { IfOk result (λ list. list ≡ listed_of list.unread (map view elements.items)) }
+fn list_elements(alloc: Global, elements: Vec<Value>, origin: Origin) -> Result<RuleList, NoMemory>
+    ensures read { IfOk result (λ list.
+        list ≡ rules_by list.unread origin (map view elements.items)) }
+    ensures right { IfOk result AreRightlyMarked }
 {
-    read_list(alloc, elements, Origin::User, None)
+    read_list(alloc, elements, origin, None)
 }
 
 /// The elements that the bytes of a file hold.
