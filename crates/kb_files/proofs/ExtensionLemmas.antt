@@ -20,7 +20,8 @@ use Rattle.kb_files.specs.Extension.{extension_of, extension_by, extension_in}
 use Rattle.kb_files.specs.Marked.{FailsForAll}
 use Rattle.kb_files.specs.Value.{data_of, numbered_failure}
 
-seen_seen : {F X Y Z : Type 0} (g : Y → Z) (f : X → Y) (r : Result X F) → seen (λ x. g (f x)) r ≡ seen g (seen f r)
+seen_seen : {F X Y Z : Type 0} (g : Y → Z) (f : X → Y) (r : Result X F)
+    → seen (λ x. g (f x)) r ≡ seen g (seen f r)
 seen_seen g f (Ok x) = refl
 seen_seen g f (Err e) = refl
 

@@ -1,5 +1,5 @@
--- The extension that the bytes of a `package.json` hold, for the marks of the patterns that aren't read, or the
--- refusal for the first fault of the file, which doesn't hang on marks.
+-- The extension that the bytes of a `package.json` hold, for the marks of the patterns that aren't read, or
+-- the refusal for the first fault of the file, which doesn't hang on marks.
 use Rattle.std.specs.Prelude.{ℕ, List, Some, Result}
 use Rattle.kb_context.specs.declared.refusal.Refusal.{Refusal}
 use Rattle.kb_context.specs.Reading.{◌>>=◌, seen}

@@ -1,5 +1,5 @@
--- The rules that the bytes of a file hold, for the marks of the patterns that aren't read, or the refusal for
--- the first fault of the file, which doesn't hang on marks.
+-- The rules that the bytes of a file hold, for the marks of the patterns that aren't read, or the refusal
+-- for the first fault of the file, which doesn't hang on marks.
 use Rattle.std.specs.Prelude.{ℕ, List, None, Result}
 use Rattle.serde_json.specs.Data.{Data}
 use Rattle.kb_context.specs.declared.refusal.Refusal.{Refusal}
