@@ -1,8 +1,10 @@
 -- What is read of the files of a load, by the marks that were found, is what they load.
 use Rattle.std.proofs.Common.{◌≡◌, ◌≤◌, ℕ, ◌+◌, List, [], ◌∷◌, ◌++◌, map, length, take, drop, refl, sym, ap, ◌∙◌}
-use Rattle.std.proofs.Common.{arith, length-append, append-nil}
-use Rattle.std.proofs.lemmas.List.{length-map, map-append}
+use Rattle.std.proofs.Common.{◌<◌, arith, true, false, get_or, length-append, append-nil, take-append-drop}
+use Rattle.std.proofs.lemmas.List.{length-map, map-append, take_more, drop_more}
+use Rattle.std.specs.Borrow.{Bor}
 use Rattle.std.specs.Prelude.{Result, Ok, Err, MatchResult}
+use Rattle.std.specs.Str.{str_eq_ignore_ascii_case}
 use Rattle.serde_json.specs.Data.{Data}
 use Rattle.kb_context.specs.Failure.{Fails, Gives}
 use Rattle.kb_context.specs.Reading.{◌>>=◌, seen}
@@ -22,7 +24,7 @@ use Rattle.kb_rules.specs.declared.origin.Origin.TheVariants as origin
 use Rattle.kb_rules.specs.declared.unread.UnreadAt.{UnreadAt}
 use Rattle.kb_session.specs.Fault.{refused_by, of_file}
 use Rattle.kb_session.specs.Load.{Held, GivesOf, AreRules, IsExtension, AreExtensions, outlines_from}
-use Rattle.kb_session.specs.Load.{first_marks, other_marks, extensions_by, marks_in, sources_by}
+use Rattle.kb_session.specs.Load.{is_among, names_of, first_marks, other_marks, extensions_by, marks_in, sources_by}
 use Rattle.kb_session.specs.Session.{Seen, loaded_session}
 use Rattle.kb_session.specs.Sources.{Sources}
 use Rattle.kb_session.specs.declared.fault.LoadFault.{LoadFault}
@@ -90,45 +92,41 @@ joined_behind (Ok outline) (Ok done) (Err f) = refl
 joined_behind (Ok outline) (Err f) rest = refl
 joined_behind (Err f) first rest = refl
 
-outlines-append : (number : ℕ) (done more : List (List ℕ))
+outlines-append : (number place : ℕ) (done more : List (List ℕ)) → number + length done ≡ place
     → outlines_from number (done ++ more)
-    ≡ joined (outlines_from number done) (outlines_from (number + length done) more)
-outlines-append number [] more =
-    let same : number ≡ number + 0 = omega arith in
+    ≡ joined (outlines_from number done) (outlines_from place more)
+outlines-append number place [] more e =
+    let same : number ≡ place = omega (arith, e) in
     sym (bind_ok (outlines_from number more))
     ∙ ap (λ n. outlines_from n more >>= λ outlines. Ok outlines) same
-outlines-append number (bytes ∷ done) more =
-    let count : number + 1 + length done ≡ number + (1 + length done) = omega arith in
+outlines-append number place (bytes ∷ done) more e =
+    let rest : number + 1 + length done ≡ place = omega (arith, e) in
     let r = refused_by (file.Package number) (outline_in bytes) in
     ap (λ rest. r >>= λ outline. rest >>= λ outlines. Ok (outline ∷ outlines))
-    (outlines-append (number + 1) done more)
-    ∙ joined_behind r (outlines_from (number + 1) done) (outlines_from (number + 1 + length done) more)
-    ∙ ap (λ n. joined (r >>= λ outline. outlines_from (number + 1) done >>= λ outlines. Ok (outline ∷ outlines))
-    (outlines_from n more)) count
+    (outlines-append (number + 1) place done more rest)
+    ∙ joined_behind r (outlines_from (number + 1) done) (outlines_from place more)
 
 extensions-length : (platform : Platform) (marks : List ExtensionMarks) (number : ℕ) (outlines : List Outline)
     → length (extensions_by platform marks number outlines) ≡ length outlines
 extensions-length platform marks number [] = refl
 extensions-length platform marks number (outline ∷ outlines) =
-    ap (λ n. 1 + n) (extensions-length platform (other_marks marks) (number + 1) outlines)
+    omega (arith, extensions-length platform (other_marks marks) (number + 1) outlines)
 
-extensions-push : (platform : Platform) (marks : List ExtensionMarks) (one : ExtensionMarks) (number : ℕ)
-    (outlines : List Outline) (outline : Outline) → length marks ≡ length outlines
+extensions-push : (platform : Platform) (marks : List ExtensionMarks) (one : ExtensionMarks)
+    (number place : ℕ) (outlines : List Outline) (outline : Outline) → length marks ≡ length outlines
+    → number + length outlines ≡ place
     → extensions_by platform (marks ++ one ∷ []) number (outlines ++ outline ∷ [])
-    ≡ extensions_by platform marks number outlines
-    ++ extension_by one (number + length outlines) platform outline ∷ []
-extensions-push platform [] one number [] outline e =
-    let same : number ≡ number + 0 = omega arith in
+    ≡ extensions_by platform marks number outlines ++ extension_by one place platform outline ∷ []
+extensions-push platform [] one number place [] outline e p =
+    let same : number ≡ place = omega (arith, p) in
     ap (λ n. extension_by one n platform outline ∷ []) same
-extensions-push platform [] one number (o ∷ outlines) outline e = absurd (omega (arith, e))
-extensions-push platform (m ∷ marks) one number [] outline e = absurd (omega (arith, e))
-extensions-push platform (m ∷ marks) one number (o ∷ outlines) outline e =
+extensions-push platform [] one number place (o ∷ outlines) outline e p = absurd (omega (arith, e))
+extensions-push platform (m ∷ marks) one number place [] outline e p = absurd (omega (arith, e))
+extensions-push platform (m ∷ marks) one number place (o ∷ outlines) outline e p =
     let rest : length marks ≡ length outlines = omega (arith, e) in
-    let count : number + 1 + length outlines ≡ number + (1 + length outlines) = omega arith in
+    let count : number + 1 + length outlines ≡ place = omega (arith, p) in
     ap (λ es. extension_by m number platform o ∷ es)
-    (extensions-push platform marks one (number + 1) outlines outline rest
-    ∙ ap (λ n. extensions_by platform marks (number + 1) outlines
-    ++ extension_by one n platform outline ∷ []) count)
+    (extensions-push platform marks one (number + 1) place outlines outline rest count)
 
 -- the extensions of the manifests so far
 pub record Reads (platform : Platform) (es : List Extension) (number : ℕ) (done : List (List ℕ)) : Type 0 where
@@ -152,9 +150,9 @@ made_next platform es number e (Ok outlines) (Ok outline) size h k =
     let many : length outlines ≡ number =
     sym (extensions-length platform (map marks_of es) 0 outlines) ∙ sym (ap length h) ∙ size in
     let marks : length (map marks_of es) ≡ length outlines = length-map es marks_of ∙ size ∙ sym many in
-    let place : number ≡ 0 + length outlines = omega (arith, many) in
-    (λ i. h i ++ (k ∙ ap (λ n. extension_by (marks_of e) n platform outline) place) i ∷ [])
-    ∙ sym (extensions-push platform (map marks_of es) (marks_of e) 0 outlines outline marks)
+    let place : 0 + length outlines ≡ number = omega (arith, many) in
+    (λ i. h i ++ k i ∷ [])
+    ∙ sym (extensions-push platform (map marks_of es) (marks_of e) 0 number outlines outline marks place)
     ∙ ap (λ ms. extensions_by platform ms 0 (outlines ++ outline ∷ [])) (sym (map-append marks_of es (e ∷ [])))
 
 -- one manifest more
@@ -168,7 +166,7 @@ reads_next platform es number done bytes e r h =
     let whole : outlines_from 0 (done ++ bytes ∷ [])
     ≡ joined (outlines_from 0 done)
     (refused_by (file.Package number) (outline_in bytes) >>= λ outline. Ok (outline ∷ [])) =
-    outlines-append 0 done (bytes ∷ []) ∙ ap (λ n. joined (outlines_from 0 done) (outlines_from n (bytes ∷ []))) place in
+    outlines-append 0 number done (bytes ∷ []) place in
     record {
       made = rw whole
           (made_next platform es number e (outlines_from 0 done)
@@ -191,10 +189,59 @@ reads_fail platform es number done rest bytes NoMemory r h = tt
 reads_fail platform es number done rest bytes (Fault f) r h =
     let place : 0 + length done ≡ number = omega (arith, r.count) in
     let here : outlines_from number (bytes ∷ rest) ≡ Err f = rw h refl in
-    outlines-append 0 done (bytes ∷ rest)
-    ∙ ap (λ n. joined (outlines_from 0 done) (outlines_from n (bytes ∷ rest))) place
+    outlines-append 0 number done (bytes ∷ rest) place
     ∙ fails_joined (λ outlines. AreExtensions platform outlines es) (outlines_from 0 done)
     (outlines_from number (bytes ∷ rest)) f r.made here
+
+-- ---- the manifests of a slice, and identifiers
+
+abbrev bytes_of : List (Bor (List ℕ)) → List (List ℕ)
+bytes_of = map (λ m. m.now)
+
+one_more : (ms : List (Bor (List ℕ))) (i : ℕ) (d : Bor (List ℕ)) → i < length ms
+    → bytes_of (take (i + 1) ms) ≡ bytes_of (take i ms) ++ (get_or ms i d).now ∷ []
+one_more ms i d below =
+    ap bytes_of (take_more ms i d below) ∙ map-append (λ m. m.now) (take i ms) (get_or ms i d ∷ [])
+
+all_of : (ms : List (Bor (List ℕ))) (i : ℕ) (d : Bor (List ℕ)) → i < length ms
+    → bytes_of ms ≡ bytes_of (take i ms) ++ (get_or ms i d).now ∷ bytes_of (drop (i + 1) ms)
+all_of ms i d below =
+    ap bytes_of (sym (take-append-drop i ms) ∙ ap (λ rest. take i ms ++ rest) (drop_more ms i d below))
+    ∙ map-append (λ m. m.now) (take i ms) (get_or ms i d ∷ drop (i + 1) ms)
+
+pub manifest_next : (platform : Platform) (ms : List (Bor (List ℕ))) (i : ℕ) (d : Bor (List ℕ))
+    (es : List Extension) (number : ℕ) (e : Extension) → i < length ms
+    → Reads platform es number (bytes_of (take i ms))
+    → MatchResult (refused_by (file.Package number) (outline_in (get_or ms i d).now))
+    (λ outline. IsExtension number platform outline e) (λ fault. ⊥)
+    → Reads platform (es ++ e ∷ []) (number + 1) (bytes_of (take (i + 1) ms))
+manifest_next platform ms i d es number e below r h =
+    rw (one_more ms i d below) (reads_next platform es number (bytes_of (take i ms)) (get_or ms i d).now e r h)
+
+pub manifest_fails : (platform : Platform) (ms : List (Bor (List ℕ))) (i : ℕ) (d : Bor (List ℕ))
+    (es : List Extension) (number : ℕ) (failure : Failure LoadFault) → i < length ms
+    → Reads platform es number (bytes_of (take i ms))
+    → Fails failure (refused_by (file.Package number) (outline_in (get_or ms i d).now))
+    → Fails failure (outlines_from 0 (bytes_of ms))
+manifest_fails platform ms i d es number failure below r h =
+    rw (all_of ms i d below)
+    (reads_fail platform es number (bytes_of (take i ms)) (bytes_of (drop (i + 1) ms)) (get_or ms i d).now
+    failure r h)
+
+pub among_here : (id : List ℕ) (others : List Extension) (i : ℕ) (e : Extension) → i < length others
+    → e ≡ get_or others i e → str_eq_ignore_ascii_case id e.id ≡ true
+    → is_among id (map names_of (drop i others)) ≡ true
+among_here id others i e below is h =
+    rw (drop_more others i e below) (ap (λ (x : Extension). is_among id (names_of x ∷ map names_of (drop (i + 1) others))) (sym is)
+    ∙ rw h refl)
+
+pub among_behind : (id : List ℕ) (others : List Extension) (i : ℕ) (e : Extension) → i < length others
+    → e ≡ get_or others i e → str_eq_ignore_ascii_case id e.id ≡ false
+    → is_among id (map names_of (drop (i + 1) others)) ≡ is_among id (map names_of (drop i others))
+among_behind id others i e below is h =
+    sym (ap (λ (xs : List Extension). is_among id (map names_of xs)) (drop_more others i e below)
+    ∙ ap (λ (x : Extension). is_among id (names_of x ∷ map names_of (drop (i + 1) others))) (sym is)
+    ∙ rw h refl)
 
 -- ---- all files
 

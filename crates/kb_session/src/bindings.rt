@@ -103,17 +103,17 @@ impl Bindings {
     /// Presses a key, over what the focus of the scopes sees.
     pub(crate) fn press<'b>(
         &'b self,
-        open: &mut ChordState,
+        chord: &mut ChordState,
         stroke: Keystroke,
         scopes: &Scopes,
     ) -> Result<Pressed<'b>, NoMemory>
         ensures step { IfOk result (λ pressed. step_of pressed
-            ≡ step open.old stroke (context scopes.now) (enablement self.now) (rules_of self.now)) }
-        ensures pressed { OnOk result (open.new
-            ≡ pressed_after open.old stroke (context scopes.now) (enablement self.now) (rules_of self.now)) }
-        ensures err { OnErr result (open.new ≡ open.old) }
+            ≡ step chord.old stroke (context scopes.now) (enablement self.now) (rules_of self.now)) }
+        ensures pressed { OnOk result (chord.new
+            ≡ pressed_after chord.old stroke (context scopes.now) (enablement self.now) (rules_of self.now)) }
+        ensures err { OnErr result (chord.new ≡ chord.old) }
     {
-        open.press(stroke, &self.resolver, scopes, &self.enablements)
+        chord.press(stroke, &self.resolver, scopes, &self.enablements)
     }
 
     /// What is said of the entries. It takes no memory.

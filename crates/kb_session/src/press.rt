@@ -23,21 +23,21 @@ pub(crate) fn press_key(
     alloc: Global,
     key: Keystroke,
     core: &mut HeldCore,
-    open: &mut ChordState,
+    chord: &mut ChordState,
     bindings: &Bindings,
     trace: &mut Lines,
 ) -> Result<(), NoMemory>
-    ensures core { let does = pressed open.old key core.old bindings.now in
-        OnOk result (core.new ≡ (press_started (line.key_text open.old key) does core.old).core) }
-    ensures trace { let does = pressed open.old key core.old bindings.now in
+    ensures core { let does = pressed chord.old key core.old bindings.now in
+        OnOk result (core.new ≡ (press_started (line.key_text chord.old key) does core.old).core) }
+    ensures trace { let does = pressed chord.old key core.old bindings.now in
         OnOk result
-        (trace.new ≡ trace.old ++ (press_started (line.key_text open.old key) does core.old).lines) }
-    ensures pressed { OnOk result (open.new ≡ still_pressed open.old key core.old bindings.now) }
+        (trace.new ≡ trace.old ++ (press_started (line.key_text chord.old key) does core.old).lines) }
+    ensures pressed { OnOk result (chord.new ≡ still_pressed chord.old key core.old bindings.now) }
     ensures err { OnErr result (Begins trace.old trace.new) }
 {
     let key = &key;
-    let text = lines::key_text(trace, open.pressed(), *key)?;
-    match bindings.press(open, *key, &core.core().scopes)? {
+    let text = lines::key_text(trace, chord.pressed(), *key)?;
+    match bindings.press(chord, *key, &core.core().scopes)? {
         Pressed::Start(rule) => start_rule(alloc, text, rule, core, trace),
         Pressed::More => lines::ended(trace, text, ": chord"),
         Pressed::Left => lines::ended(trace, text, ": left"),
