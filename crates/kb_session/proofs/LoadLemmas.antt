@@ -1,6 +1,7 @@
 -- What is read of the files of a load, by the marks that were found, is what they load.
 use Rattle.std.proofs.Common.{◌≡◌, ◌≤◌, ℕ, ◌+◌, List, [], ◌∷◌, ◌++◌, map, length, take, drop, refl, sym, ap, ◌∙◌}
-use Rattle.std.proofs.Common.{◌<◌, arith, true, false, get_or, length-append, append-nil, take-append-drop}
+use Rattle.std.proofs.Common.{◌<◌, nat_lt, Some, None, arith, true, false, get_or, length-append, take-append-drop}
+use Rattle.std.proofs.lemmas.Bool.Decides.{nat_tests}
 use Rattle.std.proofs.lemmas.List.{length-map, map-append, take_more, drop_more}
 use Rattle.std.specs.Borrow.{Bor}
 use Rattle.std.specs.Prelude.{Result, Ok, Err, MatchResult}
@@ -21,10 +22,10 @@ use Rattle.kb_manifest.specs.Manifest.{Outline}
 use Rattle.kb_rules.specs.RuleList.{Listed}
 use Rattle.kb_rules.specs.declared.origin.Origin.{Origin}
 use Rattle.kb_rules.specs.declared.origin.Origin.TheVariants as origin
-use Rattle.kb_rules.specs.declared.unread.UnreadAt.{UnreadAt}
 use Rattle.kb_session.specs.Fault.{refused_by, of_file}
 use Rattle.kb_session.specs.Load.{Held, GivesOf, AreRules, IsExtension, AreExtensions, outlines_from}
-use Rattle.kb_session.specs.Load.{is_among, names_of, first_marks, other_marks, extensions_by, marks_in, sources_by}
+use Rattle.kb_session.specs.Load.{is_among, names_of, names_in, names_fault, unless_fault, extensions_held}
+use Rattle.kb_session.specs.Load.{other_marks, extensions_by, marks_in, sources_by}
 use Rattle.kb_session.specs.Session.{Seen, loaded_session}
 use Rattle.kb_session.specs.Sources.{Sources}
 use Rattle.kb_session.specs.declared.fault.LoadFault.{LoadFault}
@@ -54,6 +55,13 @@ named IsMade file (Err e) (Ok x) h = absurd h
 named IsMade file held (Err NoMemory) h = tt
 named IsMade file (Ok y) (Err (Fault f)) h = absurd (cc)
 named IsMade file (Err e) (Err (Fault f)) h = cc
+
+pub scopes_of_file : (file : LoadFile) (held : Result ScopesData Refusal)
+    (r : Result ScopesData (Failure Refusal)) → Gives (λ scopes. scopes) r held
+    → Gives (λ scopes. scopes) (of_file file r) (refused_by file held)
+scopes_of_file file held (Ok scopes) h = rw h refl
+scopes_of_file file held (Err NoMemory) h = tt
+scopes_of_file file held (Err (Fault f)) h = rw h refl
 
 pub rules_of_file : (file : LoadFile) (origin : Origin) (bytes : List ℕ) (r : Result Listed (Failure Refusal))
     → ReadsBy (λ marks. rules_in marks origin bytes) r
@@ -243,6 +251,62 @@ among_behind id others i e below is h =
     ∙ ap (λ (x : Extension). is_among id (names_of x ∷ map names_of (drop (i + 1) others))) (sym is)
     ∙ rw h refl)
 
+names_same : (platform : Platform) (marks : List ExtensionMarks) (number : ℕ) (outlines : List Outline)
+    → map names_of (extensions_by platform marks number outlines) ≡ map names_in outlines
+names_same platform marks number [] = refl
+names_same platform marks number (outline ∷ outlines) =
+    ap (λ names. names_in outline ∷ names) (names_same platform (other_marks marks) (number + 1) outlines)
+
+-- what is judged of the manifests is what is judged of the extensions
+judged : (platform : Platform) (outlines : List Outline) (es : List Extension)
+    → AreExtensions platform outlines es → map names_in outlines ≡ map names_of es
+judged platform outlines es h =
+    sym (ap (map names_of) h ∙ names_same platform (map marks_of es) 0 outlines)
+
+few_enough : (n : ℕ) → n ≤ 100 → nat_lt 100 n ≡ false
+few_enough n h = grind (arith, nat_tests)
+
+held_all : (ms : List (Bor (List ℕ))) → length ms ≤ 100
+    → extensions_held (bytes_of ms)
+    ≡ (outlines_from 0 (bytes_of ms) >>= λ outlines. unless_fault (names_fault (map names_in outlines)) outlines)
+held_all ms few =
+    let count : length (bytes_of ms) ≤ 100 = omega (arith, few, length-map ms (λ m. m.now)) in
+    rw (few_enough (length (bytes_of ms)) count) refl
+
+judged_fail : (platform : Platform) (read : Result (List Outline) LoadFault) (es : List Extension)
+    (fault : LoadFault) → MatchResult read (λ outlines. AreExtensions platform outlines es) (λ f. ⊥)
+    → names_fault (map names_of es) ≡ Some fault
+    → (read >>= λ outlines. unless_fault (names_fault (map names_in outlines)) outlines) ≡ Err fault
+judged_fail platform (Ok outlines) es fault h e =
+    ap (λ found. unless_fault found outlines) (ap names_fault (judged platform outlines es h) ∙ e)
+judged_fail platform (Err f) es fault h e = absurd h
+
+pub identifiers_fail : (platform : Platform) (ms : List (Bor (List ℕ))) (es : List Extension)
+    (fault : LoadFault) → length ms ≤ 100
+    → MatchResult (outlines_from 0 (bytes_of ms)) (λ outlines. AreExtensions platform outlines es) (λ f. ⊥)
+    → names_fault (map names_of es) ≡ Some fault → extensions_held (bytes_of ms) ≡ Err fault
+identifiers_fail platform ms es fault few h e =
+    held_all ms few ∙ judged_fail platform (outlines_from 0 (bytes_of ms)) es fault h e
+
+judged_pass : (platform : Platform) (read : Result (List Outline) LoadFault) (es : List Extension)
+    → MatchResult read (λ outlines. AreExtensions platform outlines es) (λ f. ⊥)
+    → names_fault (map names_of es) ≡ None
+    → MatchResult (read >>= λ outlines. unless_fault (names_fault (map names_in outlines)) outlines)
+    (λ outlines. AreExtensions platform outlines es) (λ f. ⊥)
+judged_pass platform (Ok outlines) es h e =
+    let passes : names_fault (map names_in outlines) ≡ None =
+    ap names_fault (judged platform outlines es h) ∙ e in
+    rw passes h
+judged_pass platform (Err f) es h e = absurd h
+
+pub identifiers_pass : (platform : Platform) (ms : List (Bor (List ℕ))) (es : List Extension)
+    → length ms ≤ 100
+    → MatchResult (outlines_from 0 (bytes_of ms)) (λ outlines. AreExtensions platform outlines es) (λ f. ⊥)
+    → names_fault (map names_of es) ≡ None
+    → MatchResult (extensions_held (bytes_of ms)) (λ outlines. AreExtensions platform outlines es) (λ f. ⊥)
+identifiers_pass platform ms es few h e =
+    rw (held_all ms few) (judged_pass platform (outlines_from 0 (bytes_of ms)) es h e)
+
 -- ---- all files
 
 fails_first : {X Y F : Type 0} (failure : Failure F) (r : Result X F) (next : X → Result Y F)
@@ -321,5 +385,3 @@ pub all_loaded : (platform : Platform) (layout : Result ScopesData LoadFault)
     (held_in layout defaults user extensions) ≡ Ok session
 all_loaded platform layout defaults user extensions scopes sources session e hd hu he is =
     rw (is, e) (all_made platform scopes sources defaults user extensions hd hu he)
-
-pub ruleset whole_load = (layout_fails, defaults_fail, user_fails, extensions_fail, all_loaded)

@@ -1,17 +1,15 @@
 -- What the files of a load hold, or the first that is refused, and why. No fault hangs on the marks of patterns.
-use Rattle.std.specs.Prelude.{◌≡◌, ⊤, ℕ, ◌+◌, nat_lt, List, [], ◌∷◌, ◌++◌, length, map, Bool, not}
+use Rattle.std.specs.Prelude.{◌≡◌, ℕ, ◌+◌, nat_lt, List, [], ◌∷◌, ◌++◌, length, map, Bool, not}
 use Rattle.std.specs.Prelude.{Option, Some, None, option_map, Result, Ok, Err, MatchResult, if◌then◌else◌}
 use Rattle.std.specs.List.{list_any}
 use Rattle.std.specs.Option.{option_or}
 use Rattle.std.specs.Str.{str_eq_ignore_ascii_case}
 use Rattle.serde_json.specs.Data.{Data}
 use Rattle.kb_context.specs.Failure.{Fails}
-use Rattle.kb_context.specs.Reading.{◌>>=◌, seen}
+use Rattle.kb_context.specs.Reading.{◌>>=◌}
 use Rattle.kb_context.specs.Refusal.{refused_for}
 use Rattle.kb_context.specs.Scopes.{ScopesData}
 use Rattle.kb_context.specs.declared.failure.Failure.{Failure}
-use Rattle.kb_context.specs.declared.failure.Failure.TheVariants.{NoMemory, Fault}
-use Rattle.kb_context.specs.declared.refusal.Refusal.{Refusal}
 use Rattle.kb_files.specs.Extension.{ExtensionMarks, marks_of, outline_in, extension_by}
 use Rattle.kb_files.specs.Layout.{layout_scopes}
 use Rattle.kb_files.specs.RuleFile.{elements_held, rules_by}
@@ -25,7 +23,6 @@ use Rattle.kb_rules.specs.declared.unread.UnreadAt.{UnreadAt}
 use Rattle.kb_session.specs.Fault.{refused_file, refused_by}
 use Rattle.kb_session.specs.Sources.{Sources}
 use Rattle.kb_session.specs.declared.fault.LoadFault.{LoadFault}
-use Rattle.kb_session.specs.declared.fault.LoadFile.{LoadFile}
 use Rattle.kb_session.specs.declared.fault.LoadFile.TheVariants as file
 use Rattle.kb_session.specs.declared.inputs.Inputs.{Inputs}
 

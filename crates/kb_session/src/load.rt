@@ -1,21 +1,35 @@
 //! The reading of the files of a load.
-ghost use Rattle.std.specs.Prelude.{◌≡◌, ◌≤◌, [], length, map};
+ghost use Rattle.std.specs.Prelude.{◌≡◌, ◌≤◌, [], length, map, option_map};
+ghost use Rattle.kb_context.specs.Failure.{Gives};
 ghost use Rattle.kb_session.specs.Fault.{refused_by};
 ghost use Rattle.kb_session.specs.Load.{is_among, repeats, lacks, first_failing, refused_manifest};
 ghost use Rattle.kb_session.specs.Load.{names_fault, extensions_held, outlines_from};
 ghost use Rattle.kb_session.specs.Load.{GivesOf, AreRules, IsExtension, AreExtensions, names_of};
 ghost use Rattle.kb_files.specs.Extension.{outline_in};
+ghost use Rattle.kb_files.specs.Layout.{layout_scopes};
 ghost use Rattle.kb_files.specs.RuleFile.{elements_held};
 
 use crate::fault::{LoadFault, LoadFile, of_file};
-use kb_context::{Failure, Refusal, Seq};
-use kb_files::{Extension, read_extension, read_rules};
+use kb_context::{Failure, Refusal, Scopes, Seq};
+use kb_files::{Extension, read_extension, read_rules, read_scopes};
 use kb_keys::Platform;
 use kb_rules::{Origin, RuleList};
 use std::alloc::Global;
 
 /// The most extensions of a session (our decision).
 const EXTENSION_LIMIT: usize = 100;
+
+/// The scopes of a layout file, or the one scope that there is without a file.
+#[tactic(auto, using(crate::proofs::LoadLemmas::scopes_of_file))]
+pub(crate) fn load_scopes(
+    alloc: Global,
+    layout: Option<&[u8]>,
+) -> Result<Scopes, Failure<LoadFault>>
+    ensures { Gives (λ scopes. scopes) result
+        (refused_by LoadFile.Layout (layout_scopes (option_map (λ layout. layout.now) layout.entry))) }
+{
+    of_file(LoadFile::Layout, read_scopes(alloc, layout))
+}
 
 /// The rules of a file.
 #[tactic(auto, using(crate::proofs::LoadLemmas::rules_of_file))]

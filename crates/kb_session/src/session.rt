@@ -14,15 +14,15 @@ ghost use Rattle.kb_stream.specs.Fold.{after_all};
 ghost use Rattle.kb_trace.specs.Lines as line;
 
 use crate::bindings::Bindings;
-use crate::fault::{LoadFault, LoadFile, SessionFault, fault_in, of_file};
+use crate::fault::{LoadFault, LoadFile, SessionFault, fault_in};
 use crate::inputs::Inputs;
-use crate::load::{load_extensions, load_rules};
+use crate::load::{load_extensions, load_rules, load_scopes};
 use crate::press::press_key;
 use crate::unread::{UnreadIn, unread_rules};
 use crate::warning::Warning;
 use kb_context::{ContextValue, Failure, NoMemory, Refusal, ScopeFault, Scopes, Seq};
 use kb_core::{Core, HeldCore};
-use kb_files::{read_rules, read_scopes};
+use kb_files::read_rules;
 use kb_keys::Keystroke;
 use kb_resolve::ChordState;
 use kb_rules::{Origin, RuleList};
@@ -92,11 +92,10 @@ impl Session {
     /// 41, 21, 22), the default rules, the user's rules (1 to 4, 41 each), more than 100 extensions (44), the
     /// manifests in load order (1 to 4, 40, 41), an extension that repeats the identifier of an earlier one
     /// (91), one that depends on an extension that isn't before it (90); or refused memory.
-    #[tactic(auto, using(crate::proofs::LoadLemmas::whole_load))]
     pub fn load(alloc: Global, inputs: Inputs<'_>) -> Result<Session, Failure<LoadFault>>
         ensures { Loads (files_of inputs.entry) result }
     {
-        let scopes = of_file(LoadFile::Layout, read_scopes(alloc, inputs.layout))?;
+        let scopes = load_scopes(alloc, inputs.layout)?;
         let defaults = load_rules(alloc, LoadFile::Defaults, inputs.defaults, Origin::Defaults)?;
         let user = load_rules(alloc, LoadFile::User, inputs.user, Origin::User)?;
         let extensions = load_extensions(alloc, inputs.manifests, inputs.platform)?;

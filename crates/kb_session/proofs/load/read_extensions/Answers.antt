@@ -1,4 +1,4 @@
-use Rattle.std.proofs.Common.{◌≡◌, ◌+◌, arith}
+use Rattle.std.proofs.Common.{arith}
 use Rattle.std.proofs.lemmas.Result.{err_from_is_err_and}
 use Rattle.kb_session.proofs.LoadLemmas.{manifest_next, manifest_fails}
 use Rattle.kb_session.proofs.load.read_extensions.Goals as goal
