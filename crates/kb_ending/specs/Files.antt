@@ -12,7 +12,8 @@ use Rattle.kb_stream.specs.declared.reading.ReadFault.{ReadFault}
 use Rattle.kb_stream.specs.declared.reading.ReadFault.TheVariants.{TooLong, Failed}
 use Rattle.kb_ending.specs.Report.{file_stop, manifest_path}
 use Rattle.kb_ending.specs.declared.outcome.Stop.{Stop}
-use Rattle.kb_ending.specs.declared.outcome.Stop.TheVariants.{CannotRead, CannotReadIn, Load, Script, NoMemory}
+use Rattle.kb_ending.specs.declared.outcome.Stop.TheVariants.{CannotRead, CannotReadIn, Load, Script}
+use Rattle.kb_ending.specs.declared.outcome.Stop.TheVariants.{NoMemory}
 
 -- the most bytes of a file
 abbrev pub file_limit : ℕ
@@ -86,8 +87,8 @@ NamesFile held remaining (Some path) r =
 -- refused, for that path
 abbrev pub StopsReadingIn : Held → Bor (List ℕ) → Stop → Type 0
 StopsReadingIn held dir NoMemory = ⊤
-StopsReadingIn held dir (CannotReadIn at) =
-    (at ≡ dir) × ((fault : ReadFault) × HasRead {B = List ℕ} held (λ bytes. bytes) (Err (failure.Fault fault)))
+StopsReadingIn held dir (CannotReadIn at) = (at ≡ dir)
+    × ((fault : ReadFault) × HasRead {B = List ℕ} held (λ bytes. bytes) (Err (failure.Fault fault)))
 StopsReadingIn held dir (CannotRead path) = ⊥
 StopsReadingIn held dir (Load fault) = ⊥
 StopsReadingIn held dir (Script fault) = ⊥

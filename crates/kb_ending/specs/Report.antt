@@ -14,7 +14,8 @@ use Rattle.kb_script.specs.declared.fault.ScriptFault.{ScriptFault}
 use Rattle.kb_script.specs.declared.fault.ScriptFault.TheVariants as script
 use Rattle.kb_stream.specs.declared.reading.ReadFault.{ReadFault}
 use Rattle.kb_ending.specs.declared.outcome.Stop.{Stop}
-use Rattle.kb_ending.specs.declared.outcome.Stop.TheVariants.{CannotRead, CannotReadIn, Load, Script, NoMemory}
+use Rattle.kb_ending.specs.declared.outcome.Stop.TheVariants.{CannotRead, CannotReadIn, Load, Script}
+use Rattle.kb_ending.specs.declared.outcome.Stop.TheVariants.{NoMemory}
 
 -- ---- statuses
 

@@ -1,5 +1,5 @@
 -- What is said line by line, and what was had of files.
-use Rattle.std.proofs.Common.{◌≡◌, ◌<◌, ◌≤◌, ◌+◌, ◌++◌, ◌∙◌, List, [], ◌∷◌, ℕ, true, drop, length, map, get_or, refl, sym, ap, subst, inl, inr, append-nil, append_assoc}
+use Rattle.std.proofs.Common.{◌≡◌, ◌<◌, ◌≤◌, ◌+◌, ◌++◌, ◌∙◌, List, [], ◌∷◌, ℕ, drop, length, map, get_or, refl, sym, ap, subst, inl, inr, append-nil, append_assoc}
 use Rattle.std.proofs.KnownBytes.{Appends-nil, Appends-trans}
 use Rattle.std.proofs.lemmas.List.{drop_more, drop_all, map-append}
 use Rattle.std.specs.Borrow.{Bor}
@@ -11,7 +11,8 @@ use Rattle.kb_ending.specs.Files.{Held, unknown, refuses, holds, HasRead, HasMan
 use Rattle.kb_ending.specs.Report.{warning_line, load_stop, manifest_path}
 use Rattle.kb_ending.specs.Voice.{Heard, Says}
 use Rattle.kb_ending.specs.declared.outcome.Stop.{Stop}
-use Rattle.kb_main.specs.Run.{warning_text, FailsToLoad, HasBytes, HasFiles, HasRules, HasPackage, HasPackages, HasScript, IsHad, FileMissing, Silent, StopsAtScript, StopsInDirs, Streams, script_bytes}
+use Rattle.kb_main.specs.Run.{FailsToLoad, FileMissing, HasBytes, HasFiles, HasPackages, HasRules, HasScript}
+use Rattle.kb_main.specs.Run.{IsHad, Silent, StopsAtScript, StopsInDirs, Streams, script_bytes, warning_text}
 use Rattle.kb_options.specs.declared.given.Options.{Options}
 use Rattle.kb_session.specs.Load.{Files}
 use Rattle.kb_session.specs.Session.{Loads}
@@ -140,14 +141,17 @@ not_opened held remaining None stop fails = fails
 not_opened held remaining (Some path) stop fails = fails
 
 -- the script's file doesn't open, behind all others
-pub script_missing : {F : Type 0} (held : List ℕ → Held) (remaining : F → Option (List ℕ)) (given : Options) (files : Files)
-    (o : Streams) (end : Result (Unit {0}) Stop) (stop failed : Stop) → HasFiles held given files
+pub script_missing : {F : Type 0} (held : List ℕ → Held) (remaining : F → Option (List ℕ)) (given : Options)
+    (files : Files) (o : Streams) (end : Result (Unit {0}) Stop) (stop failed : Stop) → HasFiles held given files
     → NamesFile held remaining given.script (Err failed) → end ≡ Err stop → stop ≡ failed → Silent o
     → FileMissing held given o end
 script_missing held remaining given files o end stop failed has fails ends is silent = record {
   stop = stop;
   end_is = ends;
-  why = inr ((files, has), subst (λ s. StopsAtScript held given.script s) (sym is) (not_opened held remaining given.script failed fails));
+  why = inr (
+    (files, has),
+    subst (λ s. StopsAtScript held given.script s) (sym is) (not_opened held remaining given.script failed fails),
+  );
   silent = silent;
 }
 

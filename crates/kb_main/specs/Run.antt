@@ -10,7 +10,8 @@ use Rattle.kb_ending.specs.Files.{Held, HasRead, HasManifest, NamesBytes, NamesF
 use Rattle.kb_ending.specs.Report.{warning_line, stop_line, script_stop}
 use Rattle.kb_ending.specs.Voice.{Heard, Says}
 use Rattle.kb_ending.specs.declared.outcome.Stop.{Stop}
-use Rattle.kb_ending.specs.declared.outcome.Stop.TheVariants.{CannotRead, CannotReadIn, Load, Script, NoMemory}
+use Rattle.kb_ending.specs.declared.outcome.Stop.TheVariants.{CannotRead, CannotReadIn, Load, Script}
+use Rattle.kb_ending.specs.declared.outcome.Stop.TheVariants.{NoMemory}
 use Rattle.kb_keys.specs.declared.platform.Platform.{Platform}
 use Rattle.kb_main.specs.declared.run.FileBytes.{FileBytes}
 use Rattle.kb_options.specs.declared.given.Options.{Options}
@@ -73,8 +74,8 @@ pub record Silent (o : Streams) : Type 0 where
   pub said : o.said ≡ o.said_before
   pub printed : (left : List ℕ) × (o.had ≡ append_known o.has left)
 
--- the script was reached: the session is what its files load for the marks that it tells, each of its warnings
--- is said in its line, and the script was played
+-- the script was reached: the session is what its files load for the marks that it tells, each of its
+-- warnings is said in its line, and the script was played
 pub record Played (files : Files) (script : Option (List ℕ)) (o : Streams) (end : Result (Unit {0}) Stop)
     : Type 0 where
   pub session : Traced State

@@ -172,12 +172,13 @@ fn run_files<'a, S: Read + Drop, I: Read, O: Write + Drop, C: Console + Drop>(
     trace: &mut BufWriter<O>,
     voice: &mut Voice<C>,
 ) -> Result<(), Stop<'a>>
-    ensures { Runs (files_in platform read.now) (script_bytes S.remaining script (I.remaining input.old)) (record {
-      said_before = heard_by C.said voice.old;
-      said = heard_by C.said voice.new;
-      had = writer_contents O.contents trace.old;
-      has = O.contents (writer_inner trace.new);
-    }) result }
+    ensures { Runs (files_in platform read.now)
+        (script_bytes S.remaining script (I.remaining input.old)) (record {
+          said_before = heard_by C.said voice.old;
+          said = heard_by C.said voice.new;
+          had = writer_contents O.contents trace.old;
+          has = O.contents (writer_inner trace.new);
+        }) result }
 {
     let manifests = lent_all(alloc, read.manifests.as_slice())?;
     let inputs = Inputs {

@@ -12,12 +12,11 @@ loop-dir-preserved g c =
     let got = c.in_ok-bytes.bytes in
     let more : c.push.new.self.items ≡ read ++ got ∷ [] = search rules in
     let all = packages_more held (λ bytes. bytes.items) dirs i _ read got (omega arith) c.in_ok-bytes.ensures
-        c.loop-dir.invariant.0 in
-    (
+    c.loop-dir.invariant.0 in (
       subst (λ xs. (rest : List (List ℕ)) → HasPackages held (drop (i + 1) dirs) rest
-      → HasPackages held dirs (map (λ bytes. bytes.items) xs ++ rest)) (sym more) all,
+          → HasPackages held dirs (map (λ bytes. bytes.items) xs ++ rest)) (sym more) all,
       λ stop why. c.loop-dir.invariant.1 stop
-      (stops_later held (λ bytes. bytes.items) dirs i _ got stop (omega arith) c.in_ok-bytes.ensures why),
+          (stops_later held (λ bytes. bytes.items) dirs i _ got stop (omega arith) c.in_ok-bytes.ensures why),
     )
 
 pub returns-clause-ok : goal.returns-clause-ok

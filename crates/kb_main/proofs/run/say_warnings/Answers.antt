@@ -4,9 +4,10 @@ use Rattle.kb_main.proofs.run.say_warnings.Goals as goal
 
 pub loop-warning-preserved : goal.loop-warning-preserved
 loop-warning-preserved g c = λ end says.
+    let warnings = c.warnings-warnings.result.now in
     c.loop-warning.invariant end
-    (warned_one c.args.session.now.state.sources _ _ _ c.warnings-warnings.result.now c.loop-warning.warning-index _ _
-    (omega arith) c.source-source.ensures c.say.ensures says)
+    (warned_one c.args.session.now.state.sources _ _ _ warnings c.loop-warning.warning-index _ _ (omega arith)
+    c.source-source.ensures c.say.ensures says)
 
 pub returns : goal.returns
 returns g c =
