@@ -10,8 +10,10 @@ use Rattle.kb_context.specs.declared.failure.Failure.{Failure}
 use Rattle.kb_context.specs.declared.failure.Failure.TheVariants as failure
 use Rattle.kb_stream.specs.declared.reading.ReadFault.{ReadFault}
 use Rattle.kb_stream.specs.declared.reading.ReadFault.TheVariants.{TooLong, Failed}
-use Rattle.kb_ending.specs.Report.{file_stop}
+use Rattle.kb_ending.specs.Report.{file_stop, manifest_path}
 use Rattle.kb_ending.specs.declared.outcome.Stop.{Stop}
+use Rattle.kb_ending.specs.declared.outcome.Stop.TheVariants.{CannotRead, CannotReadIn, Load, Script}
+use Rattle.kb_ending.specs.declared.outcome.Stop.TheVariants.{NoMemory}
 
 -- the most bytes of a file
 abbrev pub file_limit : ℕ
@@ -80,3 +82,20 @@ abbrev pub NamesFile : {F : Type 0} → (List ℕ → Held) → (F → Option (L
 NamesFile held remaining None r = MatchResult r (λ got. got ≡ None) (λ stop. ⊥)
 NamesFile held remaining (Some path) r =
     MatchResult r (GivesFile (held path.now) remaining) (StopsOpening (held path.now) path)
+
+-- the run stops for what reading the manifest of a directory answered, held at its path; memory may always be
+-- refused, for that path
+abbrev pub StopsReadingIn : Held → Bor (List ℕ) → Stop → Type 0
+StopsReadingIn held dir NoMemory = ⊤
+StopsReadingIn held dir (CannotReadIn at) = (at ≡ dir)
+    × ((fault : ReadFault) × HasRead {B = List ℕ} held (λ bytes. bytes) (Err (failure.Fault fault)))
+StopsReadingIn held dir (CannotRead path) = ⊥
+StopsReadingIn held dir (Load fault) = ⊥
+StopsReadingIn held dir (Script fault) = ⊥
+
+-- the bytes of the manifest of a directory
+abbrev pub HasManifest : {B : Type 0} → (List ℕ → Held) → (B → List ℕ) → Bor (List ℕ) → Result B Stop
+    → Type 0
+HasManifest held view dir r =
+    MatchResult r (λ got. HasRead (held (manifest_path dir.now)) view (Ok got))
+    (StopsReadingIn (held (manifest_path dir.now)) dir)

@@ -5,20 +5,23 @@ use Rattle.std.specs.Borrow.{Bor}
 use Rattle.kb_context.specs.Faults.{fault_name}
 use Rattle.kb_context.specs.declared.failure.Failure.{Failure}
 use Rattle.kb_context.specs.declared.failure.Failure.TheVariants as failure
-use Rattle.kb_rules.specs.declared.warning.Warning.{Warning}
+use Rattle.kb_manifest.specs.Warning.{name_of}
 use Rattle.kb_session.specs.Fault.{load_file_word}
 use Rattle.kb_session.specs.declared.fault.LoadFile.{LoadFile}
 use Rattle.kb_session.specs.declared.fault.LoadFault.{LoadFault}
+use Rattle.kb_session.specs.declared.warning.Warning.{Warning}
 use Rattle.kb_script.specs.declared.fault.ScriptFault.{ScriptFault}
 use Rattle.kb_script.specs.declared.fault.ScriptFault.TheVariants as script
 use Rattle.kb_stream.specs.declared.reading.ReadFault.{ReadFault}
 use Rattle.kb_ending.specs.declared.outcome.Stop.{Stop}
-use Rattle.kb_ending.specs.declared.outcome.Stop.TheVariants.{CannotRead, Load, Script, NoMemory}
+use Rattle.kb_ending.specs.declared.outcome.Stop.TheVariants.{CannotRead, CannotReadIn, Load, Script}
+use Rattle.kb_ending.specs.declared.outcome.Stop.TheVariants.{NoMemory}
 
 -- ---- statuses
 
 abbrev pub stop_status : Stop → ℕ
 stop_status (CannotRead path) = 3
+stop_status (CannotReadIn dir) = 3
 stop_status (Load fault) = 3
 stop_status (Script fault) = 4
 stop_status NoMemory = 4
@@ -45,16 +48,21 @@ script_line script.TooLong = codes "script: too long"
 script_line script.ReadFailed = codes "script: read failed"
 script_line script.WriteFailed = codes "script: write failed"
 
+-- the path of the manifest of an extension's directory
+abbrev pub manifest_path : List ℕ → List ℕ
+manifest_path dir = dir ++ codes "/package.json"
+
 abbrev pub stop_line : Stop → List ℕ
 stop_line (CannotRead path) = codes "cannot read " ++ path.now
+stop_line (CannotReadIn dir) = codes "cannot read " ++ manifest_path dir.now
 stop_line (Load fault) = load_line fault
 stop_line (Script fault) = script_line fault
 stop_line NoMemory = codes "stopped: out of memory"
 
--- of an entry of the user's rules that was left out: the warning's number, and the entry's place
-abbrev pub warning_line : Warning → List ℕ
-warning_line warning = codes "warning " ++ (decimal warning.number
-    ++ (codes " user keybindings " ++ decimal warning.place))
+-- a warning's number, its source, the part of a manifest that its entry stands in, and the entry's place
+abbrev pub warning_line : List ℕ → Warning → List ℕ
+warning_line source warning = codes "warning " ++ (decimal warning.number ++ (codes " " ++ (source
+    ++ (codes " " ++ (name_of warning.part ++ (codes " " ++ decimal warning.place))))))
 
 -- ---- what stops a run
 

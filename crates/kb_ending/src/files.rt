@@ -1,11 +1,12 @@
 //! The files that the command line names.
-ghost use Rattle.std.specs.Prelude.{◌≡◌, option_map};
+ghost use Rattle.std.specs.Prelude.{◌≡◌, IfOk, option_map};
 ghost use Rattle.std.specs.IoError.{error_kind};
-ghost use Rattle.kb_ending.specs.Files.{Opens, HasRead, failure_of, NamesBytes, NamesFile};
+ghost use Rattle.kb_ending.specs.Files.{Opens, HasRead, failure_of, NamesBytes, NamesFile, HasManifest};
+ghost use Rattle.kb_ending.specs.Report.{manifest_path};
 
 use crate::outcome::Stop;
 use crate::report::file_stop;
-use kb_context::Failure;
+use kb_context::{Failure, NoMemory};
 use kb_stream::{ReadFault, read_within};
 use std::alloc::Global;
 use std::io::{ErrorKind, Read};
@@ -84,6 +85,32 @@ pub fn bytes_named<'a, F: FileSource>(
     match read_file(files, alloc, path) {
         Ok(bytes) => Ok(Some(bytes)),
         Err(failure) => Err(file_stop(path, failure)),
+    }
+}
+
+// The path of the manifest of an extension's directory.
+fn manifest_in(alloc: Global, dir: &str) -> Result<String, NoMemory>
+    ensures { IfOk result (λ path. path.bytes.items ≡ manifest_path dir.now) }
+{
+    format!(in alloc; "{dir}/package.json")
+}
+
+/// The bytes of the manifest of an extension's directory: of the file `package.json` in it, whose path is
+/// the directory's as given, `/` and that name.
+///
+/// Errors: how the run ends, where the file is not read, or the path finds no memory.
+pub fn bytes_in<'a, F: FileSource>(
+    files: &F,
+    alloc: Global,
+    dir: &'a str,
+) -> Result<Vec<u8>, Stop<'a>>
+    ensures { HasManifest (F.held files.now) (λ bytes. bytes.items) dir.entry result }
+{
+    let path = manifest_in(alloc, dir)?;
+    match read_file(files, alloc, path.as_str()) {
+        Ok(bytes) => Ok(bytes),
+        Err(Failure::NoMemory) => Err(Stop::NoMemory),
+        Err(Failure::Fault(_fault)) => Err(Stop::CannotReadIn(dir)),
     }
 }
 

@@ -7,7 +7,7 @@ pub mod outcome;
 pub mod report;
 pub mod voice;
 
-pub use files::{FILE_LIMIT, FileSource, SystemFiles, bytes_named, file_named, lent};
+pub use files::{FILE_LIMIT, FileSource, SystemFiles, bytes_in, bytes_named, file_named, lent};
 pub use outcome::Stop;
 pub use report::{WarningLine, ending, file_stop, script_stop};
 pub use voice::{Console, SystemConsole, Voice};

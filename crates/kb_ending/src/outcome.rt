@@ -10,6 +10,8 @@ use kb_session::LoadFault;
 pub enum Stop<'a> {
     /// A file that the command line names was not read: its path, as given.
     CannotRead(&'a str),
+    /// The `package.json` of an extension's directory was not read: the directory's path, as given.
+    CannotReadIn(&'a str),
     /// No session was loaded.
     Load(LoadFault),
     /// The script did not run to its end, or not all of the trace was written.

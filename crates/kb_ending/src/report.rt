@@ -7,9 +7,8 @@ ghost use Rattle.kb_ending.specs.Report as report;
 
 use crate::outcome::Stop;
 use kb_context::Failure;
-use kb_rules::Warning;
 use kb_script::ScriptFault;
-use kb_session::LoadFault;
+use kb_session::{LoadFault, Warning};
 use kb_stream::ReadFault;
 use std::fmt;
 
@@ -23,6 +22,7 @@ impl fmt::Display for Stop<'_> {
     fn fmt<W: fmt::Write>(&self, f: &mut fmt::Formatter<W>) -> fmt::Result {
         match self {
             Stop::CannotRead(path) => write!(f, "cannot read {path}"),
+            Stop::CannotReadIn(dir) => write!(f, "cannot read {dir}/package.json"),
             Stop::Load(fault) => {
                 let line = LoadLine(fault);
                 write!(f, "{line}")
@@ -76,26 +76,32 @@ pub fn ending(end: &Result<(), Stop<'_>>) -> u8
 {
     match end {
         Ok(()) => 0,
-        Err(Stop::CannotRead(_)) | Err(Stop::Load(_)) => 3,
+        Err(Stop::CannotRead(_)) | Err(Stop::CannotReadIn(_)) | Err(Stop::Load(_)) => 3,
         Err(Stop::Script(_)) | Err(Stop::NoMemory) => 4,
     }
 }
 
-/// Shows the line for standard error of an entry that a load left out of the user's rules, without a line
-/// feed.
+/// Shows the line for standard error of a warning of a load: its number, its source as
+/// `kb_session::Session::source` names it, the part of a manifest that its entry stands in, and the
+/// entry's place. It has no line feed.
 #[derive(Clone, Copy, Debug)]
-pub struct WarningLine<'a>(pub &'a Warning);
+pub struct WarningLine<'a> {
+    pub source: &'a str,
+    pub warning: &'a Warning,
+}
 
 impl fmt::Display for WarningLine<'_> {
     ghost use Rattle.std.specs.Prelude.{Some};
     ghost use Rattle.kb_ending.specs.Report.{warning_line};
 
-    ghost output = { λ line. Some (warning_line line.0.now) };
+    ghost output = { λ line. Some (warning_line line.source.now line.warning.now) };
 
     fn fmt<W: fmt::Write>(&self, f: &mut fmt::Formatter<W>) -> fmt::Result {
-        let number = self.0.number;
-        let place = self.0.place;
-        write!(f, "warning {number} user keybindings {place}")
+        let number = self.warning.number;
+        let source = self.source;
+        let part = self.warning.part.name();
+        let place = self.warning.place;
+        write!(f, "warning {number} {source} {part} {place}")
     }
 }
 

@@ -1,5 +1,6 @@
 pub mod Context
+pub mod Extension
 pub mod Layout
 pub mod Marked
-pub mod UserFile
+pub mod RuleFile
 pub mod Value

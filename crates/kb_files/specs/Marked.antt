@@ -6,16 +6,16 @@ use Rattle.kb_context.specs.declared.refusal.Refusal.{Refusal}
 use Rattle.kb_rules.specs.RuleList.{Listed}
 use Rattle.kb_rules.specs.declared.unread.UnreadAt.{UnreadAt}
 
--- a call failed as what is meant does for all marks, or was refused memory
-abbrev pub FailsForAll : {X F : Type 0} → Failure F → (List UnreadAt → Result X F) → Type 0
-FailsForAll NoMemory meant = ⊤
-FailsForAll (Fault fault) meant = (marks : List UnreadAt) → meant marks ≡ Err fault
+module _ {M X F : Type 0} where
+  -- a call failed as what is meant does for all marks, or was refused memory
+  abbrev pub FailsForAll : Failure F → (M → Result X F) → Type 0
+  FailsForAll NoMemory meant = ⊤
+  FailsForAll (Fault fault) meant = (marks : M) → meant marks ≡ Err fault
 
--- a call answered what is meant for the marks that its value has, or failed for all marks
-abbrev pub GivesByMarks : {X F : Type 0} → (X → List UnreadAt) → (List UnreadAt → Result X F)
-    → Result X (Failure F) → Type 0
-GivesByMarks marks_of meant (Ok x) = meant (marks_of x) ≡ Ok x
-GivesByMarks marks_of meant (Err failure) = FailsForAll failure meant
+  -- a call answered what is meant for the marks that its value has, or failed for all marks
+  abbrev pub GivesByMarks : (X → M) → (M → Result X F) → Result X (Failure F) → Type 0
+  GivesByMarks marks_of meant (Ok x) = meant (marks_of x) ≡ Ok x
+  GivesByMarks marks_of meant (Err failure) = FailsForAll failure meant
 
 -- the same of a list of rules
 abbrev pub ReadsBy : (List UnreadAt → Result Listed Refusal) → Result Listed (Failure Refusal) → Type 0

@@ -1,20 +1,24 @@
 -- What is said line by line, and what was had of files.
-use Rattle.std.proofs.Common.{◌≡◌, ◌<◌, ◌≤◌, ◌+◌, ◌++◌, List, [], ◌∷◌, ℕ, true, drop, length, get_or, refl, sym, ap, append-nil}
+use Rattle.std.proofs.Common.{◌≡◌, ◌<◌, ◌≤◌, ◌+◌, ◌++◌, ◌∙◌, List, [], ◌∷◌, ℕ, drop, length, map, get_or, refl, sym, ap, subst, inl, inr, append-nil, append_assoc}
 use Rattle.std.proofs.KnownBytes.{Appends-nil, Appends-trans}
-use Rattle.std.proofs.lemmas.List.{drop_more, drop_all}
+use Rattle.std.proofs.lemmas.List.{drop_more, drop_all, map-append}
 use Rattle.std.specs.Borrow.{Bor}
-use Rattle.std.specs.Prelude.{Option, Some, None, Result, Ok, Err, option_map}
+use Rattle.std.specs.Prelude.{Option, Some, None, Result, Ok, Err, option_map, unwrap_or}
 use Rattle.std.specs.Io.KnownBytes.{append_known}
 use Rattle.kb_context.specs.declared.failure.Failure.{Failure}
 use Rattle.kb_context.specs.declared.failure.Failure.TheVariants as failure
-use Rattle.kb_ending.specs.Files.{Held, unknown, refuses, holds, HasRead, Opens, NamesBytes, NamesFile}
-use Rattle.kb_ending.specs.Report.{warning_line, load_stop}
+use Rattle.kb_ending.specs.Files.{Held, unknown, refuses, holds, HasRead, HasManifest, Opens, NamesBytes, NamesFile}
+use Rattle.kb_ending.specs.Report.{warning_line, load_stop, manifest_path}
 use Rattle.kb_ending.specs.Voice.{Heard, Says}
 use Rattle.kb_ending.specs.declared.outcome.Stop.{Stop}
-use Rattle.kb_main.specs.Run.{warning_text, FailsToLoad, HasBytes, HasScript, script_bytes}
-use Rattle.kb_rules.specs.declared.warning.Warning.{Warning}
-use Rattle.kb_session.specs.Session.{LoadsBy, loaded}
+use Rattle.kb_main.specs.Run.{FailsToLoad, FileMissing, HasBytes, HasFiles, HasPackages, HasRules, HasScript}
+use Rattle.kb_main.specs.Run.{IsHad, Silent, StopsAtScript, StopsInDirs, Streams, script_bytes, warning_text}
+use Rattle.kb_options.specs.declared.given.Options.{Options}
+use Rattle.kb_session.specs.Load.{Files}
+use Rattle.kb_session.specs.Session.{Loads}
+use Rattle.kb_session.specs.Sources.{Sources, source_of}
 use Rattle.kb_session.specs.declared.fault.LoadFault.{LoadFault}
+use Rattle.kb_session.specs.declared.warning.Warning.{Warning}
 
 says_nothing : (before : Heard) → Says before before []
 says_nothing before whole = (whole, Appends-nil before.said)
@@ -26,21 +30,29 @@ says_more a b c first rest p q whole =
     (sooner.0, Appends-trans a.said b.said c.said first rest sooner.1 later.1)
 
 -- a warning, and then those behind it
-pub warned_one : (before mid end : Heard) (warnings : List Warning) (i : ℕ) (d : Warning) → i < length warnings
-    → Says before mid (warning_line (get_or warnings i d) ++ 10 ∷ [])
-    → Says mid end (warning_text (drop (i + 1) warnings)) → Says before end (warning_text (drop i warnings))
-warned_one before mid end warnings i d below first rest =
-    rw (drop_more warnings i d below) (says_more before mid end _ _ first rest)
+pub warned_one : (sources : Sources) (before mid end : Heard) (warnings : List Warning) (i : ℕ) (d : Warning)
+    (source : List ℕ) → i < length warnings → source ≡ source_of sources (get_or warnings i d).origin
+    → Says before mid (warning_line source (get_or warnings i d) ++ 10 ∷ [])
+    → Says mid end (warning_text sources (drop (i + 1) warnings))
+    → Says before end (warning_text sources (drop i warnings))
+warned_one sources before mid end warnings i d source below is first rest =
+    let named = subst (λ s. Says before mid (warning_line s (get_or warnings i d) ++ 10 ∷ [])) is first in
+    rw (drop_more warnings i d below) (says_more before mid end _ _ named rest)
 
-pub warned_none : (before : Heard) (warnings : List Warning) (i : ℕ) → length warnings ≤ i
-    → Says before before (warning_text (drop i warnings))
-warned_none before warnings i past = rw (drop_all i warnings past) (says_nothing before)
+pub warned_none : (sources : Sources) (before : Heard) (warnings : List Warning) (i : ℕ) → length warnings ≤ i
+    → Says before before (warning_text sources (drop i warnings))
+warned_none sources before warnings i past = rw (drop_all i warnings past) (says_nothing before)
+
+pub warned_all : (sources : Sources) (before end : Heard) (warnings all : List Warning) → warnings ≡ all
+    → Says before end (warning_text sources warnings) → Says before end (warning_text sources all)
+warned_all sources before end warnings all are says =
+    subst (λ xs. Says before end (warning_text sources xs)) are says
 
 -- a load that fails stops the run
-pub load_fails : (layout : Option (List ℕ)) (user : List ℕ) (failed : Failure LoadFault)
-    → LoadsBy (λ marks. loaded marks layout user) (Err failed) → FailsToLoad layout user (load_stop failed)
-load_fails layout user failure.NoMemory fails = tt
-load_fails layout user (failure.Fault fault) fails = fails
+pub load_fails : (files : Files) (failed : Failure LoadFault) → Loads files (Err failed)
+    → FailsToLoad files (load_stop failed)
+load_fails files failure.NoMemory fails = tt
+load_fails files (failure.Fault fault) fails = fails
 
 pub nothing_left : (had : Option (List ℕ)) → had ≡ append_known had []
 nothing_left None = refl
@@ -61,6 +73,55 @@ had_bytes held view None got has = ap (option_map view) has
 had_bytes held view (Some path) None has = has
 had_bytes held view (Some path) (Some got) has = had_read (held path.now) view got has
 
+pub is_had : {B : Type 0} (held : List ℕ → Held) (view : B → List ℕ) (named : Option (Bor (List ℕ)))
+    (got : Option B) → NamesBytes held view named (Ok got) → IsHad held named
+is_had held view named got has = (option_map view got, had_bytes held view named got has)
+
+pub were_had : (held : List ℕ → Held) (given : Options) (files : Files) → HasFiles held given files
+    → (all : Files) × HasFiles held given all
+were_had held given files has = (files, has)
+
+-- the same of rules, where no file is the empty text
+pub had_rules : {B : Type 0} (held : List ℕ → Held) (view : B → List ℕ) (named : Option (Bor (List ℕ)))
+    (got : Option B) → NamesBytes held view named (Ok got)
+    → HasRules held named (unwrap_or (option_map view got) [])
+had_rules held view None got has = ap (λ o. unwrap_or (option_map view o) []) has
+had_rules held view (Some path) None has = absurd has
+had_rules held view (Some path) (Some got) has = had_read (held path.now) view got has
+
+-- a manifest, and then those behind it
+pub packages_more : {B : Type 0} (held : List ℕ → Held) (view : B → List ℕ) (dirs : List (Bor (List ℕ))) (i : ℕ)
+    (d : Bor (List ℕ)) (read : List B) (got : B) → i < length dirs
+    → HasManifest held view (get_or dirs i d) (Ok got)
+    → ((rest : List (List ℕ)) → HasPackages held (drop i dirs) rest → HasPackages held dirs (map view read ++ rest))
+    → (rest : List (List ℕ)) → HasPackages held (drop (i + 1) dirs) rest
+    → HasPackages held dirs (map view (read ++ got ∷ []) ++ rest)
+packages_more held view dirs i d read got below has those rest others =
+    let first = had_read (held (manifest_path (get_or dirs i d).now)) view got has in
+    let all = those (view got ∷ rest) (rw (drop_more dirs i d below) (first, others)) in
+    subst (HasPackages held dirs) (sym (ap (λ xs. xs ++ rest) (map-append view read (got ∷ []))
+    ∙ append_assoc (map view read) (view got ∷ []) rest)) all
+
+-- all manifests, where none is left
+pub packages_end : (held : List ℕ → Held) (dirs : List (Bor (List ℕ))) (i : ℕ) (read : List (List ℕ)) → length dirs ≤ i
+    → ((rest : List (List ℕ)) → HasPackages held (drop i dirs) rest → HasPackages held dirs (read ++ rest))
+    → HasPackages held dirs read
+packages_end held dirs i read past those =
+    subst (HasPackages held dirs) (append-nil read) (those [] (rw (drop_all i dirs past) tt))
+
+-- what stops at a manifest, or behind it
+pub stops_here : {B : Type 0} (held : List ℕ → Held) (view : B → List ℕ) (dirs : List (Bor (List ℕ))) (i : ℕ)
+    (d : Bor (List ℕ)) (stop : Stop) → i < length dirs → HasManifest held view (get_or dirs i d) (Err stop)
+    → StopsInDirs held (drop i dirs) stop
+stops_here held view dirs i d stop below why = rw (drop_more dirs i d below) (inl why)
+
+pub stops_later : {B : Type 0} (held : List ℕ → Held) (view : B → List ℕ) (dirs : List (Bor (List ℕ))) (i : ℕ)
+    (d : Bor (List ℕ)) (got : B) (stop : Stop) → i < length dirs → HasManifest held view (get_or dirs i d) (Ok got)
+    → StopsInDirs held (drop (i + 1) dirs) stop → StopsInDirs held (drop i dirs) stop
+stops_later held view dirs i d got stop below has why =
+    rw (drop_more dirs i d below)
+    (inr ((view got, had_read (held (manifest_path (get_or dirs i d).now)) view got has), why))
+
 had_open : {F : Type 0} (held : Held) (remaining : F → Option (List ℕ)) (file : F) → Opens remaining held (Ok file)
     → Opens {F = Option (List ℕ)} (λ known. known) held (Ok (remaining file))
 had_open unknown remaining file has = has
@@ -74,4 +135,24 @@ had_script held remaining None got input has = ap (λ o. script_bytes remaining 
 had_script held remaining (Some path) None input has = absurd has
 had_script held remaining (Some path) (Some file) input has = had_open (held path.now) remaining file has
 
-pub ruleset files = (had_bytes, had_script)
+not_opened : {F : Type 0} (held : List ℕ → Held) (remaining : F → Option (List ℕ)) (named : Option (Bor (List ℕ)))
+    (stop : Stop) → NamesFile held remaining named (Err stop) → StopsAtScript held named stop
+not_opened held remaining None stop fails = fails
+not_opened held remaining (Some path) stop fails = fails
+
+-- the script's file doesn't open, behind all others
+pub script_missing : {F : Type 0} (held : List ℕ → Held) (remaining : F → Option (List ℕ)) (given : Options)
+    (files : Files) (o : Streams) (end : Result (Unit {0}) Stop) (stop failed : Stop) → HasFiles held given files
+    → NamesFile held remaining given.script (Err failed) → end ≡ Err stop → stop ≡ failed → Silent o
+    → FileMissing held given o end
+script_missing held remaining given files o end stop failed has fails ends is silent = record {
+  stop = stop;
+  end_is = ends;
+  why = inr (
+    (files, has),
+    subst (λ s. StopsAtScript held given.script s) (sym is) (not_opened held remaining given.script failed fails),
+  );
+  silent = silent;
+}
+
+pub ruleset files = (had_bytes, had_rules, had_script, is_had, were_had)

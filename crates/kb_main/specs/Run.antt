@@ -1,28 +1,33 @@
 -- What a run of the program leaves: what was said and printed, by what the files and the command line were.
-use Rattle.std.specs.Prelude.{◌≡◌, ◌⊎◌, ⊤, ℕ, Bool, true, false, List, [], ◌∷◌, ◌++◌, flat_map}
-use Rattle.std.specs.Prelude.{Option, Some, None, Result, Ok, Err, unwrap_or}
+use Rattle.std.specs.Prelude.{◌≡◌, ◌⊎◌, ⊤, ℕ, Bool, true, false, List, [], ◌∷◌, ◌++◌, flat_map, map}
+use Rattle.std.specs.Prelude.{Option, Some, None, Result, Ok, Err, option_map, unwrap_or}
 use Rattle.std.specs.Borrow.{Bor}
 use Rattle.std.specs.Io.KnownBytes.{Keeps, append_known}
 use Rattle.clap.specs.Words.{kind_of}
 use Rattle.clap.specs.declared.error.kind.ErrorKind.TheVariants.{InvalidValue}
 use Rattle.kb_context.specs.declared.failure.Failure.{Failure}
-use Rattle.kb_ending.specs.Files.{Held, NamesBytes, StopsReading, StopsOpening, Opens}
+use Rattle.kb_ending.specs.Files.{Held, HasRead, HasManifest, NamesBytes, NamesFile, Opens}
 use Rattle.kb_ending.specs.Report.{warning_line, stop_line, script_stop}
 use Rattle.kb_ending.specs.Voice.{Heard, Says}
 use Rattle.kb_ending.specs.declared.outcome.Stop.{Stop}
-use Rattle.kb_ending.specs.declared.outcome.Stop.TheVariants.{CannotRead, Load, Script, NoMemory}
+use Rattle.kb_ending.specs.declared.outcome.Stop.TheVariants.{CannotRead, CannotReadIn, Load, Script}
+use Rattle.kb_ending.specs.declared.outcome.Stop.TheVariants.{NoMemory}
+use Rattle.kb_keys.specs.declared.platform.Platform.{Platform}
+use Rattle.kb_main.specs.declared.run.FileBytes.{FileBytes}
 use Rattle.kb_options.specs.declared.given.Options.{Options}
 use Rattle.kb_options.specs.declared.given.OptionsFault.{OptionsFault}
 use Rattle.kb_options.specs.declared.given.OptionsFault.TheVariants.{Line}
 use Rattle.kb_options.specs.declared.given.OptionsFault.TheVariants as options
 use Rattle.kb_options.specs.declared.given.WordsFault.{WordsFault}
 use Rattle.kb_options.specs.declared.given.WordsFault.TheVariants as words
-use Rattle.kb_rules.specs.declared.unread.UnreadAt.{UnreadAt}
-use Rattle.kb_rules.specs.declared.warning.Warning.{Warning}
 use Rattle.kb_script.specs.ScriptRun.{Answers}
 use Rattle.kb_script.specs.declared.fault.ScriptFault.{ScriptFault}
+use Rattle.kb_session.specs.Load.{Files, held_by, marks_in}
 use Rattle.kb_session.specs.Session.{loaded}
+use Rattle.kb_session.specs.Sources.{Sources, source_of}
 use Rattle.kb_session.specs.State.{State}
+use Rattle.kb_session.specs.Warning.{warnings_of}
+use Rattle.kb_session.specs.declared.warning.Warning.{Warning}
 use Rattle.kb_stream.specs.Fold.{Traced}
 
 -- ---- the script
@@ -50,9 +55,10 @@ PlaysAny script old new before has end = (left : Option (List ℕ)) × Plays scr
 
 -- ---- standard error
 
--- the lines of what a load left out
-abbrev pub warning_text : List Warning → List ℕ
-warning_text warnings = flat_map (λ warning. warning_line warning ++ 10 ∷ []) warnings
+-- the lines of warnings, each with the name of its source
+abbrev pub warning_text : Sources → List Warning → List ℕ
+warning_text sources warnings =
+    flat_map (λ warning. warning_line (source_of sources warning.origin) warning ++ 10 ∷ []) warnings
 
 -- ---- the run
 
@@ -68,33 +74,34 @@ pub record Silent (o : Streams) : Type 0 where
   pub said : o.said ≡ o.said_before
   pub printed : (left : List ℕ) × (o.had ≡ append_known o.has left)
 
--- the script was reached: the session is what its files load for the marks that it tells, each entry that the
--- load left out is said in its line, and the script was played
-pub record Played (layout : Option (List ℕ)) (user : List ℕ) (script : Option (List ℕ)) (o : Streams)
-    (end : Result (Unit {0}) Stop) : Type 0 where
+-- the script was reached: the session is what its files load for the marks that it tells, each of its
+-- warnings is said in its line, and the script was played
+pub record Played (files : Files) (script : Option (List ℕ)) (o : Streams) (end : Result (Unit {0}) Stop)
+    : Type 0 where
   pub session : Traced State
-  pub loaded_is : loaded session.state.user.unread layout user ≡ Ok session
-  pub warned : Says o.said_before o.said (warning_text session.state.user.warnings)
+  pub loaded_is : loaded (marks_in session.state.sources) files ≡ Ok session
+  pub warned : Says o.said_before o.said
+      (warning_text session.state.sources (warnings_of session.state.sources))
   pub new : Traced State
   pub plays : PlaysAny script session new o.had o.has end
 
 -- why nothing was loaded; the marks of patterns make no fault
-abbrev pub FailsToLoad : Option (List ℕ) → List ℕ → Stop → Type 0
-FailsToLoad layout user (CannotRead path) = ⊥
-FailsToLoad layout user (Load fault) = (marks : List UnreadAt) → loaded marks layout user ≡ Err fault
-FailsToLoad layout user (Script fault) = ⊥
-FailsToLoad layout user NoMemory = ⊤
+abbrev pub FailsToLoad : Files → Stop → Type 0
+FailsToLoad files (CannotRead path) = ⊥
+FailsToLoad files (CannotReadIn dir) = ⊥
+FailsToLoad files (Load fault) = held_by files ≡ Err fault
+FailsToLoad files (Script fault) = ⊥
+FailsToLoad files NoMemory = ⊤
 
-pub record NotLoaded (layout : Option (List ℕ)) (user : List ℕ) (o : Streams)
-    (end : Result (Unit {0}) Stop) : Type 0 where
+pub record NotLoaded (files : Files) (o : Streams) (end : Result (Unit {0}) Stop) : Type 0 where
   pub stop : Stop
   pub end_is : end ≡ Err stop
-  pub why : FailsToLoad layout user stop
+  pub why : FailsToLoad files stop
   pub silent : Silent o
 
--- what a run does with what its files hold, by the marks of the patterns of the user's rules
-abbrev pub Runs : Option (List ℕ) → List ℕ → Option (List ℕ) → Streams → Result (Unit {0}) Stop → Type 0
-Runs layout user script o end = NotLoaded layout user o end ⊎ Played layout user script o end
+-- what a run does with what its files hold
+abbrev pub Runs : Files → Option (List ℕ) → Streams → Result (Unit {0}) Stop → Type 0
+Runs files script o end = NotLoaded files o end ⊎ Played files script o end
 
 -- the script's bytes, where they are known: those of its file, or of standard input
 abbrev pub script_bytes : {F : Type 0} → (F → Option (List ℕ)) → Option F → Option (List ℕ) → Option (List ℕ)
@@ -107,37 +114,101 @@ script_bytes remaining (Some file) input = remaining file
 abbrev pub HasBytes : (List ℕ → Held) → Option (Bor (List ℕ)) → Option (List ℕ) → Type 0
 HasBytes held named bytes = NamesBytes {B = List ℕ} held (λ got. got) named (Ok bytes)
 
+-- the rules that an option's file gave; the empty text where it names none
+abbrev pub HasRules : (List ℕ → Held) → Option (Bor (List ℕ)) → List ℕ → Type 0
+HasRules held None text = text ≡ []
+HasRules held (Some path) text = HasRead {B = List ℕ} (held path.now) (λ got. got) (Ok text)
+
+-- the bytes of the manifest in a directory
+abbrev pub HasPackage : (List ℕ → Held) → Bor (List ℕ) → List ℕ → Type 0
+HasPackage held dir bytes = HasManifest {B = List ℕ} held (λ got. got) dir (Ok bytes)
+
+-- the bytes of the manifests in directories, in their order
+abbrev pub HasPackages : (List ℕ → Held) → List (Bor (List ℕ)) → List (List ℕ) → Type 0
+HasPackages held [] [] = ⊤
+HasPackages held [] (bytes ∷ rest) = ⊥
+HasPackages held (dir ∷ dirs) [] = ⊥
+HasPackages held (dir ∷ dirs) (bytes ∷ rest) = HasPackage held dir bytes × HasPackages held dirs rest
+
 -- the bytes that the script has, of the file that an option names, or of standard input
 abbrev pub HasScript : (List ℕ → Held) → Option (Bor (List ℕ)) → Option (List ℕ) → Option (List ℕ) → Type 0
 HasScript held None input script = script ≡ input
 HasScript held (Some path) input script =
     Opens {F = Option (List ℕ)} (λ known. known) (held path.now) (Ok script)
 
+-- what the files of a load hold
+pub record HasFiles (held : List ℕ → Held) (given : Options) (files : Files) : Type 0 where
+  pub layout : HasBytes held given.layout files.layout
+  pub defaults : HasRules held given.defaults files.defaults
+  pub user : HasRules held given.user files.user
+  pub platform : files.platform ≡ given.platform
+  pub manifests : HasPackages held given.dirs.items files.manifests
+
 -- all files were had, and what they hold was run
 pub record FilesRun (held : List ℕ → Held) (given : Options) (input : Option (List ℕ)) (o : Streams)
     (end : Result (Unit {0}) Stop) : Type 0 where
-  pub layout : Option (List ℕ)
-  pub user : Option (List ℕ)
+  pub files : Files
   pub script : Option (List ℕ)
-  pub layout_had : HasBytes held given.layout layout
-  pub user_had : HasBytes held given.user user
+  pub files_had : HasFiles held given files
   pub script_had : HasScript held given.script input script
-  pub runs : Runs layout (unwrap_or user []) script o end
+  pub runs : Runs files script o end
 
--- a file was not had: one that an option names wasn't read, or didn't open
+-- ---- a file that is missing
+
+-- the file that an option names is read, or it names none
+abbrev pub IsHad : (List ℕ → Held) → Option (Bor (List ℕ)) → Type 0
+IsHad held named = (bytes : Option (List ℕ)) × HasBytes held named bytes
+
+-- the run stops since the file that an option names isn't read, or doesn't open
+abbrev pub StopsAt : (List ℕ → Held) → Option (Bor (List ℕ)) → Stop → Type 0
+StopsAt held named stop = NamesBytes {B = List ℕ} held (λ got. got) named (Err stop)
+
+abbrev pub StopsAtScript : (List ℕ → Held) → Option (Bor (List ℕ)) → Stop → Type 0
+StopsAtScript held named stop = NamesFile {F = Unit {0}} held (λ file. None) named (Err stop)
+
+-- the first manifest that isn't read stops the run
+abbrev pub StopsInDirs : (List ℕ → Held) → List (Bor (List ℕ)) → Stop → Type 0
+StopsInDirs held [] stop = ⊥
+StopsInDirs held (dir ∷ dirs) stop = HasManifest {B = List ℕ} held (λ got. got) dir (Err stop)
+    ⊎ (((bytes : List ℕ) × HasPackage held dir bytes) × StopsInDirs held dirs stop)
+
+-- the first file of a load that isn't read stops the run, in this order
+abbrev pub StopsReadingFiles : (List ℕ → Held) → Options → Stop → Type 0
+StopsReadingFiles held given stop = StopsAt held given.layout stop
+    ⊎ (IsHad held given.layout × (StopsAt held given.defaults stop
+    ⊎ (IsHad held given.defaults × (StopsAt held given.user stop
+    ⊎ (IsHad held given.user × StopsInDirs held given.dirs.items stop)))))
+
+-- the script's file doesn't open, behind all others
+abbrev pub StopsOpeningScript : (List ℕ → Held) → Options → Stop → Type 0
+StopsOpeningScript held given stop =
+    ((files : Files) × HasFiles held given files) × StopsAtScript held given.script stop
+
+-- a file was not had
 pub record FileMissing (held : List ℕ → Held) (given : Options) (o : Streams) (end : Result (Unit {0}) Stop)
     : Type 0 where
   pub stop : Stop
   pub end_is : end ≡ Err stop
-  pub path : Bor (List ℕ)
-  pub why : ((given.layout ≡ Some path) × StopsReading (held path.now) path stop)
-      ⊎ (((given.user ≡ Some path) × StopsReading (held path.now) path stop)
-      ⊎ ((given.script ≡ Some path) × StopsOpening (held path.now) path stop))
+  pub why : StopsReadingFiles held given stop ⊎ StopsOpeningScript held given stop
   pub silent : Silent o
 
 abbrev pub CarriesOut : (List ℕ → Held) → Options → Option (List ℕ) → Streams → Result (Unit {0}) Stop
     → Type 0
 CarriesOut held given input o end = FileMissing held given o end ⊎ FilesRun held given input o end
+
+-- ---- for private functions
+
+-- the files of a load, as they were read
+abbrev pub files_in : Platform → FileBytes → Files
+files_in platform read = record {
+  layout = option_map (λ bytes. bytes.items) read.layout;
+  defaults = unwrap_or (option_map (λ bytes. bytes.items) read.defaults) [];
+  user = unwrap_or (option_map (λ bytes. bytes.items) read.user) [];
+  platform = platform;
+  manifests = map (λ bytes. bytes.items) read.manifests.items;
+}
+
+-- ---- the end
 
 -- the line of the end was said, where there is one
 abbrev pub Reports : Result (Unit {0}) Stop → Heard → Heard → Type 0

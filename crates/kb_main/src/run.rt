@@ -1,26 +1,34 @@
 //! A run of the program over any files, streams and console. Nothing here asks the system, so that the
 //! clauses say what is said and printed, by what the files hold and the streams give.
-ghost use Rattle.std.specs.Prelude.{◌≡◌, [], option_map, unwrap_or};
+ghost use Rattle.std.specs.Prelude.{◌≡◌, [], IfOk, IfErr, map, option_map, unwrap_or};
 ghost use Rattle.std.specs.Io.Buffered.{writer_contents, writer_inner};
 ghost use Rattle.kb_ending.specs.Voice.{Says, heard_by};
 ghost use Rattle.kb_main.specs.Run.{CarriesOut, Runs, Plays, PlaysAny, script_bytes, warning_text};
+ghost use Rattle.kb_main.specs.Run.{HasPackages, HasFiles, StopsInDirs, StopsReadingFiles, files_in};
+ghost use Rattle.kb_session.specs.Load.{files_of};
+ghost use Rattle.kb_session.specs.Warning.{warnings_of};
 
+use kb_context::NoMemory;
 use kb_ending::{
-    Console, FileSource, Stop, Voice, WarningLine, bytes_named, file_named, lent, script_stop,
+    Console, FileSource, Stop, Voice, WarningLine, bytes_in, bytes_named, file_named, lent,
+    script_stop,
 };
+use kb_keys::Platform;
 use kb_options::Options;
-use kb_rules::Warning;
 use kb_script::run_script;
 use kb_session::{Inputs, Session};
 use std::alloc::Global;
 use std::io::{BufWriter, Read, Write};
 
-// Says a line for each entry that a load left out.
-fn say_warnings<C: Console + Drop>(warnings: &[Warning], voice: &mut Voice<C>)
-    ensures { Says (heard_by C.said voice.old) (heard_by C.said voice.new) (warning_text warnings.now) }
+// Says a line for each warning of a session.
+fn say_warnings<C: Console + Drop>(session: &Session, voice: &mut Voice<C>)
+    ensures { Says (heard_by C.said voice.old) (heard_by C.said voice.new)
+        (warning_text session.now.state.sources (warnings_of session.now.state.sources)) }
 {
+    let warnings = session.warnings();
     for warning in warnings {
-        voice.say(WarningLine(warning));
+        let source = session.source(warning.origin);
+        voice.say(WarningLine { source, warning });
     }
 }
 
@@ -56,7 +64,7 @@ fn play_any<'a, S: Read + Drop, I: Read, O: Write + Drop>(
     }
 }
 
-// Loads a session of what the files hold, says what that left out, and runs the script.
+// Loads a session of what the files hold, says its warnings, and runs the script.
 #[tactic(auto, using(crate::proofs::RunLemmas::loading))]
 fn run_loaded<'a, S: Read + Drop, I: Read, O: Write + Drop, C: Console + Drop>(
     alloc: Global,
@@ -66,7 +74,105 @@ fn run_loaded<'a, S: Read + Drop, I: Read, O: Write + Drop, C: Console + Drop>(
     trace: &mut BufWriter<O>,
     voice: &mut Voice<C>,
 ) -> Result<(), Stop<'a>>
-    ensures { Runs (option_map (λ layout. layout.now) inputs.entry.layout) inputs.entry.user.now
+    ensures { Runs (files_of inputs.entry) (script_bytes S.remaining script (I.remaining input.old)) (record {
+      said_before = heard_by C.said voice.old;
+      said = heard_by C.said voice.new;
+      had = writer_contents O.contents trace.old;
+      has = O.contents (writer_inner trace.new);
+    }) result }
+{
+    match Session::load(alloc, inputs) {
+        Ok(mut session) => {
+            say_warnings(&session, voice);
+            play_any(alloc, script, input, trace, &mut session)
+        }
+        Err(failure) => Err(Stop::from(failure)),
+    }
+}
+
+// The bytes of the files of a load.
+#[derive(Drop)]
+struct FileBytes {
+    layout: Option<Vec<u8>>,
+    defaults: Option<Vec<u8>>,
+    user: Option<Vec<u8>>,
+    manifests: Vec<Vec<u8>>,
+}
+
+// The bytes of the manifests in directories, in their order.
+fn read_manifests<'a, F: FileSource>(
+    alloc: Global,
+    dirs: &[&'a str],
+    files: &F,
+) -> Result<Vec<Vec<u8>>, Stop<'a>>
+    ensures ok { IfOk result (λ read.
+        HasPackages (F.held files.now) dirs.now (map (λ bytes. bytes.items) read.items)) }
+    ensures err { IfErr result (StopsInDirs (F.held files.now) dirs.now) }
+{
+    let mut manifests = Vec::new(alloc);
+    for dir in dirs {
+        let bytes = bytes_in(files, alloc, *dir)?;
+        manifests.push(bytes).map_err(NoMemory::from)?;
+    }
+    Ok(manifests)
+}
+
+// The bytes of all files of a load.
+#[tactic(auto, using(crate::proofs::RunLemmas::files))]
+fn read_files<'a, F: FileSource>(
+    alloc: Global,
+    given: &Options<'a>,
+    files: &F,
+) -> Result<FileBytes, Stop<'a>>
+    ensures ok { IfOk result (λ read.
+        HasFiles (F.held files.now) given.now (files_in given.now.platform read)) }
+    ensures err { IfErr result (StopsReadingFiles (F.held files.now) given.now) }
+{
+    let layout = bytes_named(files, alloc, given.layout)?;
+    let defaults = bytes_named(files, alloc, given.defaults)?;
+    let user = bytes_named(files, alloc, given.user)?;
+    let manifests = read_manifests(alloc, given.dirs.as_slice(), files)?;
+    Ok(FileBytes {
+        layout,
+        defaults,
+        user,
+        manifests,
+    })
+}
+
+// The bytes of a file, or none where there is no file.
+fn lent_or_empty(bytes: &Option<Vec<u8>>) -> &[u8]
+    ensures { result.now ≡ unwrap_or (option_map (λ bytes. bytes.items) bytes.now) [] }
+{
+    match bytes {
+        Some(bytes) => bytes.as_slice(),
+        None => &[],
+    }
+}
+
+// The bytes of each file, lent.
+fn lent_all<'b>(alloc: Global, files: &'b [Vec<u8>]) -> Result<Vec<&'b [u8]>, NoMemory>
+    ensures { IfOk result (λ lent.
+        map (λ bytes. bytes.now) lent.items ≡ map (λ bytes. bytes.items) files.now) }
+{
+    let mut lent = Vec::new(alloc);
+    for bytes in files {
+        lent.push(bytes.as_slice()).map_err(NoMemory::from)?;
+    }
+    Ok(lent)
+}
+
+// Runs the script over the files of a load, as they were read.
+fn run_files<'a, S: Read + Drop, I: Read, O: Write + Drop, C: Console + Drop>(
+    alloc: Global,
+    platform: Platform,
+    read: &FileBytes,
+    script: Option<S>,
+    input: &mut I,
+    trace: &mut BufWriter<O>,
+    voice: &mut Voice<C>,
+) -> Result<(), Stop<'a>>
+    ensures { Runs (files_in platform read.now)
         (script_bytes S.remaining script (I.remaining input.old)) (record {
           said_before = heard_by C.said voice.old;
           said = heard_by C.said voice.new;
@@ -74,17 +180,20 @@ fn run_loaded<'a, S: Read + Drop, I: Read, O: Write + Drop, C: Console + Drop>(
           has = O.contents (writer_inner trace.new);
         }) result }
 {
-    match Session::load(alloc, inputs) {
-        Ok(mut session) => {
-            say_warnings(session.warnings(), voice);
-            play_any(alloc, script, input, trace, &mut session)
-        }
-        Err(failure) => Err(Stop::from(failure)),
-    }
+    let manifests = lent_all(alloc, read.manifests.as_slice())?;
+    let inputs = Inputs {
+        layout: lent(&read.layout),
+        defaults: lent_or_empty(&read.defaults),
+        user: lent_or_empty(&read.user),
+        platform,
+        manifests: manifests.as_slice(),
+    };
+    run_loaded(alloc, inputs, script, input, trace, voice)
 }
 
-/// Carries out what the command line asks for. All files are read or opened before the load; what the
-/// load left out is said before the script runs.
+/// Carries out what the command line asks for. All files are read or opened before the load, in this
+/// order: the layout, the default rules, the user's rules, the manifest in each directory, the script. The
+/// first that is not had ends the run. Warnings of the load are said before the script runs.
 ///
 /// Errors: why the run stopped before its end.
 #[tactic(auto, using(crate::proofs::RunLemmas::files))]
@@ -103,22 +212,7 @@ pub fn carry_out<'a, F: FileSource, I: Read, O: Write + Drop, C: Console + Drop>
       has = O.contents (writer_inner trace.new);
     }) result }
 {
-    let layout = bytes_named(files, alloc, given.layout)?;
-    let user = bytes_named(files, alloc, given.user)?;
+    let read = read_files(alloc, &given, files)?;
     let script = file_named(files, given.script)?;
-    let inputs = Inputs {
-        layout: lent(&layout),
-        user: lent_or_empty(&user),
-    };
-    run_loaded(alloc, inputs, script, input, trace, voice)
-}
-
-// The bytes of a file, or none where there is no file.
-fn lent_or_empty(bytes: &Option<Vec<u8>>) -> &[u8]
-    ensures { result.now ≡ unwrap_or (option_map (λ bytes. bytes.items) bytes.now) [] }
-{
-    match bytes {
-        Some(bytes) => bytes.as_slice(),
-        None => &[],
-    }
+    run_files(alloc, given.platform, &read, script, input, trace, voice)
 }

@@ -1,11 +1,11 @@
 -- The manifest that a JSON value is (`package.json`), or its first fault.
-use Rattle.std.specs.Prelude.{ℕ, List, [], ◌∷◌, ◌++◌, Option, Some, None, option_map, Result, Ok, Err, codes}
+use Rattle.std.specs.Prelude.{ℕ, List, [], ◌∷◌, ◌++◌, Option, Some, None, Result, Ok, Err, codes}
 use Rattle.std.specs.Prelude.{◌≡◌}
 use Rattle.std.specs.Prelude.{if◌then◌else◌}
 use Rattle.serde_json.specs.Data.{Data}
 use Rattle.serde_json.specs.Find.{get, as_str, as_object}
 use Rattle.serde_json.specs.View.{items_view}
-use Rattle.kb_context.specs.Reading.{or_fault}
+use Rattle.kb_context.specs.Reading.{or_fault, seen}
 use Rattle.kb_manifest.specs.declared.command_table.Named.{Named}
 use Rattle.kb_manifest.specs.declared.fault.FileFault.{FileFault}
 use Rattle.kb_manifest.specs.declared.fault.FileFault.TheVariants.{MissingMember, WrongShape}
@@ -76,6 +76,11 @@ head_of d = do
   points ← optional no_points points_in (get (codes "contributes") d)
   Some (record { id = id; dependencies = dependencies; points = points })
 
+-- a name that is absent is the first fault, and then any wrong shape of the file itself
+unfoldable pub outline_of : Data → Result Outline FileFault
+outline_of d =
+    if lacks (codes "name") d then Err MissingMember else or_fault WrongShape (head_of d)
+
 -- the manifest of what it says: each entry is read by itself
 abbrev pub contributed : Told → Outline → Stated
 contributed told o = record {
@@ -88,11 +93,8 @@ contributed told o = record {
   palette_notes = (item.items_by told.palette o.points.palette).1;
 }
 
--- a name that is absent is the first fault, and then any wrong shape of the file itself
-unfoldable pub manifest_of : Told → Data → Result Stated FileFault
-manifest_of told d =
-    if lacks (codes "name") d then Err MissingMember
-    else or_fault WrongShape (option_map (contributed told) (head_of d))
+abbrev pub manifest_of : Told → Data → Result Stated FileFault
+manifest_of told d = seen (contributed told) (outline_of d)
 
 -- the same of what the code makes
 abbrev pub seen_head : Head → Outline
@@ -116,10 +118,10 @@ told_by m = record {
   palette = patterns_at m.palette_notes.unread;
 }
 
--- the answer is the manifest by what it tells itself, or the fault, which comes whatever is told
-abbrev pub IsRead : Data → Result Manifest (Failure FileFault) → Type 0
-IsRead d (Ok m) = manifest_of (told_by m) d ≡ Ok (seen_manifest m)
-IsRead d (Err failure) = (told : Told) → Fails failure (manifest_of told d)
+-- the answer is the manifest that is meant for what it tells itself, or the fault, whatever is told
+abbrev pub IsRead : {F : Type 0} → (Told → Result Stated F) → Result Manifest (Failure F) → Type 0
+IsRead meant (Ok m) = meant (told_by m) ≡ Ok (seen_manifest m)
+IsRead meant (Err failure) = (told : Told) → Fails failure (meant told)
 
 -- what is told of the patterns of all entries is right
 abbrev pub IsRightIn : Told → Outline → Type 0
@@ -127,9 +129,7 @@ IsRightIn told o =
     AllRight command.IsRightAt told.commands 0 o.points.commands
     × AllRight item.IsRightAt told.palette 0 o.points.palette
 
-abbrev pub IsRightBy : Told → Result Outline FileFault → Type 0
+-- the same where something is said
+abbrev pub IsRightBy : {F : Type 0} → Told → Result Outline F → Type 0
 IsRightBy told (Ok o) = IsRightIn told o
 IsRightBy told (Err fault) = Unit {0}
-
-abbrev pub IsRightOf : Told → Data → Type 0
-IsRightOf told d = IsRightBy told (or_fault WrongShape (head_of d))

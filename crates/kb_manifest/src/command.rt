@@ -15,7 +15,7 @@ use crate::member::{optional_text, required_text};
 use crate::parts::{members_in, take_member};
 use crate::warning::{Notes, Part};
 use kb_context::{NoMemory, Seq, Text};
-use kb_when::Clause;
+use kb_when::SharedClause;
 use serde_json::Value;
 use std::alloc::Global;
 
@@ -29,7 +29,7 @@ pub struct Command {
     pub category: Option<Text>,
     /// The clause without which no key starts the command, if there is one. One that can't be read
     /// is the clause `false` (our decision).
-    pub enablement: Option<Clause>,
+    pub enablement: Option<SharedClause>,
     /// Where the entry stands among the contributed commands: the number of entries above it,
     /// dropped ones too.
     pub place: usize,

@@ -7,13 +7,13 @@ ghost use Rattle.kb_manifest.specs.Condition.{number_by, never_holds, condition_
 ghost use Rattle.kb_manifest.specs.Condition.{optional_condition, IsRightBy, IsRightOf, IsOptionalRight};
 
 use kb_context::{Failure, NoMemory, Seq, Text};
-use kb_when::{Clause, UnreadPattern, WhenFault};
+use kb_when::{Clause, SharedClause, UnreadPattern, WhenFault};
 use std::alloc::{AllocError, Global};
 
 /// A clause of a manifest, the number of what is said of it, and its patterns that aren't read.
 #[derive(Drop)]
 pub(crate) struct Condition {
-    pub(crate) clause: Option<Clause>,
+    pub(crate) clause: Option<SharedClause>,
     pub(crate) number: Option<u32>,
     pub(crate) unread: Seq<UnreadPattern>,
 }
@@ -49,6 +49,7 @@ fn marked_condition(alloc: Global, clause: Clause) -> Result<Condition, NoMemory
 {
     let unread = copied(alloc, clause.unread())?;
     let number = number_by(unread.as_slice());
+    let clause = SharedClause::new(alloc, clause)?;
     Ok(Condition {
         clause: Some(clause),
         number,
@@ -57,15 +58,16 @@ fn marked_condition(alloc: Global, clause: Clause) -> Result<Condition, NoMemory
 }
 
 /// The clause `false` in place of one that can't be read, and what is said of it: a command must
-/// not start where its clause was to forbid it (our decision). It takes no memory.
-fn never_holds(alloc: Global, fault: WhenFault) -> Condition
-    ensures { result ≡ never_holds fault }
+/// not start where its clause was to forbid it (our decision).
+fn never_holds(alloc: Global, fault: WhenFault) -> Result<Condition, NoMemory>
+    ensures { IfOk result (λ condition. condition ≡ never_holds fault) }
 {
-    Condition {
-        clause: Some(Clause::never(alloc)),
+    let never = SharedClause::new(alloc, Clause::never(alloc))?;
+    Ok(Condition {
+        clause: Some(never),
         number: Some(fault.number()),
         unread: Seq::new(alloc),
-    }
+    })
 }
 
 /// The clause of a text, or the clause `false` where the text can't be read.
@@ -76,7 +78,7 @@ fn read_condition(alloc: Global, text: &str) -> Result<Condition, NoMemory>
 {
     match Clause::parse(alloc, text) {
         Ok(clause) => marked_condition(alloc, clause),
-        Err(Failure::Fault(fault)) => Ok(never_holds(alloc, fault)),
+        Err(Failure::Fault(fault)) => never_holds(alloc, fault),
         Err(Failure::NoMemory) => Err(AllocError),
     }
 }

@@ -7,7 +7,7 @@ ghost use Rattle.kb_manifest.specs.declared.fault.FileFault.TheVariants.{WrongSh
 ghost use Rattle.kb_manifest.specs.Parts.{optional, elements_of};
 ghost use Rattle.kb_manifest.specs.Manifest.{word_of, texts_of, publisher_of, id_of, seen_head, head_of};
 ghost use Rattle.kb_manifest.specs.Manifest.{seen_manifest, told_by, contributed, manifest_of, IsRead};
-ghost use Rattle.kb_manifest.specs.Manifest.{IsRightIn, IsRightOf};
+ghost use Rattle.kb_manifest.specs.Manifest.{outline_of, IsRightIn, IsRightBy};
 
 use crate::command::read_commands;
 use crate::command_table::CommandTable;
@@ -69,12 +69,12 @@ impl Manifest {
     /// `publisher` no text or empty, `extensionDependencies` no list of texts, or `commands`,
     /// `keybindings` or `menus.commandPalette` neither a list nor an object: `null` is there, and
     /// is none of these; or `NoMemory`.
-    #[tactic(auto, unfolding(crate::specs::Manifest::manifest_of))]
+    #[tactic(auto, unfolding(crate::specs::Manifest::outline_of))]
     pub fn read(alloc: Global, value: Value) -> Result<Manifest, Failure<FileFault>>
-        ensures read { IsRead (view value) result }
+        ensures read { IsRead (λ told. manifest_of told (view value)) result }
 
         // A pattern is listed only where `regex` doesn't read it, and isn't listed only where it does.
-        ensures right { IfOk result (λ manifest. IsRightOf (told_by manifest) (view value)) }
+        ensures right { IfOk result (λ manifest. IsRightBy (told_by manifest) (outline_of (view value))) }
     {
         if lacks(&value, "name") {
             return Err(Failure::Fault(FileFault::MissingMember));

@@ -15,7 +15,7 @@ use crate::member::{optional_text, required_text};
 use crate::parts::{members_in, take_member};
 use crate::warning::{Notes, Part};
 use kb_context::{NoMemory, Seq, Text, is_blank_text};
-use kb_when::Clause;
+use kb_when::SharedClause;
 use serde_json::Value;
 use std::alloc::Global;
 
@@ -27,7 +27,7 @@ pub struct PaletteItem {
     pub command: Text,
     /// The clause where the palette shows the command, if there is one: an item without one holds.
     /// One that can't be read is the clause `false`, and a blank one is absent (our decisions).
-    pub when: Option<Clause>,
+    pub when: Option<SharedClause>,
     /// Where the entry stands among the items: the number of entries above it, dropped ones too.
     pub place: usize,
 }

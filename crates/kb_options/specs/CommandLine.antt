@@ -1,13 +1,20 @@
 -- The command line of `keyrun`: the command as clap's definitions see it, and what its words mean.
-use Rattle.std.specs.Prelude.{◌≡◌, ℕ, true, List, [], Some, Result, Ok, Err, MatchResult, codes, option_map}
+use Rattle.std.specs.Prelude.{◌≡◌, ℕ, true, List, [], Option, Some, Result, Ok, Err, MatchResult, codes}
+use Rattle.std.specs.Prelude.{map, is_some, option_map, option_and_then, unwrap_or}
+use Rattle.std.specs.Borrow.{Bor}
 use Rattle.std.specs.declared.io.ErrorKind as io
 use Rattle.std.specs.declared.io.ErrorKind.TheVariants as io_kind
-use Rattle.clap.specs.Words.{App, Rule, Row, Text, new_app, new_rule, with_rule, first_of, matches_of}
+use Rattle.clap.specs.Words.{App, Rule, Row, Text, new_app, new_rule, with_rule, all_of, first_of, matches_of}
 use Rattle.clap.specs.Words.{HasKind, fault_of, found_of, rows_of, kind_of, takes}
+use Rattle.clap.specs.declared.builder.action.ArgAction.TheVariants.{Append}
+use Rattle.clap.specs.declared.builder.value_parser.ValueParser.TheVariants.{Names}
 use Rattle.clap.specs.declared.error.Error.{Error}
 use Rattle.clap.specs.declared.error.kind.ErrorKind.{ErrorKind}
 use Rattle.clap.specs.declared.error.kind.ErrorKind.TheVariants.{OutOfMemory, DisplayHelp, DisplayVersion}
 use Rattle.clap.specs.declared.parser.matches.ArgMatches.{ArgMatches}
+use Rattle.kb_keys.specs.Platform.{platforms, platform_name, platform_named}
+use Rattle.kb_keys.specs.declared.platform.Platform.{Platform}
+use Rattle.kb_keys.specs.declared.platform.Platform.TheVariants.{Linux}
 use Rattle.kb_options.specs.declared.given.Options.{Options}
 use Rattle.kb_options.specs.declared.given.OptionsFault.{OptionsFault}
 use Rattle.kb_options.specs.declared.given.OptionsFault.TheVariants.{Line, NoMemory}
@@ -20,25 +27,45 @@ use Rattle.kb_options.specs.declared.given.WordsFault.TheVariants as words_fault
 abbrev pub file_rule : Text → Rule
 file_rule name = record (new_rule name) { long = Some name; value_names = 1 }
 
--- `keyrun [--layout F] [--user F] [--script F]`
-abbrev pub keyrun_app : App
-keyrun_app = with_rule (with_rule (with_rule (new_app (codes "keyrun"))
-    (file_rule (codes "layout"))) (file_rule (codes "user"))) (file_rule (codes "script"))
+-- the names that stand somewhere are those of the platforms
+abbrev pub NamesPlatforms : Bor (List (Bor Text)) → Type 0
+NamesPlatforms names = map (λ name. name.now) names.now ≡ map platform_name platforms
+
+-- `--platform P`, where P is one of these names
+abbrev pub platform_rule : Bor (List (Bor Text)) → Rule
+platform_rule names = record (file_rule (codes "platform")) { parser = Some (Names names) }
+
+-- `[DIR]...`, any number of them
+abbrev pub dirs_rule : Rule
+dirs_rule = record (new_rule (codes "dir")) { action = Some Append; value_names = 1 }
+
+-- `keyrun [--layout F] [--defaults F] [--user F] [--platform P] [--script F] [DIR]...`
+abbrev pub keyrun_app : Bor (List (Bor Text)) → App
+keyrun_app names = with_rule (with_rule (with_rule (with_rule (with_rule (with_rule (new_app (codes "keyrun"))
+    (file_rule (codes "layout"))) (file_rule (codes "defaults"))) (file_rule (codes "user")))
+    (platform_rule names)) (file_rule (codes "script"))) dirs_rule
 
 -- ---- what the words mean
+
+-- the platform of the name that an option gives, and Linux where it gives none
+abbrev pub platform_given : Option Text → Platform
+platform_given name = unwrap_or (option_and_then platform_named name) Linux
 
 -- the options are what the matches of a command line say
 pub record Gives (rows : List Row) (given : Options) : Type 0 where
   pub layout : option_map (λ s. s.now) given.layout ≡ first_of (codes "layout") rows
+  pub defaults : option_map (λ s. s.now) given.defaults ≡ first_of (codes "defaults") rows
   pub user : option_map (λ s. s.now) given.user ≡ first_of (codes "user") rows
+  pub platform : given.platform ≡ platform_given (first_of (codes "platform") rows)
   pub script : option_map (λ s. s.now) given.script ≡ first_of (codes "script") rows
+  pub dirs : map (λ s. s.now) given.dirs.items ≡ unwrap_or (all_of (codes "dir") rows) []
 
 -- what clap may answer to the words: the matches of its meaning, or an error of a kind that its meaning
 -- gives them; it may also find no memory, and words that its meaning takes have no other error
-abbrev pub Matched : List Text → Result ArgMatches Error → Type 0
-Matched words r = MatchResult r
-    (λ m. (fault_of keyrun_app words ≡ []) × (rows_of (found_of m) ≡ matches_of keyrun_app words))
-    (λ e. HasKind (fault_of keyrun_app words) e × (takes keyrun_app words ≡ true → kind_of e ≡ OutOfMemory))
+abbrev pub Matched : App → List Text → Result ArgMatches Error → Type 0
+Matched app words r = MatchResult r
+    (λ m. (fault_of app words ≡ []) × (rows_of (found_of m) ≡ matches_of app words))
+    (λ e. HasKind (fault_of app words) e × (takes app words ≡ true → kind_of e ≡ OutOfMemory))
 
 -- the fault that an error of clap is: want of memory where clap says so, and else the error
 abbrev pub fault_of_kind : ErrorKind → Error → OptionsFault
@@ -48,15 +75,21 @@ fault_of_kind _ e = Line e
 abbrev pub fault_by : Error → OptionsFault
 fault_by e = fault_of_kind (kind_of e) e
 
+-- memory was refused for the list of directories, of which there are some
+abbrev pub LacksDirs : List Row → OptionsFault → Type 0
+LacksDirs rows fault = (fault ≡ NoMemory) × (is_some (all_of (codes "dir") rows) ≡ true)
+
 -- the answer to what clap answered
 abbrev pub Answers : Result ArgMatches Error → Result Options OptionsFault → Type 0
-Answers (Ok m) r = MatchResult r (Gives (rows_of (found_of m))) (λ fault. ⊥)
+Answers (Ok m) r = MatchResult r (Gives (rows_of (found_of m))) (LacksDirs (rows_of (found_of m)))
 Answers (Err e) r = MatchResult r (λ given. ⊥) (λ fault. fault ≡ fault_by e)
 
--- the words are read as clap's meaning of the command says
+-- the words are read as clap's meaning of the command says, wherever the names of the platforms stand
 pub record Reads (words : List Text) (r : Result Options OptionsFault) : Type 0 where
+  pub names : Bor (List (Bor Text))
+  pub are_platforms : NamesPlatforms names
   pub read : Result ArgMatches Error
-  pub by_clap : Matched words read
+  pub by_clap : Matched (keyrun_app names) words read
   pub answers : Answers read r
 
 -- the exit status of a command line that gives no options

@@ -1,14 +1,27 @@
 //! The command line of `keyrun`, as `clap` reads it.
-ghost use Rattle.std.specs.Prelude.{◌≡◌, false, IfOk, codes, map, option_map};
+ghost use Rattle.std.specs.Prelude.{◌≡◌, [], true, false, IfOk, IfErr, codes, map, is_some, option_map};
+ghost use Rattle.std.specs.Prelude.{unwrap_or};
 ghost use Rattle.clap.specs.Words.{app_of, rule_of, with_rule, new_app};
-ghost use Rattle.clap.specs.Words.{found_of, rows_of, first_of, kind_of};
-ghost use Rattle.kb_options.specs.CommandLine.{Matched, Gives, Answers, file_rule, keyrun_app, Reads};
+ghost use Rattle.clap.specs.Words.{found_of, rows_of, all_of, first_of, kind_of};
+ghost use Rattle.kb_options.specs.CommandLine.{Matched, Gives, Answers, Reads, NamesPlatforms};
+ghost use Rattle.kb_options.specs.CommandLine.{file_rule, platform_rule, dirs_rule, keyrun_app};
+ghost use Rattle.kb_options.specs.CommandLine.{platform_given};
 
 use crate::given::{Options, OptionsFault};
 use clap::error::ErrorKind;
-use clap::{Arg, ArgMatches, Command, Error};
+use clap::{Arg, ArgAction, ArgMatches, Command, Error};
 use kb_context::NoMemory;
+use kb_keys::Platform;
 use std::alloc::Global;
+
+static PLATFORM_NAMES: [&str; 3] = ["mac", "linux", "win"];
+
+// The names that `--platform` takes.
+fn platform_names<'a>() -> &'a [&'a str]
+    ensures { NamesPlatforms result }
+{
+    PLATFORM_NAMES.as_slice()
+}
 
 // `--NAME F`, where `help` says what F is.
 fn file_option<'a>(alloc: Global, name: &'a str, help: &'a str) -> Arg<'a>
@@ -37,9 +50,32 @@ fn with<'a>(command: Command<'a>, option: Arg<'a>) -> Result<Command<'a>, NoMemo
     command.arg(option)
 }
 
-// The command `keyrun`.
-fn keyrun<'a>(alloc: Global) -> Result<Command<'a>, NoMemory>
-    ensures { IfOk result (λ made. app_of made ≡ keyrun_app) }
+// `--platform P`, where P is one of these names.
+fn platform_option<'a>(alloc: Global, names: &'a [&'a str]) -> Arg<'a>
+    ensures rule { rule_of result ≡ platform_rule names.entry }
+    ensures local { result.global ≡ false }
+{
+    Arg::new(alloc, "platform")
+        .long("platform")
+        .value_name("P")
+        .value_parser(names)
+        .help("The platform whose keys the extensions' rules have [default: linux]")
+}
+
+// `[DIR]...`.
+fn dirs_argument<'a>(alloc: Global) -> Arg<'a>
+    ensures rule { rule_of result ≡ dirs_rule }
+    ensures local { result.global ≡ false }
+{
+    Arg::new(alloc, "dir")
+        .value_name("DIR")
+        .action(ArgAction::Append)
+        .help("The directories of extensions, each with its package.json, in load order")
+}
+
+// The command `keyrun`, whose platforms have these names.
+fn keyrun<'a>(alloc: Global, platforms: &'a [&'a str]) -> Result<Command<'a>, NoMemory>
+    ensures { IfOk result (λ made. app_of made ≡ keyrun_app platforms.entry) }
 {
     let command = bare(alloc)?;
     let command = with(
@@ -52,20 +88,34 @@ fn keyrun<'a>(alloc: Global) -> Result<Command<'a>, NoMemory>
     )?;
     let command = with(
         command,
+        file_option(
+            alloc,
+            "defaults",
+            "The default rules, as JSON with comments",
+        ),
+    )?;
+    let command = with(
+        command,
         file_option(alloc, "user", "The user's rules, as JSON with comments"),
     )?;
-    with(
+    let command = with(command, platform_option(alloc, platforms))?;
+    let command = with(
         command,
         file_option(alloc, "script", "The script, in place of standard input"),
-    )
+    )?;
+    with(command, dirs_argument(alloc))
 }
 
-// What the words are to the command `keyrun`. This call alone takes memory, which `clap` tells as an error
+// What the words are to the command `keyrun`. This call takes memory, which `clap` tells as an error
 // of the kind `OutOfMemory`.
-fn matched<'a>(alloc: Global, words: &'a [&'a str]) -> Result<ArgMatches<'a>, Error>
-    ensures { Matched (map (λ w. w.now) words.now) result }
+fn matched<'a>(
+    alloc: Global,
+    platforms: &'a [&'a str],
+    words: &'a [&'a str],
+) -> Result<ArgMatches<'a>, Error>
+    ensures { Matched (keyrun_app platforms.entry) (map (λ w. w.now) words.now) result }
 {
-    keyrun(alloc)?.try_get_matches_from(words)
+    keyrun(alloc, platforms)?.try_get_matches_from(words)
 }
 
 // The text of an option, where it was given.
@@ -75,38 +125,79 @@ fn text_given<'a>(matches: &ArgMatches<'a>, name: &str) -> Option<&'a str>
     matches.get_str(name)
 }
 
-// The options that matches give.
-fn chosen<'a>(matches: &ArgMatches<'a>) -> Options<'a>
-    ensures { Gives (rows_of (found_of matches.now)) result }
+// The platform that is named, or Linux. `clap` lets no word through that names none.
+fn platform_of(name: Option<&str>) -> Platform
+    ensures { result ≡ platform_given (option_map (λ s. s.now) name.entry) }
 {
-    Options {
-        layout: text_given(matches, "layout"),
-        user: text_given(matches, "user"),
-        script: text_given(matches, "script"),
+    match name {
+        Some(name) => Platform::named(name).unwrap_or(Platform::Linux),
+        None => Platform::Linux,
     }
 }
 
-// The options that `clap`'s answer gives, or why it gives none. It takes no memory.
-fn given(read: Result<ArgMatches<'_>, Error>) -> Result<Options<'_>, OptionsFault>
+// All texts of a positional, where it was given.
+fn texts_given<'m, 'a>(matches: &'m ArgMatches<'a>, name: &str) -> Option<&'m [&'a str]>
+    ensures { option_map (λ texts. map (λ s. s.now) texts.now) result
+        ≡ all_of name.now (rows_of (found_of matches.now)) }
+{
+    matches.get_strs(name)
+}
+
+// A list of its own of the texts that were given, or of none.
+fn listed<'a>(alloc: Global, given: Option<&[&'a str]>) -> Result<Vec<&'a str>, NoMemory>
+    ensures ok { IfOk result (λ listed. map (λ s. s.now) listed.items
+        ≡ unwrap_or (option_map (λ texts. map (λ s. s.now) texts.now) given.entry) []) }
+    ensures err { IfErr result (λ _.
+        is_some (option_map (λ texts. map (λ s. s.now) texts.now) given.entry) ≡ true) }
+{
+    match given {
+        Some(texts) => Vec::from_slice(alloc, texts),
+        None => Ok(Vec::new(alloc)),
+    }
+}
+
+// The options that matches give.
+fn chosen<'a>(alloc: Global, matches: &ArgMatches<'a>) -> Result<Options<'a>, NoMemory>
+    ensures ok { IfOk result (Gives (rows_of (found_of matches.now))) }
+    ensures err { IfErr result (λ _.
+        is_some (all_of (codes "dir") (rows_of (found_of matches.now))) ≡ true) }
+{
+    Ok(Options {
+        layout: text_given(matches, "layout"),
+        defaults: text_given(matches, "defaults"),
+        user: text_given(matches, "user"),
+        platform: platform_of(text_given(matches, "platform")),
+        script: text_given(matches, "script"),
+        dirs: listed(alloc, texts_given(matches, "dir"))?,
+    })
+}
+
+// The options that `clap`'s answer gives, or why it gives none.
+fn given<'a>(
+    alloc: Global,
+    read: Result<ArgMatches<'a>, Error>,
+) -> Result<Options<'a>, OptionsFault>
     ensures { Answers read.entry result }
 {
     match read {
-        Ok(matches) => Ok(chosen(&matches)),
+        Ok(matches) => Ok(chosen(alloc, &matches)?),
         Err(error) => Err(OptionsFault::from(error)),
     }
 }
 
 /// The options that the words of a command line give, of which the first is the program's name.
 ///
-/// They are `--layout F`, `--user F` and `--script F`, each at most once and in any order; `--` ends them.
+/// They are `--layout F`, `--defaults F`, `--user F`, `--platform P` (`mac`, `linux` or `win`) and
+/// `--script F`, each at most once and in any order; `--` ends them. All other words are directories.
 /// What the words mean is what `clap` has written down of its meaning, for this command.
 ///
 /// Errors: `Line` where that meaning refuses the words or they ask for help, with one of the kinds of
-/// error that it gives them, and `NoMemory` where `clap` answers that it found none.
+/// error that it gives them, and `NoMemory` where `clap` answers that it found none, or the list of the
+/// directories found none.
 pub fn options<'a>(alloc: Global, words: &'a [&'a str]) -> Result<Options<'a>, OptionsFault>
     ensures { Reads (map (λ w. w.now) words.now) result }
 {
-    given(matched(alloc, words))
+    given(alloc, matched(alloc, platform_names(), words))
 }
 
 /// The error of a command line with a word that is no UTF-8 text. [`options`] takes texts, so it never
@@ -116,7 +207,7 @@ pub fn options<'a>(alloc: Global, words: &'a [&'a str]) -> Result<Options<'a>, O
 pub fn not_text(alloc: Global) -> Result<Error, NoMemory>
     ensures { IfOk result (λ made. kind_of made ≡ ErrorKind.InvalidValue) }
 {
-    keyrun(alloc)?.error(
+    keyrun(alloc, platform_names())?.error(
         ErrorKind::InvalidValue,
         "a word of the command line is no UTF-8 text",
     )

@@ -13,9 +13,10 @@ use Rattle.kb_keys.specs.Chord.{begins_with}
 use Rattle.kb_keys.specs.declared.keystroke.Keystroke.{Keystroke}
 use Rattle.kb_keys.proofs.KeystrokeLemmas.{same_stroke-Decides}
 use Rattle.kb_rules.specs.declared.rule.Rule.{Rule}
+use Rattle.kb_resolve.specs.Enablements.{Enabling}
 use Rattle.kb_resolve.specs.Resolved.{found, more}
-use Rattle.kb_resolve.specs.Resolver.{when_holds, matches, last_where, chosen, resolution_by, resolved}
-use Rattle.kb_resolve.specs.Resolver.{Matches, IsLastMatch, IsGreatest}
+use Rattle.kb_resolve.specs.Resolver.{when_holds, may_start, matches, last_where, chosen, resolution_by}
+use Rattle.kb_resolve.specs.Resolver.{resolved, Matches, IsLastMatch, IsGreatest}
 
 both : (a b : Bool) → (a && b) ≡ true → (a ≡ true) × (b ≡ true)
 both true b h = (refl, h)
@@ -26,28 +27,33 @@ not_both true b h p q = cc
 not_both false b h p q = cc
 
 -- the test is the relation
-matching : (pressed : List Keystroke) (keys : Keys) (rule : Rule) → matches keys pressed rule ≡ true
-    → Matches pressed keys rule
-matching pressed keys rule h =
+matching : (pressed : List Keystroke) (keys : Keys) (enablement : Enabling) (rule : Rule)
+    → matches keys enablement pressed rule ≡ true → Matches pressed keys enablement rule
+matching pressed keys enablement rule h =
     let front = starts_is same_stroke-Decides rule.chord pressed (begins_with rule.chord pressed) refl in
-    let tests = both (begins_with rule.chord pressed) (when_holds keys rule.when) h in
-    (drop (length pressed) rule.chord, front.0 tests.0, tests.1)
+    let tests = both (begins_with rule.chord pressed) (may_start keys enablement rule) h in
+    let clauses = both (when_holds keys rule.when) (when_holds keys (enablement rule.command)) tests.1 in
+    (drop (length pressed) rule.chord, front.0 tests.0, clauses.0, clauses.1)
 
-failing : (pressed : List Keystroke) (keys : Keys) (rule : Rule) → matches keys pressed rule ≡ false
-    → ¬ Matches pressed keys rule
-failing pressed keys rule h = λ m.
+failing : (pressed : List Keystroke) (keys : Keys) (enablement : Enabling) (rule : Rule)
+    → matches keys enablement pressed rule ≡ false → ¬ Matches pressed keys enablement rule
+failing pressed keys enablement rule h = λ m.
     let front = starts_is same_stroke-Decides rule.chord pressed (begins_with rule.chord pressed) refl in
-    not_both (begins_with rule.chord pressed) (when_holds keys rule.when) h (front.1 m.0 m.1) m.2
+    not_both (begins_with rule.chord pressed) (may_start keys enablement rule) h (front.1 m.0 m.1)
+    (ap (λ (a : Bool). a && when_holds keys (enablement rule.command)) m.2 ∙ m.3)
 
-abbrev IsUnmatched : List Keystroke → Keys → List Rule → Type 0
-IsUnmatched pressed keys rules = All (λ rule. ¬ Matches pressed keys rule) rules
+abbrev IsUnmatched : List Keystroke → Keys → Enabling → List Rule → Type 0
+IsUnmatched pressed keys enablement rules = All (λ rule. ¬ Matches pressed keys enablement rule) rules
 
-last_step : (pressed : List Keystroke) (keys : Keys) (rule : Rule) (below : List Rule) (later : Option Rule)
-    (b : Bool) → MatchOption later (IsUnmatched pressed keys below) (IsLastMatch pressed keys below)
-    → matches keys pressed rule ≡ b
+last_step : (pressed : List Keystroke) (keys : Keys) (enablement : Enabling) (rule : Rule)
+    (below : List Rule) (later : Option Rule) (b : Bool)
+    → MatchOption later (IsUnmatched pressed keys enablement below)
+    (IsLastMatch pressed keys enablement below)
+    → matches keys enablement pressed rule ≡ b
     → MatchOption (option_or later (if b then Some rule else None))
-    (IsUnmatched pressed keys (rule ∷ below)) (IsLastMatch pressed keys (rule ∷ below))
-last_step pressed keys rule below (Some last) b h e =
+    (IsUnmatched pressed keys enablement (rule ∷ below))
+    (IsLastMatch pressed keys enablement (rule ∷ below))
+last_step pressed keys enablement rule below (Some last) b h e =
     record {
       above =
           rule ∷ h.above;
@@ -58,25 +64,26 @@ last_step pressed keys rule below (Some last) b h e =
       matching = h.matching;
       rest_fails = h.rest_fails;
     }
-last_step pressed keys rule below None true h e =
+last_step pressed keys enablement rule below None true h e =
     record {
       above =
           [];
       below = below;
       whole = refl;
-      matching = matching pressed keys rule e;
+      matching = matching pressed keys enablement rule e;
       rest_fails = h;
     }
-last_step pressed keys rule below None false h e =
-    All-cons (λ (r : Rule). ¬ Matches pressed keys r) rule below (failing pressed keys rule e) h
+last_step pressed keys enablement rule below None false h e =
+    All-cons (λ (r : Rule). ¬ Matches pressed keys enablement r) rule below
+    (failing pressed keys enablement rule e) h
 
-pub chosen_is_last : (pressed : List Keystroke) (keys : Keys) (rules : List Rule)
-    → MatchOption (chosen pressed keys rules) (IsUnmatched pressed keys rules)
-    (IsLastMatch pressed keys rules)
-chosen_is_last pressed keys [] = All-nil (λ (r : Rule). ¬ Matches pressed keys r)
-chosen_is_last pressed keys (rule ∷ below) =
-    last_step pressed keys rule below (chosen pressed keys below) (matches keys pressed rule)
-    (chosen_is_last pressed keys below) refl
+pub chosen_is_last : (pressed : List Keystroke) (keys : Keys) (enablement : Enabling) (rules : List Rule)
+    → MatchOption (chosen pressed keys enablement rules) (IsUnmatched pressed keys enablement rules)
+    (IsLastMatch pressed keys enablement rules)
+chosen_is_last pressed keys enablement [] = All-nil (λ (r : Rule). ¬ Matches pressed keys enablement r)
+chosen_is_last pressed keys enablement (rule ∷ below) =
+    last_step pressed keys enablement rule below (chosen pressed keys enablement below)
+    (matches keys enablement pressed rule) (chosen_is_last pressed keys enablement below) refl
 
 -- nothing follows the pressed keystrokes in a rule that isn't longer
 whole_chord : (pressed rest chord : List Keystroke) → chord ≡ pressed ++ rest
@@ -85,24 +92,27 @@ whole_chord pressed rest chord e h =
     let none : length rest ≡ 0 = omega (arith, length-append pressed rest, ap length e) in
     e ∙ ap (λ (l : List Keystroke). pressed ++ l) (nil_from_length rest none) ∙ append-nil pressed
 
-greatest_by : (pressed : List Keystroke) (keys : Keys) (rules : List Rule) (rule : Rule) (b : Bool)
-    → IsLastMatch pressed keys rules rule → nat_lt (length pressed) (length rule.chord) ≡ b
-    → IsGreatest pressed keys rules (if b then more else found rule)
-greatest_by pressed keys rules rule true h e = (rule, h, grind (arith, nat_tests))
-greatest_by pressed keys rules rule false h e =
+greatest_by : (pressed : List Keystroke) (keys : Keys) (enablement : Enabling) (rules : List Rule)
+    (rule : Rule) (b : Bool) → IsLastMatch pressed keys enablement rules rule
+    → nat_lt (length pressed) (length rule.chord) ≡ b
+    → IsGreatest pressed keys enablement rules (if b then more else found rule)
+greatest_by pressed keys enablement rules rule true h e = (rule, h, grind (arith, nat_tests))
+greatest_by pressed keys enablement rules rule false h e =
     (h, whole_chord pressed h.matching.0 rule.chord h.matching.1 (grind (arith, nat_tests)))
 
-greatest_of : (pressed : List Keystroke) (keys : Keys) (rules : List Rule) (choice : Option Rule)
-    → MatchOption choice (IsUnmatched pressed keys rules) (IsLastMatch pressed keys rules)
-    → IsGreatest pressed keys rules (resolution_by pressed choice)
-greatest_of pressed keys rules None h = h
-greatest_of pressed keys rules (Some rule) h =
-    greatest_by pressed keys rules rule (nat_lt (length pressed) (length rule.chord)) h refl
+greatest_of : (pressed : List Keystroke) (keys : Keys) (enablement : Enabling) (rules : List Rule)
+    (choice : Option Rule) → MatchOption choice (IsUnmatched pressed keys enablement rules)
+    (IsLastMatch pressed keys enablement rules)
+    → IsGreatest pressed keys enablement rules (resolution_by pressed choice)
+greatest_of pressed keys enablement rules None h = h
+greatest_of pressed keys enablement rules (Some rule) h =
+    greatest_by pressed keys enablement rules rule (nat_lt (length pressed) (length rule.chord)) h refl
 
-pub resolved_is_greatest : (pressed : List Keystroke) (keys : Keys) (rules : List Rule)
-    → IsGreatest pressed keys rules (resolved pressed keys rules)
-resolved_is_greatest pressed keys rules =
-    greatest_of pressed keys rules (chosen pressed keys rules) (chosen_is_last pressed keys rules)
+pub resolved_is_greatest : (pressed : List Keystroke) (keys : Keys) (enablement : Enabling)
+    (rules : List Rule) → IsGreatest pressed keys enablement rules (resolved pressed keys enablement rules)
+resolved_is_greatest pressed keys enablement rules =
+    greatest_of pressed keys enablement rules (chosen pressed keys enablement rules)
+    (chosen_is_last pressed keys enablement rules)
 
 behind : (rule : Rule) (later other : Option Rule) (b : Bool)
     → option_or (if b then Some rule else later) other ≡ (if b then Some rule else option_or later other)

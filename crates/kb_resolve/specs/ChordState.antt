@@ -3,6 +3,7 @@ use Rattle.std.specs.Prelude.{List, [], ◌∷◌, ◌++◌}
 use Rattle.kb_context.specs.Scopes.{Keys}
 use Rattle.kb_keys.specs.declared.keystroke.Keystroke.{Keystroke}
 use Rattle.kb_rules.specs.declared.rule.Rule.{Rule}
+use Rattle.kb_resolve.specs.Enablements.{Enabling}
 use Rattle.kb_resolve.specs.Pressed as press
 use Rattle.kb_resolve.specs.Pressed.{Step}
 use Rattle.kb_resolve.specs.Resolved.{Resolution, found, more, nothing}
@@ -25,11 +26,12 @@ kept_by strokes (found rule) = []
 kept_by strokes more = strokes
 kept_by strokes nothing = []
 
--- what a press does, where the focus sees these keys
-abbrev pub step : List Keystroke → Keystroke → Keys → List Rule → Step
-step before stroke keys rules = step_by before (resolved (before ++ stroke ∷ []) keys rules)
+-- what a press does, where the focus sees these keys and commands have these enablements
+abbrev pub step : List Keystroke → Keystroke → Keys → Enabling → List Rule → Step
+step before stroke keys enablement rules =
+    step_by before (resolved (before ++ stroke ∷ []) keys enablement rules)
 
 -- the keystrokes that are pressed after it
-abbrev pub pressed_after : List Keystroke → Keystroke → Keys → List Rule → List Keystroke
-pressed_after before stroke keys rules =
-    kept_by (before ++ stroke ∷ []) (resolved (before ++ stroke ∷ []) keys rules)
+abbrev pub pressed_after : List Keystroke → Keystroke → Keys → Enabling → List Rule → List Keystroke
+pressed_after before stroke keys enablement rules =
+    kept_by (before ++ stroke ∷ []) (resolved (before ++ stroke ∷ []) keys enablement rules)

@@ -1,4 +1,5 @@
 pub mod ChordState
+pub mod Enablements
 pub mod Pressed
 pub mod Resolved
 pub mod Resolver

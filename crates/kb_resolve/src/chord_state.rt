@@ -2,8 +2,10 @@
 ghost use Rattle.std.specs.Prelude.{◌≡◌, ◌≢◌, ◌<◌, ◌↔◌, [], length, IfOk, OnOk, OnErr, IsTrue};
 ghost use Rattle.kb_context.specs.Scopes.{context};
 ghost use Rattle.kb_resolve.specs.ChordState.{step, pressed_after};
+ghost use Rattle.kb_resolve.specs.Enablements.{enablement_in};
 ghost use Rattle.kb_resolve.specs.Pressed.{step_of};
 
+use crate::enablements::Enablements;
 use crate::pressed::Pressed;
 use crate::resolved::Resolved;
 use crate::resolver::Resolver;
@@ -61,10 +63,10 @@ impl ChordState {
     }
 
     /// Presses a key: what it does is what a search for the keystrokes pressed so far with this one
-    /// finds, over what the focus sees now. A longer rule keeps them pressed (VS Code's documentation
-    /// of chords); after the other answers no chord is open, and a key that ends a chord without a
-    /// rule does nothing else (our decision). So is that each press asks the clauses anew: what the
-    /// focus saw at the presses before doesn't count.
+    /// finds, over what the focus sees now and these enablements. A longer rule keeps them pressed (VS
+    /// Code's documentation of chords); after the other answers no chord is open, and a key that ends a
+    /// chord without a rule does nothing else (our decision). So is that each press asks the clauses and
+    /// the enablements anew: what the focus saw at the presses before doesn't count.
     ///
     /// The rule to be started is lent. Want of memory as for `Resolver::resolve`; the chord then stays
     /// as it was. Nothing else takes memory.
@@ -73,16 +75,18 @@ impl ChordState {
         stroke: Keystroke,
         resolver: &'r Resolver,
         scopes: &Scopes,
+        enablements: &Enablements,
     ) -> Result<Pressed<'r>, NoMemory>
-        ensures step { IfOk result (λ pressed.
-            step_of pressed ≡ step self.old stroke (context scopes.now) resolver.now) }
-        ensures pressed { OnOk result (
-            self.new ≡ pressed_after self.old stroke (context scopes.now) resolver.now) }
+        ensures step { IfOk result (λ pressed. step_of pressed
+            ≡ step self.old stroke (context scopes.now) (enablement_in enablements.now) resolver.now) }
+        ensures pressed { OnOk result (self.new
+            ≡ pressed_after self.old stroke (context scopes.now) (enablement_in enablements.now)
+            resolver.now) }
         ensures err { OnErr result (self.new ≡ self.old) }
     {
         let was_open = !self.pressed.is_empty();
         self.pressed.push(stroke);
-        match resolver.resolve(self.pressed.as_slice(), scopes) {
+        match resolver.resolve(self.pressed.as_slice(), scopes, enablements) {
             Ok(Resolved::Found(rule)) => {
                 self.pressed.clear();
                 Ok(Pressed::Start(rule))

@@ -6,11 +6,13 @@
 #![tactic(auto)]
 
 pub mod chord_state;
+pub mod enablements;
 pub mod pressed;
 pub mod resolved;
 pub mod resolver;
 
 pub use chord_state::ChordState;
+pub use enablements::{Contribution, Enablements};
 pub use pressed::Pressed;
 pub use resolved::Resolved;
 pub use resolver::Resolver;

@@ -1,13 +1,17 @@
 //! The search for the rule that pressed keystrokes choose.
-ghost use Rattle.std.specs.Prelude.{◌≡◌, ◌<◌, length, map, option_map, IfOk, IfErr};
+ghost use Rattle.std.specs.Prelude.{◌≡◌, ◌<◌, length, map, option_map, option_copied, IfOk, IfErr};
 ghost use Rattle.kb_context.specs.Scopes.{context};
+ghost use Rattle.kb_resolve.specs.Enablements.{enablement_in};
 ghost use Rattle.kb_resolve.specs.Resolved.{more, resolution_of};
-ghost use Rattle.kb_resolve.specs.Resolver.{chosen, matches, resolved, IsGreatest, AsksPattern};
+ghost use Rattle.kb_resolve.specs.Resolver.{when_holds, may_start, matches, chosen, resolved, IsGreatest};
+ghost use Rattle.kb_resolve.specs.Resolver.{HasPattern, HasPatterns, AsksPattern};
 
+use crate::enablements::Enablements;
 use crate::resolved::Resolved;
 use kb_context::{NoMemory, Scopes};
 use kb_keys::{Keystroke, LIMIT};
 use kb_rules::{Rule, RuleSet};
+use kb_when::Clause;
 use std::marker::Model;
 use std::rc::Rc;
 
@@ -41,27 +45,28 @@ impl Resolver {
     /// Searches the rules from the bottom to the top for the first whose keystrokes begin with the
     /// pressed ones and whose clause, if it has one, holds over what the focus of the scopes sees (VS
     /// Code's documentation: the rules are evaluated from the bottom to the top, and the first that
-    /// matches in key and clause counts). A rule with the empty command is found as any other. The
-    /// rule is lent. Want of memory is that of a pattern in a clause (`Clause::holds`): nothing else takes
-    /// memory.
+    /// matches in key and clause counts), and so does the enablement of its command, whosever the rule
+    /// is. A rule with the empty command is found as any other. The rule is lent. Want of memory is that
+    /// of a pattern in a clause or an enablement (`Clause::holds`): nothing else takes memory.
     #[tactic(auto, using(crate::proofs::ResolverLemmas::resolved_is_greatest))]
     pub fn resolve<'r>(
         &'r self,
         pressed: &[Keystroke],
         scopes: &Scopes,
+        enablements: &Enablements,
     ) -> Result<Resolved<'r>, NoMemory>
-        ensures value { IfOk result (λ found.
-            resolution_of found ≡ resolved pressed.now (context scopes.now) self.now) }
+        ensures value { IfOk result (λ found. resolution_of found
+            ≡ resolved pressed.now (context scopes.now) (enablement_in enablements.now) self.now) }
 
         // What `value` cites, in terms of positions.
-        ensures greatest { IsGreatest pressed.now (context scopes.now) self.now
-            (resolved pressed.now (context scopes.now) self.now) }
+        ensures greatest { IsGreatest pressed.now (context scopes.now) (enablement_in enablements.now)
+            self.now (resolved pressed.now (context scopes.now) (enablement_in enablements.now) self.now) }
 
         // A longer rule has at most `LIMIT` keystrokes, so there is room for one more.
         ensures fits { IfOk result (λ found.
             resolution_of found ≡ more → length pressed.now < LIMIT) }
     {
-        let Some(rule) = lowest(self.set.rules(), pressed, scopes)? else {
+        let Some(rule) = lowest(self.set.rules(), pressed, scopes, enablements)? else {
             return Ok(Resolved::Nothing);
         };
         if rule.chord.len() > pressed.len() {
@@ -76,29 +81,62 @@ fn lowest<'r>(
     rules: &'r [Rc<Rule>],
     pressed: &[Keystroke],
     scopes: &Scopes,
+    enablements: &Enablements,
 ) -> Result<Option<&'r Rule>, NoMemory>
     ensures { IfOk result (λ found. option_map (λ rule. rule.now) found
-        ≡ chosen pressed.now (context scopes.now) (map (λ r. r.value) rules.now)) }
+        ≡ chosen pressed.now (context scopes.now) (enablement_in enablements.now)
+        (map (λ r. r.value) rules.now)) }
 {
     for rule in rules.iter().rev() {
-        if matches(rule, pressed, scopes)? {
+        if matches(rule, pressed, scopes, enablements)? {
             return Ok(Some(rule));
         }
     }
     Ok(None)
 }
 
-/// Whether the rule's keystrokes begin with the pressed ones, and its clause holds. The keystrokes
-/// are looked at first, since a clause may ask many keys.
-fn matches(rule: &Rule, pressed: &[Keystroke], scopes: &Scopes) -> Result<bool, NoMemory>
-    ensures value { IfOk result (λ answer.
-        answer ≡ matches (context scopes.now) pressed.now rule.now) }
-    ensures memory { IfErr result (λ _. AsksPattern pressed.now rule.now) }
+/// Whether the rule's keystrokes begin with the pressed ones, and its clause and the enablement of its
+/// command hold. The keystrokes are looked at first, since a clause may ask many keys.
+fn matches(
+    rule: &Rule,
+    pressed: &[Keystroke],
+    scopes: &Scopes,
+    enablements: &Enablements,
+) -> Result<bool, NoMemory>
+    ensures value { IfOk result (λ answer. answer
+        ≡ matches (context scopes.now) (enablement_in enablements.now) pressed.now rule.now) }
+    ensures memory { IfErr result (λ _.
+        AsksPattern (context scopes.now) (enablement_in enablements.now) pressed.now rule.now) }
 {
     if !rule.chord.begins_with(pressed) {
         return Ok(false);
     }
-    match &rule.when {
+    may_start(rule, scopes, enablements)
+}
+
+/// Whether the rule's clause and the enablement of its command hold. The clause is asked first.
+fn may_start(rule: &Rule, scopes: &Scopes, enablements: &Enablements) -> Result<bool, NoMemory>
+    ensures value { IfOk result (λ answer. answer
+        ≡ may_start (context scopes.now) (enablement_in enablements.now) rule.now) }
+    ensures memory { IfErr result (λ _.
+        HasPatterns (context scopes.now) (enablement_in enablements.now) rule.now) }
+{
+    if !holds(rule.when.as_ref(), scopes)? {
+        return Ok(false);
+    }
+    match enablements.of(rule.command.as_str()) {
+        Some(enablement) => holds(Some(enablement.as_clause()), scopes),
+        None => Ok(true),
+    }
+}
+
+/// Whether a clause, if there is one, holds.
+fn holds(clause: Option<&Clause>, scopes: &Scopes) -> Result<bool, NoMemory>
+    ensures value { IfOk result (λ answer.
+        answer ≡ when_holds (context scopes.now) (option_copied clause.entry)) }
+    ensures memory { IfErr result (λ _. HasPattern (option_copied clause.entry)) }
+{
+    match clause {
         Some(clause) => clause.holds(scopes),
         None => Ok(true),
     }

@@ -5,6 +5,7 @@ mod answers;
 mod clauses;
 mod escapes;
 mod files;
+mod inputs;
 mod manifests;
 mod natives;
 mod rules;

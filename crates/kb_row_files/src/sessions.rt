@@ -1,15 +1,15 @@
 //! Whole sessions. A session is called here alone.
 //!
-//! Its lines are those of the files, `layout TEXT` and `user TEXT` (more than one of a file are parted
-//! by line feeds), then those of the script, and below each what it writes, behind `> `. A line that
-//! begins with `? ` is none of the script's: it asks something else of the session.
+//! Its lines are those of the files (`inputs`), then those of the script, and below each what it writes,
+//! behind `> `. A line that begins with `? ` is none of the script's: it asks something else of the session.
 use crate::escapes::{bytes_of, shown};
+use crate::inputs::{files_in, is_of_file, manifests_in};
 use crate::streams::{Broken, Narrow};
 use kb_context::{NoMemory, fault_name};
 use kb_ending::{Stop, WarningLine, lent, script_stop};
 use kb_keys::Keystroke;
 use kb_script::run_script;
-use kb_session::{Inputs, Session, SessionFault};
+use kb_session::{Inputs, Session, SessionFault, UnreadIn};
 use kb_trace::Event;
 use std::alloc::Global;
 use std::io::{Read, Write};
@@ -32,8 +32,36 @@ fn add_lines(lines: &str, told: &mut String) -> Result<(), NoMemory> {
 
 fn add_warnings(session: &Session, told: &mut String) -> Result<(), NoMemory> {
     for warning in session.warnings() {
-        let line = WarningLine(warning);
+        let line = WarningLine {
+            source: session.source(warning.origin),
+            warning,
+        };
         write!(told, "> {line}\n")?;
+    }
+    Ok(())
+}
+
+fn add_unread_list(
+    session: &Session,
+    list: usize,
+    unread: &[UnreadIn],
+    told: &mut String,
+) -> Result<(), NoMemory> {
+    for one in unread {
+        let source = session.source(one.origin);
+        let part = one.part.name();
+        let place = one.place;
+        let number = one.number;
+        let pattern = one.pattern.as_str();
+        write!(told, "> {list}: {source} {part} {place} {number} {pattern}\n")?;
+    }
+    Ok(())
+}
+
+// The patterns that aren't read, each behind the number of its list.
+fn add_unread(session: &Session, told: &mut String) -> Result<(), NoMemory> {
+    for (list, unread) in session.unread().iter().enumerate() {
+        add_unread_list(session, list, unread.as_slice(), told)?;
     }
     Ok(())
 }
@@ -184,7 +212,7 @@ fn stop(session: &mut Session, told: &mut String) -> Result<(), NoMemory> {
     write!(told, "> {was_stopped} {is_stopped}\n")
 }
 
-// `warnings` are those of the rules as they stand, `trace` is all that was written so far. `read N SCRIPT`
+// `warnings` are those of the files as they stand, `unread` are the patterns that weren't read, `trace` is all that was written so far. `read N SCRIPT`
 // runs a script whose reader fails behind so many bytes, `write N SCRIPT` one whose writer does, and
 // `fill N SCRIPT` one whose writer then takes no more. `handle KEY` and `run KEY ..` are calls with
 // presses, and `stop` stops the session, and says whether it was stopped, and is.
@@ -197,6 +225,7 @@ fn ask(
     let (word, rest) = question.split_once(' ').unwrap_or((question, ""));
     match word {
         "warnings" => add_warnings(session, told),
+        "unread" => add_unread(session, told),
         "trace" => add_trace(session, told),
         "handle" => handle(session, rest, told),
         "run" => run_all(alloc, session, rest, told),
@@ -204,16 +233,6 @@ fn ask(
         "read" | "write" | "fill" => run_stream(alloc, session, word, rest, told),
         _ => add_answer("no question", told),
     }
-}
-
-// What a line says of a file.
-fn text_of<'a>(line: &'a str, file: &str) -> Option<&'a str> {
-    let (word, text) = line.split_once(' ').unwrap_or((line, ""));
-    if word == file { Some(text) } else { None }
-}
-
-fn is_of_file(line: &str) -> bool {
-    text_of(line, "layout").is_some() || text_of(line, "user").is_some()
 }
 
 fn add_file_lines(lines: &str, told: &mut String) -> Result<(), NoMemory> {
@@ -250,34 +269,13 @@ fn play(
     Ok(())
 }
 
-// The text of a file, if it has a line.
-fn file_in(alloc: Global, lines: &str, file: &str) -> Result<Option<Vec<u8>>, NoMemory> {
-    let mut text = String::new(alloc);
-    let mut is_there = false;
-    for line in lines.lines() {
-        if let Some(more) = text_of(line, file) {
-            if is_there {
-                text.push('\n')?;
-            }
-            text.push_str(more)?;
-            is_there = true;
-        }
-    }
-    if is_there {
-        Ok(Some(bytes_of(alloc, &[], text.as_str())?))
-    } else {
-        Ok(None)
-    }
-}
-
 fn tell_loaded(
     alloc: Global,
-    layout: Option<&[u8]>,
-    user: &[u8],
+    inputs: Inputs<'_>,
     lines: &str,
     told: &mut String,
 ) -> Result<(), NoMemory> {
-    match Session::load(alloc, Inputs { layout, user }) {
+    match Session::load(alloc, inputs) {
         Ok(mut session) => {
             add_warnings(&session, told)?;
             play(alloc, &mut session, lines, told)
@@ -289,13 +287,14 @@ fn tell_loaded(
 /// Tells a session. The load is answered below the lines of the files.
 pub(crate) fn tell(alloc: Global, lines: &str, told: &mut String) -> Result<(), NoMemory> {
     add_file_lines(lines, told)?;
-    let layout = file_in(alloc, lines, "layout")?;
-    let user = file_in(alloc, lines, "user")?;
-    tell_loaded(
-        alloc,
-        lent(&layout),
-        lent(&user).unwrap_or(&[]),
-        lines,
-        told,
-    )
+    let files = files_in(alloc, lines)?;
+    let manifests = manifests_in(alloc, lent(&files.extensions).unwrap_or(&[]))?;
+    let inputs = Inputs {
+        layout: lent(&files.layout),
+        defaults: lent(&files.defaults).unwrap_or(&[]),
+        user: lent(&files.user).unwrap_or(&[]),
+        platform: files.platform,
+        manifests: manifests.as_slice(),
+    };
+    tell_loaded(alloc, inputs, lines, told)
 }

@@ -1,13 +1,13 @@
 -- What a script writes in a session that is loaded for it, and why it writes nothing.
-use Rattle.std.specs.Prelude.{◌≡◌, ⊤, ℕ, List, map, Option, Ok, Err, ◌<◌, length}
+use Rattle.std.specs.Prelude.{◌≡◌, ⊤, ℕ, List, map, Ok, Err, ◌<◌, length}
 use Rattle.kb_context.specs.declared.failure.Failure.{Failure}
 use Rattle.kb_context.specs.declared.failure.Failure.TheVariants.{NoMemory, Fault}
 use Rattle.kb_rows.specs.declared.TranscriptFault.{TranscriptFault}
 use Rattle.kb_rows.specs.declared.TranscriptFault.TheVariants.{Load, Script}
-use Rattle.kb_rules.specs.declared.unread.UnreadAt.{UnreadAt}
 use Rattle.kb_script.specs.Script.{told_of, bare}
 use Rattle.kb_script.specs.declared.fault.ScriptFault.{ScriptFault}
 use Rattle.kb_script.specs.declared.fault.ScriptFault.TheVariants as script
+use Rattle.kb_session.specs.Load.{Files, held_by, marks_in}
 use Rattle.kb_session.specs.Session.{loaded}
 use Rattle.kb_session.specs.State.{State, Told, next}
 use Rattle.kb_stream.specs.Fold.{Traced}
@@ -15,9 +15,9 @@ use Rattle.kb_stream.specs.FoldWriting.{text_of}
 
 -- the model's text of what a script tells, in a session that is loaded with these files, for the marks that
 -- the patterns of their rules, and of those of reloads, have
-pub record IsTranscript (layout : Option (List ℕ)) (user text out : List ℕ) : Type 0 where
+pub record IsTranscript (files : Files) (text out : List ℕ) : Type 0 where
   pub session : Traced State
-  pub loaded_is : loaded session.state.user.unread layout user ≡ Ok session
+  pub loaded_is : loaded (marks_in session.state.sources) files ≡ Ok session
   pub told : List Told
   pub tells : map bare told ≡ told_of text
   pub out_is : out ≡ text_of next told session.state
@@ -30,8 +30,7 @@ FailsToRun script.ReadFailed text = ⊤
 FailsToRun script.WriteFailed text = ⊤
 
 -- the load failed, or the script did, or memory was refused
-abbrev pub FailsToGive : Option (List ℕ) → List ℕ → List ℕ → Failure TranscriptFault → Type 0
-FailsToGive layout user text NoMemory = ⊤
-FailsToGive layout user text (Fault (Load fault)) =
-    (marks : List UnreadAt) → loaded marks layout user ≡ Err fault
-FailsToGive layout user text (Fault (Script fault)) = FailsToRun fault text
+abbrev pub FailsToGive : Files → List ℕ → Failure TranscriptFault → Type 0
+FailsToGive files text NoMemory = ⊤
+FailsToGive files text (Fault (Load fault)) = held_by files ≡ Err fault
+FailsToGive files text (Fault (Script fault)) = FailsToRun fault text

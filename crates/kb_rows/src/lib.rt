@@ -3,8 +3,9 @@
 //! are text files (`rows/README.md`).
 #![tactic(auto)]
 
-ghost use Rattle.std.specs.Prelude.{IfOk, IfErr, option_map};
+ghost use Rattle.std.specs.Prelude.{IfOk, IfErr};
 ghost use Rattle.kb_rows.specs.Transcript.{IsTranscript, FailsToGive};
+ghost use Rattle.kb_session.specs.Load.{files_of};
 
 use kb_context::Failure;
 use kb_script::{ScriptFault, run_script};
@@ -18,24 +19,20 @@ pub enum TranscriptFault {
     Script(ScriptFault),
 }
 
-/// What a script writes in a session of its own, which is loaded with a layout, where there is one,
-/// and the user's rules: the plain model's text, as the contracts of `load` and `run_script` give it
+/// What a script writes in a session of its own, which is loaded with these files: the plain model's text, as the contracts of `load` and `run_script` give it
 /// over memory.
 ///
 /// Errors: those of `load` and `run_script`, but for `Stopped`, which a session that was just loaded never
 /// gives, and refused memory.
 pub fn transcript(
     alloc: Global,
-    layout: Option<&[u8]>,
-    user: &[u8],
+    inputs: Inputs<'_>,
     script: &[u8],
 ) -> Result<Vec<u8>, Failure<TranscriptFault>>
-    ensures ok { let given = option_map (λ bytes. bytes.now) layout.entry in
-        IfOk result (λ out. IsTranscript given user.now script.now out.items) }
-    ensures err { let given = option_map (λ bytes. bytes.now) layout.entry in
-        IfErr result (FailsToGive given user.now script.now) }
+    ensures ok { IfOk result (λ out. IsTranscript (files_of inputs.entry) script.now out.items) }
+    ensures err { IfErr result (FailsToGive (files_of inputs.entry) script.now) }
 {
-    let mut session = match Session::load(alloc, Inputs { layout, user }) {
+    let mut session = match Session::load(alloc, inputs) {
         Ok(session) => session,
         Err(Failure::NoMemory) => return Err(Failure::NoMemory),
         Err(Failure::Fault(fault)) => return Err(Failure::Fault(TranscriptFault::Load(fault))),

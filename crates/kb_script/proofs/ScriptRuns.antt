@@ -6,12 +6,13 @@ use Rattle.std.specs.Prelude.{Option, Some, None, option_map, option_to_list, Re
 use Rattle.std.specs.Io.KnownBytes.{Appends, Keeps}
 use Rattle.kb_context.specs.declared.failure.Failure.{Failure}
 use Rattle.kb_context.specs.declared.failure.Failure.TheVariants.{NoMemory, Fault}
+use Rattle.kb_rules.specs.declared.origin.Origin.TheVariants.{User}
 use Rattle.kb_rules.specs.declared.unread.UnreadAt.{UnreadAt}
 use Rattle.kb_script.specs.Script.{line_told, told_from, told_of, lines_of, bare}
 use Rattle.kb_script.specs.ScriptRun.{RunsSaid, BreaksOff, BreaksSaid, MemoryRefused, NothingRan, marked}
 use Rattle.kb_script.proofs.BareLemmas.{bare_line, bare_from, bare_marked}
 use Rattle.kb_context.specs.declared.refusal.Refusal.{Refusal}
-use Rattle.kb_files.specs.UserFile.{user_rules}
+use Rattle.kb_files.specs.RuleFile.{rules_in}
 use Rattle.kb_rules.specs.RuleList.{Listed}
 use Rattle.kb_session.specs.Session.{Halts, HaltsAt, FailsAt, halt, half_done}
 use Rattle.kb_session.specs.State.{State, Told, happens, reload, next, step_unless, step_on}
@@ -194,7 +195,7 @@ reloaded_runs (Err refusal) s = refl
 
 step_on_runs : (told : Told) (s : State) → (step_on told s).state.stopped ≡ s.stopped
 step_on_runs (happens e) s = taken_runs (refusal_of e s) e s
-step_on_runs (reload bytes marks) s = reloaded_runs (user_rules marks bytes) s
+step_on_runs (reload bytes marks) s = reloaded_runs (rules_in marks User bytes) s
 
 next_runs : (told : Told) (s : State) → s.stopped ≡ false → (next told s).state.stopped ≡ false
 next_runs told s running =

@@ -124,7 +124,7 @@ fn run_line<W: Write>(
 fn obey(alloc: Global, number: u64, line: &[u8], session: &mut Session) -> Result<(), NoMemory>
     requires { session.old.state.stopped ≡ false }
     ensures ok { OnOk result (session.new ≡ after_all next (option_to_list
-        (option_map (marked session.new.state.user.unread) (script.line_told number line.now)))
+        (option_map (marked session.new.state.sources.user.unread) (script.line_told number line.now)))
         session.old) }
     ensures err { OnErr result (Halts session.old.state session.new.state) }
     ensures trace { OnErr result (session.new.trace ≡ session.old.trace) }

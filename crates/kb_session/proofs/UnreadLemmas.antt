@@ -3,12 +3,14 @@ use Rattle.std.proofs.Common.{◌≡◌, Bool, true, false, List, [], ◌∷◌,
 use Rattle.std.proofs.Common.{append_assoc}
 use Rattle.std.specs.Prelude.{Option, Some, None, Result, Ok, Err}
 use Rattle.kb_context.specs.declared.refusal.Refusal.{Refusal}
-use Rattle.kb_files.specs.UserFile.{user_rules}
+use Rattle.kb_files.specs.RuleFile.{rules_in}
 use Rattle.kb_rules.specs.RuleList.{Listed}
-use Rattle.kb_rules.specs.declared.unread.UnreadAt.{UnreadAt}
+use Rattle.kb_rules.specs.declared.origin.Origin.TheVariants.{User}
 use Rattle.kb_session.specs.Session.{Halts}
 use Rattle.kb_session.specs.State.{State, Told, happens, reload, step, step_on, step_unless, next}
 use Rattle.kb_session.specs.State.{taken_unless, reloaded, refusal_of}
+use Rattle.kb_session.specs.Unread.{in_rules}
+use Rattle.kb_session.specs.declared.unread.UnreadIn.{UnreadIn}
 use Rattle.kb_stream.specs.Fold.{fold}
 use Rattle.kb_trace.specs.declared.event.Event.{Event}
 use Rattle.kb_trace.specs.declared.event.Event.TheVariants as event
@@ -23,20 +25,20 @@ event_lists None (event.UnsetKey name key) s = refl
 event_lists None (event.Unread number) s = refl
 
 -- what lists there are, and then more
-pub record Grows (old new : List (List UnreadAt)) : Type 0 where
-  pub more : List (List UnreadAt)
+pub record Grows (old new : List (List UnreadIn)) : Type 0 where
+  pub more : List (List UnreadIn)
   pub is : new ≡ old ++ more
 
-same_grows : (old new : List (List UnreadAt)) → new ≡ old → Grows old new
+same_grows : (old new : List (List UnreadIn)) → new ≡ old → Grows old new
 same_grows old new same = record { more = []; is = same ∙ sym (append-nil old) }
 
 reload_grows : (rules : Result Listed Refusal) (s : State) → Grows s.unread (reloaded rules s).state.unread
-reload_grows (Ok user) s = record { more = user.unread ∷ []; is = refl }
+reload_grows (Ok user) s = record { more = in_rules User user.unread ∷ []; is = refl }
 reload_grows (Err refusal) s = same_grows s.unread s.unread refl
 
 on_grows : (told : Told) (s : State) → Grows s.unread (step_on told s).state.unread
 on_grows (happens e) s = same_grows s.unread (step_on (happens e) s).state.unread (event_lists (refusal_of e s) e s)
-on_grows (reload bytes marks) s = reload_grows (user_rules marks bytes) s
+on_grows (reload bytes marks) s = reload_grows (rules_in marks User bytes) s
 
 unless_grows : (stopped : Bool) (told : Told) (s : State) → Grows s.unread (step_unless stopped told s).state.unread
 unless_grows true told s = same_grows s.unread s.unread refl
@@ -46,10 +48,10 @@ unless_grows false told s = on_grows told s
 pub step_grows : (told : Told) (s : State) → Grows s.unread (step told s).state.unread
 step_grows told s = unless_grows s.stopped told s
 
-grows_on : (a b c : List (List UnreadAt)) → Grows a b → Grows b c → Grows a c
+grows_on : (a b c : List (List UnreadIn)) → Grows a b → Grows b c → Grows a c
 grows_on a b c p q = record {
   more = p.more ++ q.more;
-  is = q.is ∙ ap (λ (lists : List (List UnreadAt)). lists ++ q.more) p.is ∙ append_assoc a p.more q.more;
+  is = q.is ∙ ap (λ (lists : List (List UnreadIn)). lists ++ q.more) p.is ∙ append_assoc a p.more q.more;
 }
 
 -- and so does a run

@@ -1,20 +1,16 @@
 -- What the calls of a session do to it.
-use Rattle.std.specs.Prelude.{◌≡◌, ℕ, true, false, List, [], length, take, Option, Result, Ok, Err}
+use Rattle.std.specs.Prelude.{◌≡◌, ℕ, true, false, List, [], length, take, Result, Ok, Err}
+use Rattle.kb_context.specs.Failure.{Fails}
+use Rattle.kb_context.specs.Reading.{seen}
 use Rattle.kb_context.specs.Scopes.{ScopesData}
 use Rattle.kb_context.specs.declared.failure.Failure.{Failure}
-use Rattle.kb_context.specs.declared.refusal.Refusal.{Refusal}
 use Rattle.kb_core.specs.declared.run.Core.{Core}
-use Rattle.kb_files.specs.Layout.{layout_scopes}
-use Rattle.kb_files.specs.Marked.{GivesByMarks}
-use Rattle.kb_files.specs.UserFile.{user_rules}
 use Rattle.kb_keys.specs.declared.keystroke.Keystroke.{Keystroke}
-use Rattle.kb_rules.specs.RuleList.{Listed}
-use Rattle.kb_rules.specs.declared.unread.UnreadAt.{UnreadAt}
-use Rattle.kb_session.specs.Fault.{refused_file}
+use Rattle.kb_session.specs.Load.{Files, LoadMarks, held_by, sources_by, marks_in}
+use Rattle.kb_session.specs.Sources.{Sources}
 use Rattle.kb_session.specs.State.{State, Told, happens, Answered, did, refused, step, step_on, out_of, next}
 use Rattle.kb_session.specs.State.{loaded_state}
 use Rattle.kb_session.specs.declared.fault.LoadFault.{LoadFault}
-use Rattle.kb_session.specs.declared.fault.LoadFile.TheVariants.{Layout, User}
 use Rattle.kb_session.specs.declared.fault.SessionFault.{SessionFault}
 use Rattle.kb_session.specs.declared.fault.SessionFault.TheVariants.{NoMemory, Stopped}
 use Rattle.kb_stream.specs.Fold.{Traced, after, after_all, StopsAmong}
@@ -26,23 +22,19 @@ use Rattle.kb_trace.specs.declared.event.Event.TheVariants as event
 abbrev pub Seen : Type 0
 Seen = Traced State
 
-abbrev pub loaded_session : ScopesData → Listed → Seen
-loaded_session scopes user = record { state = loaded_state scopes user; trace = [] }
+abbrev pub loaded_session : ScopesData → Sources → Seen
+loaded_session scopes sources = record { state = loaded_state scopes sources; trace = [] }
 
--- what the layout and the user's rules load: a session, or the first file's fault
-abbrev pub loaded_by : Result ScopesData Refusal → Result Listed Refusal → Result Seen LoadFault
-loaded_by (Err refusal) user = Err (refused_file Layout refusal)
-loaded_by (Ok scopes) (Err refusal) = Err (refused_file User refusal)
-loaded_by (Ok scopes) (Ok user) = Ok (loaded_session scopes user)
+-- what files load, for the marks of their patterns: a session, or the first file's fault
+abbrev pub loaded : LoadMarks → Files → Result Seen LoadFault
+loaded marks files =
+    seen (λ held. loaded_session held.scopes (sources_by marks files.platform held)) (held_by files)
 
--- for the marks of the patterns of the user's rules
-abbrev pub loaded : List UnreadAt → Option (List ℕ) → List ℕ → Result Seen LoadFault
-loaded marks layout user = loaded_by (layout_scopes layout) (user_rules marks user)
-
--- a load answered what is meant for the marks that its session tells, or the fault that is meant for all
--- marks, or was refused memory
-abbrev pub LoadsBy : (List UnreadAt → Result Seen LoadFault) → Result Seen (Failure LoadFault) → Type 0
-LoadsBy meant result = GivesByMarks (λ session. session.state.user.unread) meant result
+-- a load answered what its files load for the marks that its session tells, or their fault, which is one for
+-- all marks, or was refused memory
+abbrev pub Loads : Files → Result Seen (Failure LoadFault) → Type 0
+Loads files (Ok session) = loaded (marks_in session.state.sources) files ≡ Ok session
+Loads files (Err failure) = Fails failure (held_by files)
 
 abbrev pub answered : Answer → Answered
 answered answer.Did = did

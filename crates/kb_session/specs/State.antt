@@ -4,19 +4,22 @@ use Rattle.std.specs.Prelude.{ℕ, Bool, true, false, List, [], ◌∷◌, ◌++
 use Rattle.std.specs.Prelude.{Result, Ok, Err}
 use Rattle.kb_context.specs.Refusal.{refused_for}
 use Rattle.kb_context.specs.ScopeFault.{number_of}
-use Rattle.kb_context.specs.Scopes.{ScopesData, context, place_of, set_fault, with_value, without_value}
+use Rattle.kb_context.specs.Scopes.{ScopesData, place_of, set_fault, with_value, without_value}
 use Rattle.kb_context.specs.Scopes.{with_focus}
 use Rattle.kb_context.specs.declared.fault.ScopeFault.{ScopeFault}
 use Rattle.kb_context.specs.declared.fault.ScopeFault.TheVariants.{UnknownScope}
 use Rattle.kb_context.specs.declared.refusal.Refusal.{Refusal}
 use Rattle.kb_core.specs.Core.{new_core, with_scopes}
 use Rattle.kb_core.specs.declared.run.Core.{Core}
-use Rattle.kb_files.specs.UserFile.{user_rules}
+use Rattle.kb_files.specs.RuleFile.{rules_in}
 use Rattle.kb_keys.specs.declared.keystroke.Keystroke.{Keystroke}
-use Rattle.kb_resolve.specs.ChordState as chord
 use Rattle.kb_rules.specs.RuleList.{Listed}
+use Rattle.kb_rules.specs.declared.origin.Origin.TheVariants.{User}
 use Rattle.kb_rules.specs.declared.unread.UnreadAt.{UnreadAt}
+use Rattle.kb_session.specs.Sources.{Sources, with_user_rules, pressed, still_pressed}
 use Rattle.kb_session.specs.Start.{Started, press_started}
+use Rattle.kb_session.specs.Unread.{in_rules, unread_of}
+use Rattle.kb_session.specs.declared.unread.UnreadIn.{UnreadIn}
 use Rattle.kb_stream.specs.Fold.{Out}
 use Rattle.kb_trace.specs.Lines as line
 use Rattle.kb_trace.specs.declared.event.Event.{Event}
@@ -25,10 +28,10 @@ use Rattle.kb_trace.specs.declared.event.Event.TheVariants as event
 -- the patterns that aren't read are told list by list, of the load and then of each reload that was taken
 pub record State : Type 0 where
   pub core : Core
-  pub user : Listed
+  pub sources : Sources
   pub pressed : List Keystroke
   pub stopped : Bool
-  pub unread : List (List UnreadAt)
+  pub unread : List (List UnreadIn)
 
 -- what a session is told: an event, or the bytes of the user's rules, to be read anew, with the marks of
 -- their patterns that aren't read
@@ -78,10 +81,9 @@ begun p pressed s = stepped (record s { core = p.core; pressed = pressed }) p.li
 -- a press looks at what the focus sees at that moment
 abbrev pub press : Keystroke → State → Stepped
 press key s =
-    let keys = context s.core.scopes in
-    let does = chord.step s.pressed key keys s.user.rules in
+    let does = pressed s.pressed key s.core s.sources in
     begun (press_started (line.key_text s.pressed key) does s.core)
-    (chord.pressed_after s.pressed key keys s.user.rules) s
+    (still_pressed s.pressed key s.core s.sources) s
 
 -- why an event is refused, if it is
 abbrev pub unless_known : Option ℕ → Option ScopeFault
@@ -114,7 +116,10 @@ taken_unless (Some r) e s = refuse r s
 
 -- other rules of the user, whose marks are told behind those before
 abbrev pub with_user : Listed → State → State
-with_user user s = record s { user = user; unread = s.unread ++ user.unread ∷ [] }
+with_user user s = record s {
+  sources = with_user_rules user s.sources;
+  unread = s.unread ++ in_rules User user.unread ∷ [];
+}
 
 -- rules that are read anew leave the chord; a file that is refused changes nothing
 abbrev pub reloaded : Result Listed Refusal → State → Stepped
@@ -124,7 +129,7 @@ reloaded (Err r) s = refuse r s
 -- what a session does that is running
 abbrev pub step_on : Told → State → Stepped
 step_on (happens e) s = taken_unless (refusal_of e s) e s
-step_on (reload bytes marks) s = reloaded (user_rules marks bytes) s
+step_on (reload bytes marks) s = reloaded (rules_in marks User bytes) s
 
 abbrev pub step_unless : Bool → Told → State → Stepped
 step_unless true told s = stepped s [] halted
@@ -138,11 +143,11 @@ abbrev pub next : Told → State → Out State
 next told s = out_of (step told s)
 
 -- what a session is loaded as
-abbrev pub loaded_state : ScopesData → Listed → State
-loaded_state scopes user = record {
+abbrev pub loaded_state : ScopesData → Sources → State
+loaded_state scopes sources = record {
   core = new_core scopes;
-  user = user;
+  sources = sources;
   pressed = [];
   stopped = false;
-  unread = user.unread ∷ [];
+  unread = unread_of sources ∷ [];
 }

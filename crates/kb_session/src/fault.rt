@@ -12,8 +12,14 @@ use thiserror::Error;
 pub enum LoadFile {
     /// The layout of the scopes.
     Layout,
+    /// The default rules.
+    Defaults,
     /// The user's rules.
     User,
+    /// All extensions together.
+    Extensions,
+    /// The `package.json` of an extension, by its number in load order, from 0 on.
+    Package(usize),
 }
 
 /// Why a session was not loaded: the first file in the order of loading that is refused, and why.
@@ -44,7 +50,10 @@ impl fmt::Display for LoadFile {
     fn fmt<W: fmt::Write>(&self, f: &mut fmt::Formatter<W>) -> fmt::Result {
         match self {
             LoadFile::Layout => f.write_str("layout"),
+            LoadFile::Defaults => f.write_str("defaults"),
             LoadFile::User => f.write_str("user"),
+            LoadFile::Extensions => f.write_str("extensions"),
+            LoadFile::Package(number) => write!(f, "ext {number} package.json"),
         }
     }
 }
@@ -56,6 +65,19 @@ pub(crate) fn failure_of(file: LoadFile, failure: Failure<Refusal>) -> Failure<L
     match failure {
         Failure::NoMemory => Failure::NoMemory,
         Failure::Fault(refusal) => Failure::Fault(LoadFault { file, refusal }),
+    }
+}
+
+/// What was read of a file, or the failure of that file. It takes no memory.
+pub(crate) fn of_file<T: Drop>(
+    file: LoadFile,
+    read: Result<T, Failure<Refusal>>,
+) -> Result<T, Failure<LoadFault>>
+    ensures { result ≡ fault.of_file file read }
+{
+    match read {
+        Ok(value) => Ok(value),
+        Err(failure) => Err(failure_of(file, failure)),
     }
 }
 

@@ -1,12 +1,19 @@
 //! The files that a session is made of.
+use kb_keys::Platform;
 
-/// The bytes of the files that a session is made of, lent.
+/// The bytes of the files that a session is made of, lent. The empty text stands for a file of rules that is
+/// not there.
 #[derive(Clone, Copy, Debug)]
 pub struct Inputs<'a> {
     /// The layout of the scopes. Without it there is one scope, `window`, without keys (our
     /// decision).
     pub layout: Option<&'a [u8]>,
-    /// The user's rules, as VS Code's `keybindings.json`. The empty text stands for a file that is
-    /// not there.
+    /// The default rules, in the form of VS Code's `keybindings.json`.
+    pub defaults: &'a [u8],
+    /// The user's rules, as VS Code's `keybindings.json`.
     pub user: &'a [u8],
+    /// The system that the keys of extensions are chosen for.
+    pub platform: Platform,
+    /// The `package.json` of each extension, in load order.
+    pub manifests: &'a [&'a [u8]],
 }

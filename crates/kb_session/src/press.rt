@@ -1,16 +1,16 @@
 //! A press: the rule that it starts, and the lines of that.
 ghost use Rattle.std.specs.Prelude.{◌≡◌, ◌++◌, OnOk, OnErr, option_map, string_bytes};
-ghost use Rattle.kb_context.specs.Scopes.{context};
-ghost use Rattle.kb_resolve.specs.ChordState as chord;
 ghost use Rattle.kb_session.specs.Session.{Begins};
+ghost use Rattle.kb_session.specs.Sources.{pressed, still_pressed};
 ghost use Rattle.kb_session.specs.Start.{press_started, rule_started};
 ghost use Rattle.kb_trace.specs.Lines as line;
 
+use crate::bindings::Bindings;
 use crate::start::start_command;
 use kb_context::NoMemory;
 use kb_core::HeldCore;
 use kb_keys::Keystroke;
-use kb_resolve::{ChordState, Pressed, Resolver};
+use kb_resolve::{ChordState, Pressed};
 use kb_rules::Rule;
 use kb_stream::Lines;
 use kb_trace::lines;
@@ -23,22 +23,21 @@ pub(crate) fn press_key(
     alloc: Global,
     key: Keystroke,
     core: &mut HeldCore,
-    open: &mut ChordState,
-    resolver: &Resolver,
+    chord: &mut ChordState,
+    bindings: &Bindings,
     trace: &mut Lines,
 ) -> Result<(), NoMemory>
-    ensures core { let does = chord.step open.old key (context core.old.scopes) resolver.now in
-        OnOk result (core.new ≡ (press_started (line.key_text open.old key) does core.old).core) }
-    ensures trace { let does = chord.step open.old key (context core.old.scopes) resolver.now in
+    ensures core { let does = pressed chord.old key core.old bindings.now in
+        OnOk result (core.new ≡ (press_started (line.key_text chord.old key) does core.old).core) }
+    ensures trace { let does = pressed chord.old key core.old bindings.now in
         OnOk result
-        (trace.new ≡ trace.old ++ (press_started (line.key_text open.old key) does core.old).lines) }
-    ensures pressed { OnOk result
-        (open.new ≡ chord.pressed_after open.old key (context core.old.scopes) resolver.now) }
+        (trace.new ≡ trace.old ++ (press_started (line.key_text chord.old key) does core.old).lines) }
+    ensures pressed { OnOk result (chord.new ≡ still_pressed chord.old key core.old bindings.now) }
     ensures err { OnErr result (Begins trace.old trace.new) }
 {
     let key = &key;
-    let text = lines::key_text(trace, open.pressed(), *key)?;
-    match open.press(*key, resolver, &core.core().scopes)? {
+    let text = lines::key_text(trace, chord.pressed(), *key)?;
+    match bindings.press(chord, *key, &core.core().scopes)? {
         Pressed::Start(rule) => start_rule(alloc, text, rule, core, trace),
         Pressed::More => lines::ended(trace, text, ": chord"),
         Pressed::Left => lines::ended(trace, text, ": left"),

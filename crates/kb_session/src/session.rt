@@ -1,56 +1,63 @@
 //! A session: its state, what it is told and does, and the trace of that.
-ghost use Rattle.std.specs.Prelude.{◌≡◌, true, false, [], ◌∷◌, ◌++◌, take, map, option_map};
+ghost use Rattle.std.specs.Prelude.{◌≡◌, true, false, [], ◌∷◌, ◌++◌, take, map};
 ghost use Rattle.std.specs.Prelude.{OnOk, OnErr, IfOk, IfErr};
 ghost use Rattle.kb_context.specs.Refusal.{refused_for};
 ghost use Rattle.kb_context.specs.ScopeFault.{number_of};
-ghost use Rattle.kb_session.specs.Session.{loaded, LoadsBy, Takes, Does, halt, Undone, HalfDone, FailsAt, FailsAmong};
+ghost use Rattle.kb_session.specs.Load.{files_of};
+ghost use Rattle.kb_session.specs.Session.{loaded_session, Loads, Takes, Does, halt, Undone, HalfDone};
+ghost use Rattle.kb_session.specs.Session.{FailsAt, FailsAmong};
+ghost use Rattle.kb_session.specs.Sources.{source_of};
 ghost use Rattle.kb_session.specs.State.{happens, reload, next, left_lines, with_user};
+ghost use Rattle.kb_session.specs.Warning.{warnings_of};
 ghost use Rattle.kb_session.specs.declared.fault.SessionFault.TheVariants.{NoMemory};
 ghost use Rattle.kb_stream.specs.Fold.{after_all};
 ghost use Rattle.kb_trace.specs.Lines as line;
 
-use crate::fault::{LoadFault, LoadFile, SessionFault, failure_of, fault_in};
+use crate::bindings::Bindings;
+use crate::fault::{LoadFault, LoadFile, SessionFault, fault_in};
 use crate::inputs::Inputs;
+use crate::load::{load_extensions, load_rules, load_scopes};
 use crate::press::press_key;
-use crate::unread::copied_all;
-use kb_context::{ContextValue, Failure, NoMemory, Refusal, ScopeFault, Seq};
+use crate::unread::{UnreadIn, unread_rules};
+use crate::warning::Warning;
+use kb_context::{ContextValue, Failure, NoMemory, Refusal, ScopeFault, Scopes, Seq};
 use kb_core::{Core, HeldCore};
-use kb_files::{read_scopes, read_user_rules};
+use kb_files::read_rules;
 use kb_keys::Keystroke;
-use kb_resolve::{ChordState, Resolver};
-use kb_rules::{RuleList, RuleSet, UnreadAt, Warning};
+use kb_resolve::ChordState;
+use kb_rules::{Origin, RuleList};
 use kb_stream::Lines;
 use kb_trace::{Answer, Event, lines};
 use std::alloc::Global;
 use std::collections::VecDeque;
 use std::marker::Model;
 
-/// A session of the engine. Contracts see its state (the core with its text and scopes, the user's rules,
-/// the keystrokes of the chord that is open, whether it is stopped, and which patterns weren't read in the
+/// A session of the engine. Contracts see its state (the core with its text and scopes, what binds keys, the
+/// keystrokes of the chord that is open, whether it is stopped, and which patterns weren't read in the
 /// load and in each reload), and the trace that led to it. Once
 /// memory was refused it is stopped for good: each later call answers `Stopped`, and `trace` gives the lines
 /// up to the one call that was refused memory.
 #[derive(Drop)]
 pub struct Session {
     core: HeldCore,
-    user: RuleList,
-    resolver: Resolver,
+    bindings: Bindings,
     chord: ChordState,
     stopped: bool,
-    unread: Seq<Seq<UnreadAt>>,
+    unread: Seq<Seq<UnreadIn>>,
     trace: Lines,
     alloc: Global,
 }
 
 impl Model for Session {
-    ghost use Rattle.std.specs.Prelude.{◌≡◌};
     ghost use Rattle.std.specs.Coded.{codes};
     ghost use Rattle.kb_core.specs.contracts.run.Core as whole;
+    ghost use Rattle.kb_files.specs.contracts.extension_file.Extension as extension;
     ghost use Rattle.kb_rules.specs.contracts.removal.Removal as removal;
     ghost use Rattle.kb_rules.specs.contracts.rule.Rule as rule;
     ghost use Rattle.kb_rules.specs.contracts.unread.UnreadAt as marks;
     ghost use Rattle.kb_rules.specs.contracts.warning.Warning as warning;
     ghost use Rattle.kb_session.specs.State.{State};
+    ghost use Rattle.kb_session.specs.contracts.unread.UnreadIn as told;
     ghost use Rattle.kb_stream.specs.Fold.{Traced};
 
     ghost Value = { Traced State };
@@ -58,51 +65,53 @@ impl Model for Session {
     ghost coded = { Prim.hlevel (
       codes,
       whole.the_row.coded,
+      extension.the_row.coded,
       rule.the_row.coded,
       removal.the_row.coded,
       warning.the_row.coded,
       marks.the_row.coded,
+      told.the_row.coded,
     ) };
 
     ghost view = { λ s. record {
       state = record {
         core = s.core;
-        user = s.user;
+        sources = s.bindings;
         pressed = s.chord;
         stopped = s.stopped;
         unread = s.unread;
       };
       trace = s.trace;
     } };
-
-    // The search is among the user's rules.
-    ghost invariant = { λ s. s.resolver ≡ s.user.rules };
 }
 
 impl Session {
-    /// A session of these files, without text and trace.
+    /// A session of these files, without text and trace. All extensions are enabled.
     ///
-    /// Errors: the first file that is refused, and why (the layout: 1 to 4, 40, 41, 21, 22; then the user's
-    /// rules: 1 to 4, 41); or refused memory.
+    /// Errors: the first file that is refused, and why, in this order (our decision): the layout (1 to 4, 40,
+    /// 41, 21, 22), the default rules, the user's rules (1 to 4, 41 each), more than 100 extensions (44), the
+    /// manifests in load order (1 to 4, 40, 41), an extension that repeats the identifier of an earlier one
+    /// (91), one that depends on an extension that isn't before it (90); or refused memory.
     pub fn load(alloc: Global, inputs: Inputs<'_>) -> Result<Session, Failure<LoadFault>>
-        ensures { LoadsBy (λ marks.
-            loaded marks (option_map (λ layout. layout.now) inputs.entry.layout) inputs.entry.user.now) result }
+        ensures { Loads (files_of inputs.entry) result }
     {
-        let scopes = match read_scopes(alloc, inputs.layout) {
-            Ok(scopes) => scopes,
-            Err(failure) => return Err(failure_of(LoadFile::Layout, failure)),
-        };
-        let user = match read_user_rules(alloc, inputs.user) {
-            Ok(user) => user,
-            Err(failure) => return Err(failure_of(LoadFile::User, failure)),
-        };
-        let resolver = search_among(alloc, &user)?;
+        let scopes = load_scopes(alloc, inputs.layout)?;
+        let defaults = load_rules(alloc, LoadFile::Defaults, inputs.defaults, Origin::Defaults)?;
+        let user = load_rules(alloc, LoadFile::User, inputs.user, Origin::User)?;
+        let extensions = load_extensions(alloc, inputs.manifests, inputs.platform)?;
+        let bindings = Bindings::new(alloc, defaults, extensions, user)?;
+        Ok(Session::begin(alloc, scopes, bindings)?)
+    }
+
+    /// A session with these scopes and rules, without text and trace.
+    fn begin(alloc: Global, scopes: Scopes, bindings: Bindings) -> Result<Session, NoMemory>
+        ensures { IfOk result (λ session. session ≡ loaded_session scopes bindings) }
+    {
         let mut unread = Seq::new(alloc);
-        unread.push(copied_all(alloc, user.unread())?)?;
+        unread.push(bindings.unread(alloc)?)?;
         Ok(Session {
             core: HeldCore::new(Core::new(alloc, scopes)),
-            user,
-            resolver,
+            bindings,
             chord: ChordState::new(alloc),
             stopped: false,
             unread,
@@ -118,18 +127,27 @@ impl Session {
         &self.trace
     }
 
-    /// What was dropped of the user's rules as they stand, in the order of the file. It takes no
-    /// memory.
+    /// What is said of the entries of the files as they stand: of the default rules, of the extensions in load
+    /// order, of each its commands, its rules and its items of the palette, and of the user's rules. It takes
+    /// no memory.
     pub fn warnings(&self) -> &[Warning]
-        ensures { result.now ≡ self.now.state.user.warnings }
+        ensures { result.now ≡ warnings_of self.now.state.sources }
     {
-        self.user.warnings()
+        self.bindings.warnings()
     }
 
-    /// The patterns of clauses that weren't read, of the rules of the load and then of those of each reload
-    /// that was taken, each list in the order of its file: with the bytes that it was told, these determine
+    /// How messages name the file of an entry: `defaults`, `user`, or the extension's identifier as its
+    /// manifest spells it. It takes no memory.
+    pub fn source(&self, origin: Origin) -> &str
+        ensures { result.now ≡ source_of self.now.state.sources origin }
+    {
+        self.bindings.source(origin)
+    }
+
+    /// The patterns of clauses that weren't read, of the files of the load and then of the rules of each reload
+    /// that was taken, each list in the order of `warnings`: with the bytes that it was told, these determine
     /// what the session does. It takes no memory.
-    pub fn unread(&self) -> &[Seq<UnreadAt>]
+    pub fn unread(&self) -> &[Seq<UnreadIn>]
         ensures { result.now ≡ self.now.state.unread }
     {
         self.unread.as_slice()
@@ -183,7 +201,7 @@ impl Session {
     /// session is stopped and else as before.
     pub fn reload_user(&mut self, bytes: &[u8]) -> Result<Answer, SessionFault>
         ensures ok { IfOk result (λ answer.
-            Takes (reload bytes.now self.new.state.user.unread) self.old answer self.new) }
+            Takes (reload bytes.now self.new.state.sources.user.unread) self.old answer self.new) }
         ensures err { IfErr result (λ fault. FailsAt fault (reload bytes.now []) self.old self.new) }
     {
         if self.stopped {
@@ -235,7 +253,7 @@ impl Session {
             key,
             &mut self.core,
             &mut self.chord,
-            &self.resolver,
+            &self.bindings,
             &mut self.trace,
         )?;
         Ok(Answer::Did)
@@ -340,10 +358,10 @@ impl Session {
     #[tactic(auto, using(crate::proofs::Undoing::undoing))]
     fn reload(&mut self, bytes: &[u8]) -> Result<Answer, NoMemory>
         ensures ok { IfOk result (λ answer.
-            Does (reload bytes.now self.new.state.user.unread) self.old answer self.new) }
+            Does (reload bytes.now self.new.state.sources.user.unread) self.old answer self.new) }
         ensures err { OnErr result (Undone self.old self.new) }
     {
-        match read_user_rules(self.alloc, bytes) {
+        match read_rules(self.alloc, bytes, Origin::User) {
             Ok(user) => {
                 self.take_rules(user)?;
                 Ok(Answer::Did)
@@ -361,22 +379,13 @@ impl Session {
         }) }
         ensures err { OnErr result (Undone self.old self.new) }
     {
-        let resolver = search_among(self.alloc, &user)?;
-        let unread = copied_all(self.alloc, user.unread())?;
+        let unread = unread_rules(self.alloc, Origin::User, &user)?;
+        let renewed = self.bindings.renewed(self.alloc, user)?;
         self.note_leaving()?;
         lines::reloaded_line(&mut self.trace)?;
         self.unread.push(unread)?;
         self.chord.leave();
-        self.resolver = resolver;
-        self.user = user;
+        self.bindings.renew(renewed);
         Ok(())
     }
-}
-
-/// The search among the user's rules, with no others.
-fn search_among(alloc: Global, user: &RuleList) -> Result<Resolver, NoMemory>
-    ensures { IfOk result (λ resolver. resolver ≡ user.now.rules) }
-{
-    let defaults = RuleList::new(alloc);
-    Ok(Resolver::new(RuleSet::assemble(alloc, &defaults, &[], &[], user)?))
 }

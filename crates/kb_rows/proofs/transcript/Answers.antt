@@ -6,4 +6,4 @@ returns-clause-err c =
     let failed = c.in-Err-Fault-run_script in
     let left = rw failed.field-0-is at failed.ensures.left in
     fails_to_run failed.fault c.args.script.now _ c.in-Ok.session _ _ _
-    (loaded_runs _ _ _ c.in-Ok.session c.in-Ok.ensures) left
+    (loaded_runs _ _ c.in-Ok.session c.in-Ok.ensures) left

@@ -6,5 +6,7 @@ use Rattle.kb_main.proofs.run.say_warnings.Given as goal
 -- what says those that are left has said all
 abbrev pub invariant-loop-warning : goal.invariant-loop-warning
 invariant-loop-warning g l =
-    (end : Heard) → Says (heard_by g.C.Console.said l.voice) end (warning_text (drop l.warning-index l.warnings))
-    → Says (heard_by g.C.Console.said l.fn.voice) end (warning_text l.warnings)
+    let sources = l.fn.session.state.sources in
+    (end : Heard)
+    → Says (heard_by g.C.Console.said l.voice) end (warning_text sources (drop l.warning-index l.warnings))
+    → Says (heard_by g.C.Console.said l.fn.voice) end (warning_text sources l.warnings)

@@ -6,5 +6,8 @@ use Rattle.kb_options.proofs.command_line.keyrun.Goals as goal
 pub returns : goal.returns
 returns c =
     let layout = c.in_ok-command-2.ensures ∙ ap₂ with_rule c.in_ok-command.ensures c.file_option.ensures.rule in
-    let user = c.in_ok-command-3.ensures ∙ ap₂ with_rule layout c.file_option-2.ensures.rule in
-    IfOk-weaker c.with-3.result _ _ (λ made h. h ∙ ap₂ with_rule user c.file_option-3.ensures.rule) c.with-3.ensures
+    let defaults = c.in_ok-command-3.ensures ∙ ap₂ with_rule layout c.file_option-2.ensures.rule in
+    let user = c.in_ok-command-4.ensures ∙ ap₂ with_rule defaults c.file_option-3.ensures.rule in
+    let platform = c.in_ok-command-5.ensures ∙ ap₂ with_rule user c.platform_option.ensures.rule in
+    let script = c.in_ok-command-6.ensures ∙ ap₂ with_rule platform c.file_option-4.ensures.rule in
+    IfOk-weaker c.with-6.result _ _ (λ made h. h ∙ ap₂ with_rule script c.dirs_argument.ensures.rule) c.with-6.ensures

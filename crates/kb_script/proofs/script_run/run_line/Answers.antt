@@ -4,7 +4,7 @@ use Rattle.kb_script.proofs.script_run.run_line.Goals as goal
 
 pub returns-in-Ok-write_from-clause-ok : goal.returns-in-Ok-write_from-clause-ok
 returns-in-Ok-write_from-clause-ok g c =
-    line_on c.obey.new.session.state.user.unread c.args.number c.args.line.now _ _ _ _ c.len-before.result
+    line_on c.obey.new.session.state.sources.user.unread c.args.number c.args.line.now _ _ _ _ c.len-before.result
     c.in-Ok.ensures.ok (search rules)
     c.in-Ok-write_from.ensures.ok
 
@@ -13,6 +13,6 @@ returns-in-Ok-write_from-clause-on g c = runs_on _ _ _ c.in-Ok.ensures.ok c.requ
 
 pub returns-in-Err-write_from-clause-err : goal.returns-in-Err-write_from-clause-err
 returns-in-Err-write_from-clause-err g c =
-    line_lacks c.obey.new.session.state.user.unread c.args.number c.args.line.now _ _ _ _ c.len-before.result _
+    line_lacks c.obey.new.session.state.sources.user.unread c.args.number c.args.line.now _ _ _ _ c.len-before.result _
     c.in-Ok.ensures.ok (search rules)
     c.in-Err-write_from.ensures.err

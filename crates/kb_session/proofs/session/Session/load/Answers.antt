@@ -1,0 +1,46 @@
+use Rattle.std.proofs.Common.{◌∙◌, ap}
+use Rattle.std.proofs.lemmas.Result.{err_from_is_err_and}
+use Rattle.kb_files.specs.Layout.{layout_scopes}
+use Rattle.kb_files.specs.RuleFile.{elements_held}
+use Rattle.kb_session.specs.Fault.{refused_by}
+use Rattle.kb_session.specs.Load.{files_of, extensions_held}
+use Rattle.kb_session.specs.Session.{loaded_session}
+use Rattle.kb_session.specs.Sources.{Sources}
+use Rattle.kb_session.specs.declared.fault.LoadFile.TheVariants as file
+use Rattle.kb_session.proofs.LoadLemmas.{user_fails, extensions_fail, all_loaded}
+use Rattle.kb_session.proofs.session.Session.load.Goals as goal
+
+pub returns-in_err-user : goal.returns-in_err-user
+returns-in_err-user c =
+    let files = files_of c.args.inputs in
+    let p = err_from_is_err_and c.from_residual-in_err-user.result c.from_residual-in_err-user.ensures.1 in
+    rw (p.1, p.2)
+    (user_fails (refused_by file.Layout (layout_scopes files.layout))
+    (refused_by file.Defaults (elements_held files.defaults)) (refused_by file.User (elements_held files.user))
+    (extensions_held files.manifests) _ c.in_ok-defaults.defaults _ c.in_ok-scopes.ensures
+    c.in_ok-defaults.ensures c.in_err-user.ensures)
+
+pub returns-in_err-extensions : goal.returns-in_err-extensions
+returns-in_err-extensions c =
+    let files = files_of c.args.inputs in
+    let p = err_from_is_err_and c.from_residual-in_err-extensions.result
+    c.from_residual-in_err-extensions.ensures.1 in
+    rw (p.1, p.2)
+    (extensions_fail (refused_by file.Layout (layout_scopes files.layout))
+    (refused_by file.Defaults (elements_held files.defaults)) (refused_by file.User (elements_held files.user))
+    (extensions_held files.manifests) _ c.in_ok-defaults.defaults c.in_ok-user.user _ c.in_ok-scopes.ensures
+    c.in_ok-defaults.ensures c.in_ok-user.ensures c.in_err-extensions.ensures)
+
+pub returns : goal.returns
+returns c =
+    let files = files_of c.args.inputs in
+    let sources : Sources = record {
+      defaults = c.in_ok-defaults.defaults;
+      extensions = c.in_ok-extensions.extensions;
+      user = c.in_ok-user.user;
+    } in
+    all_loaded files.platform (refused_by file.Layout (layout_scopes files.layout))
+    (refused_by file.Defaults (elements_held files.defaults)) (refused_by file.User (elements_held files.user))
+    (extensions_held files.manifests) _ sources _ c.in_ok-scopes.ensures c.in_ok-defaults.ensures
+    c.in_ok-user.ensures c.in_ok-extensions.ensures
+    (c.in_ok-begin.ensures ∙ ap (loaded_session _) c.in_ok-bindings.ensures)
