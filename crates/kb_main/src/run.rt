@@ -84,7 +84,9 @@ fn run_loaded<'a, S: Read + Drop, I: Read, O: Write + Drop, C: Console + Drop>(
     match Session::load(alloc, inputs) {
         Ok(mut session) => {
             say_warnings(&session, voice);
-            play_any(alloc, script, input, trace, &mut session)
+            let end = play_any(alloc, script, input, trace, &mut session);
+            drop(session);
+            end
         }
         Err(failure) => Err(Stop::from(failure)),
     }

@@ -3,15 +3,19 @@ use crate::answers::fault;
 use kb_context::{Failure, NoMemory};
 use kb_jsonc::read;
 use kb_manifest::{Command, FileFault, Manifest, Notes, PaletteItem};
-use kb_when::Clause;
+use kb_when::{Clause, SharedClause};
 use serde_json::Value;
 use std::alloc::{AllocError, Global};
 
-fn add_clause(alloc: Global, said: &mut String, clause: &Option<Clause>) -> Result<(), NoMemory> {
+fn add_clause(
+    alloc: Global,
+    said: &mut String,
+    clause: &Option<SharedClause>,
+) -> Result<(), NoMemory> {
     let Some(clause) = clause else {
         return Ok(());
     };
-    if clause.same_tree(&Clause::never(alloc)) {
+    if clause.as_clause().same_tree(&Clause::never(alloc)) {
         said.push_str(" if false")
     } else {
         said.push_str(" if a clause")

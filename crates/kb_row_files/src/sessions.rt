@@ -269,6 +269,16 @@ fn play(
     Ok(())
 }
 
+fn tell_lines(
+    alloc: Global,
+    session: &mut Session,
+    lines: &str,
+    told: &mut String,
+) -> Result<(), NoMemory> {
+    add_warnings(session, told)?;
+    play(alloc, session, lines, told)
+}
+
 fn tell_loaded(
     alloc: Global,
     inputs: Inputs<'_>,
@@ -277,8 +287,9 @@ fn tell_loaded(
 ) -> Result<(), NoMemory> {
     match Session::load(alloc, inputs) {
         Ok(mut session) => {
-            add_warnings(&session, told)?;
-            play(alloc, &mut session, lines, told)
+            let end = tell_lines(alloc, &mut session, lines, told);
+            drop(session);
+            end
         }
         Err(failure) => add_end(&Err(Stop::from(failure)), told),
     }

@@ -2,9 +2,10 @@
 use Rattle.std.proofs.Common.{◌≡◌, ◌∙◌, refl, sym, ap, Bool, true, false, List, ℕ}
 use Rattle.std.specs.Prelude.{Option, Some, Result, Ok, Err}
 use Rattle.kb_context.specs.Reading.{seen}
+use Rattle.kb_context.specs.declared.failure.Failure.{Failure}
 use Rattle.kb_context.specs.declared.failure.Failure.TheVariants.{Fault}
 use Rattle.kb_rows.specs.Transcript.{FailsToRun}
-use Rattle.kb_script.specs.ScriptRun.{Fails}
+use Rattle.kb_script.specs.ScriptRun.{Answers, Fails}
 use Rattle.kb_script.specs.declared.fault.ScriptFault.{ScriptFault}
 use Rattle.kb_script.specs.declared.fault.ScriptFault.TheVariants as script
 use Rattle.kb_session.specs.Load.{Files, Held, LoadMarks, held_by, sources_by}
@@ -40,3 +41,11 @@ fails_to_run script.Stopped text left old new before after running fails =
 fails_to_run script.TooLong text left old new before after running fails = fails.reader
 fails_to_run script.ReadFailed text left old new before after running fails = tt
 fails_to_run script.WriteFailed text left old new before after running fails = tt
+
+-- the same of what the script answered
+pub answered_fault : (ran : Result (Unit {0}) (Failure ScriptFault)) (fault : ScriptFault) (text : List ℕ)
+    (left : Option (List ℕ)) (old new : Traced State) (before after : Option (List ℕ))
+    → ran ≡ Err (Fault fault) → old.state.stopped ≡ false
+    → Answers ran (Some text) left old new before after → FailsToRun fault text
+answered_fault ran fault text left old new before after is running answers =
+    fails_to_run fault text left old new before after running (rw is at answers)

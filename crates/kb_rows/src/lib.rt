@@ -39,7 +39,9 @@ pub fn transcript(
     };
     let mut out = Vec::new(alloc);
     let mut reader = script;
-    match run_script(alloc, &mut reader, &mut out, &mut session) {
+    let ran = run_script(alloc, &mut reader, &mut out, &mut session);
+    drop(session);
+    match ran {
         Ok(()) => Ok(out),
         Err(Failure::NoMemory) => Err(Failure::NoMemory),
         Err(Failure::Fault(fault)) => Err(Failure::Fault(TranscriptFault::Script(fault))),
