@@ -83,9 +83,7 @@ pub(crate) fn manifests_in(alloc: Global, extensions: &[u8]) -> Result<Vec<&[u8]
     let mut manifests = Vec::new(alloc);
     for manifest in str::from_utf8(extensions).unwrap_or("").split(" ;; ") {
         if !manifest.is_empty() {
-            manifests
-                .push(manifest.as_bytes())
-                .map_err(NoMemory::from)?;
+            manifests.push(manifest.as_bytes()).map_err(NoMemory::from)?;
         }
     }
     Ok(manifests)

@@ -53,7 +53,10 @@ fn add_unread_list(
         let place = one.place;
         let number = one.number;
         let pattern = one.pattern.as_str();
-        write!(told, "> {list}: {source} {part} {place} {number} {pattern}\n")?;
+        write!(
+            told,
+            "> {list}: {source} {part} {place} {number} {pattern}\n"
+        )?;
     }
     Ok(())
 }
@@ -300,8 +303,9 @@ pub(crate) fn tell(alloc: Global, lines: &str, told: &mut String) -> Result<(), 
     add_file_lines(lines, told)?;
     let files = files_in(alloc, lines)?;
     let manifests = manifests_in(alloc, lent(&files.extensions).unwrap_or(&[]))?;
+    let layout = lent(&files.layout);
     let inputs = Inputs {
-        layout: lent(&files.layout),
+        layout,
         defaults: lent(&files.defaults).unwrap_or(&[]),
         user: lent(&files.user).unwrap_or(&[]),
         platform: files.platform,

@@ -20,8 +20,9 @@ fn shown(alloc: Global, fault: &TranscriptFault) -> Result<String, NoMemory> {
 /// The transcript of a script behind the user's rules, without a layout, or why there is none.
 pub(crate) fn text(alloc: Global, row: &str) -> Result<String, NoMemory> {
     let (user, script) = row.split_once(" ;; ").unwrap_or((row, ""));
+    let layout: Option<&[u8]> = None;
     let inputs = Inputs {
-        layout: None,
+        layout,
         defaults: &[],
         user: user.as_bytes(),
         platform: Platform::Linux,
