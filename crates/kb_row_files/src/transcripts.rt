@@ -17,17 +17,21 @@ fn shown(alloc: Global, fault: &TranscriptFault) -> Result<String, NoMemory> {
     }
 }
 
+// The user's rules, with no other file but perhaps a layout.
+fn rules_alone<'a>(layout: Option<&'a [u8]>, user: &'a [u8]) -> Inputs<'a> {
+    Inputs {
+        layout,
+        defaults: &[],
+        user,
+        platform: Platform::Linux,
+        manifests: &[],
+    }
+}
+
 /// The transcript of a script behind the user's rules, without a layout, or why there is none.
 pub(crate) fn text(alloc: Global, row: &str) -> Result<String, NoMemory> {
     let (user, script) = row.split_once(" ;; ").unwrap_or((row, ""));
-    let layout: Option<&[u8]> = None;
-    let inputs = Inputs {
-        layout,
-        defaults: &[],
-        user: user.as_bytes(),
-        platform: Platform::Linux,
-        manifests: &[],
-    };
+    let inputs = rules_alone(None, user.as_bytes());
     match transcript(alloc, inputs, script.as_bytes()) {
         Ok(out) => String::from_str(alloc, str::from_utf8(out.as_slice()).unwrap_or("no text")),
         Err(Failure::Fault(fault)) => shown(alloc, &fault),
