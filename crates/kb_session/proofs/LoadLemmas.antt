@@ -4,7 +4,7 @@ use Rattle.std.proofs.Common.{◌<◌, nat_lt, Some, None, arith, true, false, g
 use Rattle.std.proofs.lemmas.Bool.Decides.{nat_tests}
 use Rattle.std.proofs.lemmas.List.{length-map, map-append, take_more, drop_more}
 use Rattle.std.specs.Borrow.{Bor}
-use Rattle.std.specs.Prelude.{Result, Ok, Err, MatchResult}
+use Rattle.std.specs.Prelude.{Result, Ok, Err, IfOk, MatchResult}
 use Rattle.std.specs.Str.{str_eq_ignore_ascii_case}
 use Rattle.serde_json.specs.Data.{Data}
 use Rattle.kb_context.specs.Failure.{Fails, Gives}
@@ -14,17 +14,18 @@ use Rattle.kb_context.specs.declared.failure.Failure.{Failure}
 use Rattle.kb_context.specs.declared.failure.Failure.TheVariants.{NoMemory, Fault}
 use Rattle.kb_context.specs.declared.refusal.Refusal.{Refusal}
 use Rattle.kb_files.specs.Extension.{ExtensionMarks, marks_of, outline_in, extension_by, extension_in}
+use Rattle.kb_files.specs.Extension.{IsRightlyMarked}
 use Rattle.kb_files.specs.Marked.{GivesByMarks, ReadsBy}
 use Rattle.kb_files.specs.RuleFile.{elements_held, rules_by, rules_in}
 use Rattle.kb_files.specs.declared.extension_file.Extension.{Extension}
 use Rattle.kb_keys.specs.declared.platform.Platform.{Platform}
 use Rattle.kb_manifest.specs.Manifest.{Outline}
-use Rattle.kb_rules.specs.RuleList.{Listed}
+use Rattle.kb_rules.specs.RuleList.{Listed, AreRightlyMarked}
 use Rattle.kb_rules.specs.declared.origin.Origin.{Origin}
 use Rattle.kb_rules.specs.declared.origin.Origin.TheVariants as origin
 use Rattle.kb_session.specs.Fault.{refused_by, of_file}
 use Rattle.kb_session.specs.Load.{Held, GivesOf, AreRules, IsExtension, AreExtensions, outlines_from}
-use Rattle.kb_session.specs.Load.{is_among, names_of, names_in, names_fault, unless_fault, extensions_held}
+use Rattle.kb_session.specs.Load.{AllRightlyMarked, is_among, names_of, names_in, names_fault, unless_fault, extensions_held}
 use Rattle.kb_session.specs.Load.{other_marks, extensions_by, marks_in, sources_by}
 use Rattle.kb_session.specs.Session.{Seen, loaded_session}
 use Rattle.kb_session.specs.Sources.{Sources}
@@ -81,6 +82,24 @@ extension_of_file number platform bytes r h =
     named (IsExtension number platform) (file.Package number) (outline_in bytes) r
     (made_of marks_of (record { commands = []; rules = []; palette = [] })
     (λ marks. extension_by marks number platform) (outline_in bytes) r h)
+
+-- what holds of what was read holds of what a file gave
+right_in_file : {X : Type 0} (P : X → Type 0) (file : LoadFile) (r : Result X (Failure Refusal)) → IfOk r P
+    → IfOk (of_file file r) P
+right_in_file P file (Ok x) h = h
+right_in_file P file (Err failure) h = h
+
+pub right_rules : (file : LoadFile) (r : Result Listed (Failure Refusal)) → IfOk r AreRightlyMarked
+    → IfOk (of_file file r) AreRightlyMarked
+right_rules = right_in_file AreRightlyMarked
+
+pub right_extension : (file : LoadFile) (bytes : List ℕ) (r : Result Extension (Failure Refusal))
+    → IfOk r (IsRightlyMarked bytes) → IfOk (of_file file r) (IsRightlyMarked bytes)
+right_extension file bytes = right_in_file (IsRightlyMarked bytes) file
+
+pub ruleset file_of_rules = (rules_of_file, right_rules)
+
+pub ruleset file_of_extension = (extension_of_file, right_extension)
 
 -- ---- the manifests in turn
 
@@ -141,9 +160,20 @@ pub record Reads (platform : Platform) (es : List Extension) (number : ℕ) (don
   pub made : MatchResult (outlines_from 0 done) (λ outlines. AreExtensions platform outlines es) (λ fault. ⊥)
   pub count : length done ≡ number
   pub size : length es ≡ number
+  pub right : AllRightlyMarked done es
 
 pub reads_none : (platform : Platform) → Reads platform [] 0 []
-reads_none platform = record { made = refl; count = refl; size = refl }
+reads_none platform = record { made = refl; count = refl; size = refl; right = tt }
+
+marked_next : (done : List (List ℕ)) (es : List Extension) (bytes : List ℕ) (e : Extension)
+    → length done ≡ length es → AllRightlyMarked done es → IsRightlyMarked bytes e
+    → AllRightlyMarked (done ++ bytes ∷ []) (es ++ e ∷ [])
+marked_next [] [] bytes e len all right = (right, tt)
+marked_next [] (x ∷ es) bytes e len all right = absurd (omega (arith, len))
+marked_next (b ∷ done) [] bytes e len all right = absurd (omega (arith, len))
+marked_next (b ∷ done) (x ∷ es) bytes e len all right =
+    let rest : length done ≡ length es = omega (arith, len) in
+    (all.0, marked_next done es bytes e rest all.1 right)
 
 made_next : (platform : Platform) (es : List Extension) (number : ℕ) (e : Extension)
     (first : Result (List Outline) LoadFault) (next : Result Outline LoadFault)
@@ -167,9 +197,9 @@ made_next platform es number e (Ok outlines) (Ok outline) size h k =
 pub reads_next : (platform : Platform) (es : List Extension) (number : ℕ) (done : List (List ℕ))
     (bytes : List ℕ) (e : Extension) → Reads platform es number done
     → MatchResult (refused_by (file.Package number) (outline_in bytes))
-    (λ outline. IsExtension number platform outline e) (λ fault. ⊥)
+    (λ outline. IsExtension number platform outline e) (λ fault. ⊥) → IsRightlyMarked bytes e
     → Reads platform (es ++ e ∷ []) (number + 1) (done ++ bytes ∷ [])
-reads_next platform es number done bytes e r h =
+reads_next platform es number done bytes e r h right =
     let place : 0 + length done ≡ number = omega (arith, r.count) in
     let whole : outlines_from 0 (done ++ bytes ∷ [])
     ≡ joined (outlines_from 0 done)
@@ -181,6 +211,7 @@ reads_next platform es number done bytes e r h =
           (refused_by (file.Package number) (outline_in bytes)) r.size r.made h);
       count = length-append done (bytes ∷ []) ∙ ap (λ n. n + 1) r.count;
       size = length-append es (e ∷ []) ∙ ap (λ n. n + 1) r.size;
+      right = marked_next done es bytes e (r.count ∙ sym r.size) r.right right;
     }
 
 fails_joined : (P : List Outline → Type 0) (first rest : Result (List Outline) LoadFault) (f : LoadFault)
@@ -222,9 +253,11 @@ pub manifest_next : (platform : Platform) (ms : List (Bor (List ℕ))) (i : ℕ)
     → Reads platform es number (bytes_of (take i ms))
     → MatchResult (refused_by (file.Package number) (outline_in (get_or ms i d).now))
     (λ outline. IsExtension number platform outline e) (λ fault. ⊥)
+    → IsRightlyMarked (get_or ms i d).now e
     → Reads platform (es ++ e ∷ []) (number + 1) (bytes_of (take (i + 1) ms))
-manifest_next platform ms i d es number e below r h =
-    rw (one_more ms i d below) (reads_next platform es number (bytes_of (take i ms)) (get_or ms i d).now e r h)
+manifest_next platform ms i d es number e below r h right =
+    rw (one_more ms i d below)
+    (reads_next platform es number (bytes_of (take i ms)) (get_or ms i d).now e r h right)
 
 pub manifest_fails : (platform : Platform) (ms : List (Bor (List ℕ))) (i : ℕ) (d : Bor (List ℕ))
     (es : List Extension) (number : ℕ) (failure : Failure LoadFault) → i < length ms

@@ -1,5 +1,5 @@
 -- What the files of a load hold, or the first that is refused, and why. No fault hangs on the marks of patterns.
-use Rattle.std.specs.Prelude.{◌≡◌, ℕ, ◌+◌, nat_lt, List, [], ◌∷◌, ◌++◌, length, map, Bool, not}
+use Rattle.std.specs.Prelude.{⊤, ◌≡◌, ℕ, ◌+◌, nat_lt, List, [], ◌∷◌, ◌++◌, length, map, Bool, not}
 use Rattle.std.specs.Prelude.{Option, Some, None, option_map, Result, Ok, Err, MatchResult, if◌then◌else◌}
 use Rattle.std.specs.List.{list_any}
 use Rattle.std.specs.Option.{option_or}
@@ -10,13 +10,13 @@ use Rattle.kb_context.specs.Reading.{◌>>=◌}
 use Rattle.kb_context.specs.Refusal.{refused_for}
 use Rattle.kb_context.specs.Scopes.{ScopesData}
 use Rattle.kb_context.specs.declared.failure.Failure.{Failure}
-use Rattle.kb_files.specs.Extension.{ExtensionMarks, marks_of, outline_in, extension_by}
+use Rattle.kb_files.specs.Extension.{ExtensionMarks, marks_of, outline_in, extension_by, IsRightlyMarked}
 use Rattle.kb_files.specs.Layout.{layout_scopes}
 use Rattle.kb_files.specs.RuleFile.{elements_held, rules_by}
 use Rattle.kb_files.specs.declared.extension_file.Extension.{Extension}
 use Rattle.kb_keys.specs.declared.platform.Platform.{Platform}
 use Rattle.kb_manifest.specs.Manifest.{Outline}
-use Rattle.kb_rules.specs.RuleList.{Listed}
+use Rattle.kb_rules.specs.RuleList.{Listed, AreRightlyMarked}
 use Rattle.kb_rules.specs.declared.origin.Origin.{Origin}
 use Rattle.kb_rules.specs.declared.origin.Origin.TheVariants as origin
 use Rattle.kb_rules.specs.declared.unread.UnreadAt.{UnreadAt}
@@ -155,6 +155,18 @@ sources_by marks platform held = record {
   extensions = extensions_by platform marks.extensions 0 held.outlines;
   user = rules_by marks.user origin.User held.user;
 }
+
+-- the patterns of manifests are marked as they are or aren't read
+abbrev pub AllRightlyMarked : List (List ℕ) → List Extension → Type 0
+AllRightlyMarked [] es = ⊤
+AllRightlyMarked (bytes ∷ rest) [] = ⊤
+AllRightlyMarked (bytes ∷ rest) (e ∷ es) = IsRightlyMarked bytes e × AllRightlyMarked rest es
+
+-- all patterns of a load are
+pub record MarksAreRight (files : Files) (s : Sources) : Type 0 where
+  pub defaults : AreRightlyMarked s.defaults
+  pub extensions : AllRightlyMarked files.manifests s.extensions
+  pub user : AreRightlyMarked s.user
 
 -- ---- for private functions
 

@@ -1,13 +1,14 @@
 //! The reading of the files of a load.
-ghost use Rattle.std.specs.Prelude.{◌≡◌, ◌≤◌, [], length, map, option_map};
+ghost use Rattle.std.specs.Prelude.{◌≡◌, ◌≤◌, [], length, map, option_map, IfOk};
 ghost use Rattle.kb_context.specs.Failure.{Gives};
 ghost use Rattle.kb_session.specs.Fault.{refused_by};
 ghost use Rattle.kb_session.specs.Load.{is_among, repeats, lacks, first_failing, refused_manifest};
 ghost use Rattle.kb_session.specs.Load.{names_fault, extensions_held, outlines_from};
-ghost use Rattle.kb_session.specs.Load.{GivesOf, AreRules, IsExtension, AreExtensions, names_of};
-ghost use Rattle.kb_files.specs.Extension.{outline_in};
+ghost use Rattle.kb_session.specs.Load.{AllRightlyMarked, GivesOf, AreRules, IsExtension, AreExtensions, names_of};
+ghost use Rattle.kb_files.specs.Extension.{outline_in, IsRightlyMarked};
 ghost use Rattle.kb_files.specs.Layout.{layout_scopes};
 ghost use Rattle.kb_files.specs.RuleFile.{elements_held};
+ghost use Rattle.kb_rules.specs.RuleList.{AreRightlyMarked};
 
 use crate::fault::{LoadFault, LoadFile, of_file};
 use kb_context::{Failure, Refusal, Scopes, Seq};
@@ -32,14 +33,15 @@ pub(crate) fn load_scopes(
 }
 
 /// The rules of a file.
-#[tactic(auto, using(crate::proofs::LoadLemmas::rules_of_file))]
+#[tactic(auto, using(crate::proofs::LoadLemmas::file_of_rules))]
 pub(crate) fn load_rules(
     alloc: Global,
     file: LoadFile,
     bytes: &[u8],
     origin: Origin,
 ) -> Result<RuleList, Failure<LoadFault>>
-    ensures { GivesOf (AreRules origin) result (refused_by file (elements_held bytes.now)) }
+    ensures read { GivesOf (AreRules origin) result (refused_by file (elements_held bytes.now)) }
+    ensures right { IfOk result AreRightlyMarked }
 {
     of_file(file, read_rules(alloc, bytes, origin))
 }
@@ -50,8 +52,9 @@ pub(crate) fn load_extensions(
     manifests: &[&[u8]],
     platform: Platform,
 ) -> Result<Seq<Extension>, Failure<LoadFault>>
-    ensures { GivesOf (AreExtensions platform) result
+    ensures read { GivesOf (AreExtensions platform) result
         (extensions_held (map (λ manifest. manifest.now) manifests.now)) }
+    ensures right { IfOk result (AllRightlyMarked (map (λ manifest. manifest.now) manifests.now)) }
 {
     if manifests.len() > EXTENSION_LIMIT {
         return Err(Failure::Fault(LoadFault {
@@ -73,8 +76,9 @@ fn read_extensions(
     platform: Platform,
 ) -> Result<Seq<Extension>, Failure<LoadFault>>
     requires { length manifests.now ≤ 100 }
-    ensures { GivesOf (AreExtensions platform) result
+    ensures read { GivesOf (AreExtensions platform) result
         (outlines_from 0 (map (λ manifest. manifest.now) manifests.now)) }
+    ensures right { IfOk result (AllRightlyMarked (map (λ manifest. manifest.now) manifests.now)) }
 {
     let mut extensions = Seq::new(alloc);
     let mut number = 0;
@@ -86,15 +90,16 @@ fn read_extensions(
 }
 
 /// The extension of a manifest, by its number in load order.
-#[tactic(auto, using(crate::proofs::LoadLemmas::extension_of_file))]
+#[tactic(auto, using(crate::proofs::LoadLemmas::file_of_extension))]
 fn load_extension(
     alloc: Global,
     bytes: &[u8],
     number: u32,
     platform: Platform,
 ) -> Result<Extension, Failure<LoadFault>>
-    ensures { GivesOf (IsExtension number platform) result
+    ensures read { GivesOf (IsExtension number platform) result
         (refused_by (LoadFile.Package number) (outline_in bytes.now)) }
+    ensures right { IfOk result (IsRightlyMarked bytes.now) }
 {
     of_file(
         LoadFile::Package(number as usize),

@@ -3,7 +3,8 @@ ghost use Rattle.std.specs.Prelude.{◌≡◌, true, false, [], ◌∷◌, ◌++
 ghost use Rattle.std.specs.Prelude.{OnOk, OnErr, IfOk, IfErr};
 ghost use Rattle.kb_context.specs.Refusal.{refused_for};
 ghost use Rattle.kb_context.specs.ScopeFault.{number_of};
-ghost use Rattle.kb_session.specs.Load.{files_of};
+ghost use Rattle.kb_rules.specs.RuleList.{AreRightlyMarked};
+ghost use Rattle.kb_session.specs.Load.{files_of, MarksAreRight};
 ghost use Rattle.kb_session.specs.Session.{loaded_session, Loads, Takes, Does, halt, Undone, HalfDone};
 ghost use Rattle.kb_session.specs.Session.{FailsAt, FailsAmong};
 ghost use Rattle.kb_session.specs.Sources.{source_of};
@@ -93,7 +94,10 @@ impl Session {
     /// manifests in load order (1 to 4, 40, 41), an extension that repeats the identifier of an earlier one
     /// (91), one that depends on an extension that isn't before it (90); or refused memory.
     pub fn load(alloc: Global, inputs: Inputs<'_>) -> Result<Session, Failure<LoadFault>>
-        ensures { Loads (files_of inputs.entry) result }
+        ensures read { Loads (files_of inputs.entry) result }
+
+        // A pattern is told as unread only where `regex` doesn't read it, and isn't told only where it does.
+        ensures right { IfOk result (λ session. MarksAreRight (files_of inputs.entry) session.state.sources) }
     {
         let scopes = load_scopes(alloc, inputs.layout)?;
         let defaults = load_rules(alloc, LoadFile::Defaults, inputs.defaults, Origin::Defaults)?;
@@ -203,6 +207,10 @@ impl Session {
         ensures ok { IfOk result (λ answer.
             Takes (reload bytes.now self.new.state.sources.user.unread) self.old answer self.new) }
         ensures err { IfErr result (λ fault. FailsAt fault (reload bytes.now []) self.old self.new) }
+
+        // The marks of the user's rules stay right.
+        ensures right { AreRightlyMarked self.old.state.sources.user
+            → AreRightlyMarked self.new.state.sources.user }
     {
         if self.stopped {
             return Err(SessionFault::Stopped);
@@ -360,6 +368,8 @@ impl Session {
         ensures ok { IfOk result (λ answer.
             Does (reload bytes.now self.new.state.sources.user.unread) self.old answer self.new) }
         ensures err { OnErr result (Undone self.old self.new) }
+        ensures right { AreRightlyMarked self.old.state.sources.user
+            → AreRightlyMarked self.new.state.sources.user }
     {
         match read_rules(self.alloc, bytes, Origin::User) {
             Ok(user) => {
