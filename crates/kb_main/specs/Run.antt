@@ -22,8 +22,8 @@ use Rattle.kb_options.specs.declared.given.WordsFault.{WordsFault}
 use Rattle.kb_options.specs.declared.given.WordsFault.TheVariants as words
 use Rattle.kb_script.specs.ScriptRun.{Answers}
 use Rattle.kb_script.specs.declared.fault.ScriptFault.{ScriptFault}
-use Rattle.kb_session.specs.Load.{Files, held_by, marks_in}
-use Rattle.kb_session.specs.Session.{loaded}
+use Rattle.kb_session.specs.Load.{Files, held_by}
+use Rattle.kb_session.specs.Session.{loaded, marks_by}
 use Rattle.kb_session.specs.Sources.{Sources, source_of}
 use Rattle.kb_session.specs.State.{State}
 use Rattle.kb_session.specs.Warning.{warnings_of}
@@ -79,7 +79,7 @@ pub record Silent (o : Streams) : Type 0 where
 pub record Played (files : Files) (script : Option (List ℕ)) (o : Streams) (end : Result (Unit {0}) Stop)
     : Type 0 where
   pub session : Traced State
-  pub loaded_is : loaded (marks_in session.state.sources) files ≡ Ok session
+  pub loaded_is : loaded (marks_by files session) files ≡ Ok session
   pub warned : Says o.said_before o.said
       (warning_text session.state.sources (warnings_of session.state.sources))
   pub new : Traced State

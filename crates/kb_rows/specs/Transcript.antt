@@ -7,8 +7,8 @@ use Rattle.kb_rows.specs.declared.TranscriptFault.TheVariants.{Load, Script}
 use Rattle.kb_script.specs.Script.{told_of, bare}
 use Rattle.kb_script.specs.declared.fault.ScriptFault.{ScriptFault}
 use Rattle.kb_script.specs.declared.fault.ScriptFault.TheVariants as script
-use Rattle.kb_session.specs.Load.{Files, held_by, marks_in}
-use Rattle.kb_session.specs.Session.{loaded}
+use Rattle.kb_session.specs.Load.{Files, held_by}
+use Rattle.kb_session.specs.Session.{loaded, marks_by}
 use Rattle.kb_session.specs.State.{State, Told, next}
 use Rattle.kb_stream.specs.Fold.{Traced}
 use Rattle.kb_stream.specs.FoldWriting.{text_of}
@@ -17,7 +17,7 @@ use Rattle.kb_stream.specs.FoldWriting.{text_of}
 -- the patterns of their rules, and of those of reloads, have
 pub record IsTranscript (files : Files) (text out : List ℕ) : Type 0 where
   pub session : Traced State
-  pub loaded_is : loaded (marks_in session.state.sources) files ≡ Ok session
+  pub loaded_is : loaded (marks_by files session) files ≡ Ok session
   pub told : List Told
   pub tells : map bare told ≡ told_of text
   pub out_is : out ≡ text_of next told session.state

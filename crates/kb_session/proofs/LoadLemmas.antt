@@ -4,11 +4,12 @@ use Rattle.std.proofs.Common.{◌<◌, nat_lt, Some, None, arith, true, false, g
 use Rattle.std.proofs.lemmas.Bool.Decides.{nat_tests}
 use Rattle.std.proofs.lemmas.List.{length-map, map-append, take_more, drop_more}
 use Rattle.std.specs.Borrow.{Bor}
-use Rattle.std.specs.Prelude.{Result, Ok, Err, IfOk, MatchResult}
+use Rattle.std.specs.Prelude.{Result, Ok, Err, Option, Bool, IfOk, MatchResult, if◌then◌else◌}
 use Rattle.std.specs.Str.{str_eq_ignore_ascii_case}
 use Rattle.serde_json.specs.Data.{Data}
 use Rattle.kb_context.specs.Failure.{Fails, Gives}
 use Rattle.kb_context.specs.Reading.{◌>>=◌, seen}
+use Rattle.kb_context.specs.Refusal.{refused_for}
 use Rattle.kb_context.specs.Scopes.{ScopesData}
 use Rattle.kb_context.specs.declared.failure.Failure.{Failure}
 use Rattle.kb_context.specs.declared.failure.Failure.TheVariants.{NoMemory, Fault}
@@ -23,15 +24,17 @@ use Rattle.kb_manifest.specs.Manifest.{Outline}
 use Rattle.kb_rules.specs.RuleList.{Listed, AreRightlyMarked}
 use Rattle.kb_rules.specs.declared.origin.Origin.{Origin}
 use Rattle.kb_rules.specs.declared.origin.Origin.TheVariants as origin
-use Rattle.kb_session.specs.Fault.{refused_by, of_file}
+use Rattle.kb_session.specs.Fault.{refused_by, refused_file, of_file}
 use Rattle.kb_session.specs.Load.{Held, GivesOf, AreRules, IsExtension, AreExtensions, outlines_from}
 use Rattle.kb_session.specs.Load.{AllRightlyMarked, is_among, names_of, names_in, names_fault, unless_fault, extensions_held}
-use Rattle.kb_session.specs.Load.{other_marks, extensions_by, marks_in, sources_by}
-use Rattle.kb_session.specs.Session.{Seen, loaded_session}
+use Rattle.kb_session.specs.Load.{other_marks, extensions_by, marks_told, sources_by, Files, LoadMarks}
+use Rattle.kb_session.specs.Session.{Seen, loaded_session, marks_by}
 use Rattle.kb_session.specs.Sources.{Sources}
+use Rattle.kb_session.specs.Unread.{unread_of}
 use Rattle.kb_session.specs.declared.fault.LoadFault.{LoadFault}
 use Rattle.kb_session.specs.declared.fault.LoadFile.{LoadFile}
 use Rattle.kb_session.specs.declared.fault.LoadFile.TheVariants as file
+use Rattle.kb_session.proofs.ToldLemmas.{told_all}
 
 -- ---- one file
 
@@ -390,31 +393,88 @@ module _ (layout : Result ScopesData LoadFault) (defaults user : Result (List Da
       (λ ds. fails_behind (λ us. AreRules origin.User us u) failure user _ hu
       (λ us. fails_first failure extensions _ h)))
 
-all_made : (platform : Platform) (scopes : ScopesData) (sources : Sources)
+-- the count of what the manifests say
+
+one_before : (r : Result Outline LoadFault) (rest : Result (List Outline) LoadFault) (outlines : List Outline)
+    → (r >>= λ outline. rest >>= λ more. Ok (outline ∷ more)) ≡ Ok outlines
+    → (more : List Outline) × (rest ≡ Ok more) × (length outlines ≡ length more + 1)
+one_before (Ok outline) (Ok more) outlines h =
+    let e : outline ∷ more ≡ outlines = cc in
+    let n : length (outline ∷ more) ≡ length outlines = ap length e in
+    (more, refl, omega (arith, n))
+one_before (Ok outline) (Err f) outlines h = absurd (cc)
+one_before (Err f) rest outlines h = absurd (cc)
+
+outlines-count : (number : ℕ) (manifests : List (List ℕ)) (outlines : List Outline)
+    → outlines_from number manifests ≡ Ok outlines → length manifests ≡ length outlines
+outlines-count number [] outlines h =
+    let e : [] ≡ outlines = cc in
+    ap length e
+outlines-count number (bytes ∷ manifests) outlines h =
+    let p = one_before (refused_by (file.Package number) (outline_in bytes)) (outlines_from (number + 1) manifests)
+    outlines h in
+    let rest = outlines-count (number + 1) manifests p.0 p.1 in
+    omega (arith, rest, p.2)
+
+unless-same : (found : Option LoadFault) (outlines more : List Outline)
+    → unless_fault found outlines ≡ Ok more → outlines ≡ more
+unless-same None outlines more h = cc
+unless-same (Some f) outlines more h = absurd (cc)
+
+read-same : (read : Result (List Outline) LoadFault) (more : List Outline)
+    → (read >>= λ outlines. unless_fault (names_fault (map names_in outlines)) outlines) ≡ Ok more
+    → read ≡ Ok more
+read-same (Ok outlines) more h = ap Ok (unless-same (names_fault (map names_in outlines)) outlines more h)
+read-same (Err f) more h = absurd (cc)
+
+few-same : (b : Bool) (fault : LoadFault) (r : Result (List Outline) LoadFault) (more : List Outline)
+    → (if b then Err fault else r) ≡ Ok more → r ≡ Ok more
+few-same true fault r more h = absurd (cc)
+few-same false fault r more h = h
+
+held-count : (manifests : List (List ℕ)) (outlines : List Outline) → extensions_held manifests ≡ Ok outlines
+    → length manifests ≡ length outlines
+held-count manifests outlines h =
+    outlines-count 0 manifests outlines
+    (read-same (outlines_from 0 manifests) outlines
+    (few-same (nat_lt 100 (length manifests)) (refused_file file.Extensions (refused_for 44)) _ outlines h))
+
+all_made : (files : Files) (scopes : ScopesData) (sources : Sources)
     (defaults user : Result (List Data) LoadFault) (extensions : Result (List Outline) LoadFault)
+    → ((outlines : List Outline) → extensions ≡ Ok outlines → length files.manifests ≡ length outlines)
     → MatchResult defaults (λ ds. AreRules origin.Defaults ds sources.defaults) (λ fault. ⊥)
     → MatchResult user (λ us. AreRules origin.User us sources.user) (λ fault. ⊥)
-    → MatchResult extensions (λ os. AreExtensions platform os sources.extensions) (λ fault. ⊥)
-    → seen (λ held. loaded_session held.scopes (sources_by (marks_in sources) platform held))
+    → MatchResult extensions (λ os. AreExtensions files.platform os sources.extensions) (λ fault. ⊥)
+    → seen (λ held. loaded_session held.scopes
+    (sources_by (marks_told files (unread_of sources)) files.platform held))
     (held_in (Ok scopes) defaults user extensions) ≡ Ok (loaded_session scopes sources)
-all_made platform scopes sources (Ok ds) (Ok us) (Ok os) hd hu he = λ i.
-    Ok (loaded_session scopes (record {
+all_made files scopes sources (Ok ds) (Ok us) (Ok os) count hd hu he =
+    let len : length files.manifests ≡ length sources.extensions =
+    count os refl ∙ sym (extensions-length files.platform (map marks_of sources.extensions) 0 os)
+    ∙ sym (ap length he) in
+    let held : Held = record { scopes = scopes; defaults = ds; user = us; outlines = os } in
+    ap (λ (marks : LoadMarks). Ok (loaded_session scopes (sources_by marks files.platform held)))
+    (told_all files files.platform os sources len he)
+    ∙ (λ i. Ok (loaded_session scopes (record {
       defaults = sym hd i;
       extensions = sym he i;
       user = sym hu i;
-    }))
-all_made platform scopes sources (Ok ds) (Ok us) (Err f) hd hu he = absurd he
-all_made platform scopes sources (Ok ds) (Err f) extensions hd hu he = absurd hu
-all_made platform scopes sources (Err f) user extensions hd hu he = absurd hd
+    })))
+all_made files scopes sources (Ok ds) (Ok us) (Err f) count hd hu he = absurd he
+all_made files scopes sources (Ok ds) (Err f) extensions count hd hu he = absurd hu
+all_made files scopes sources (Err f) user extensions count hd hu he = absurd hd
 
-pub all_loaded : (platform : Platform) (layout : Result ScopesData LoadFault)
-    (defaults user : Result (List Data) LoadFault) (extensions : Result (List Outline) LoadFault)
-    (scopes : ScopesData) (sources : Sources) (session : Seen) → layout ≡ Ok scopes
+pub all_loaded : (files : Files) (layout : Result ScopesData LoadFault)
+    (defaults user : Result (List Data) LoadFault) (scopes : ScopesData) (sources : Sources) (session : Seen)
+    → layout ≡ Ok scopes
     → GivesOf {F = LoadFault} (AreRules origin.Defaults) (Ok sources.defaults) defaults
     → GivesOf {F = LoadFault} (AreRules origin.User) (Ok sources.user) user
-    → GivesOf {F = LoadFault} (AreExtensions platform) (Ok sources.extensions) extensions
+    → GivesOf {F = LoadFault} (AreExtensions files.platform) (Ok sources.extensions)
+    (extensions_held files.manifests)
     → session ≡ loaded_session scopes sources
-    → seen (λ held. loaded_session held.scopes (sources_by (marks_in session.state.sources) platform held))
-    (held_in layout defaults user extensions) ≡ Ok session
-all_loaded platform layout defaults user extensions scopes sources session e hd hu he is =
-    rw (is, e) (all_made platform scopes sources defaults user extensions hd hu he)
+    → seen (λ held. loaded_session held.scopes (sources_by (marks_by files session) files.platform held))
+    (held_in layout defaults user (extensions_held files.manifests)) ≡ Ok session
+all_loaded files layout defaults user scopes sources session e hd hu he is =
+    rw (is, e)
+    (all_made files scopes sources defaults user (extensions_held files.manifests)
+    (held-count files.manifests) hd hu he)

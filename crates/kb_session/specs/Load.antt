@@ -22,9 +22,11 @@ use Rattle.kb_rules.specs.declared.origin.Origin.TheVariants as origin
 use Rattle.kb_rules.specs.declared.unread.UnreadAt.{UnreadAt}
 use Rattle.kb_session.specs.Fault.{refused_file, refused_by}
 use Rattle.kb_session.specs.Sources.{Sources}
+use Rattle.kb_session.specs.Unread.{rules_told, extensions_told}
 use Rattle.kb_session.specs.declared.fault.LoadFault.{LoadFault}
 use Rattle.kb_session.specs.declared.fault.LoadFile.TheVariants as file
 use Rattle.kb_session.specs.declared.inputs.Inputs.{Inputs}
+use Rattle.kb_session.specs.declared.unread.UnreadIn.{UnreadIn}
 
 -- the files, as bytes; the manifests in load order
 pub record Files : Type 0 where
@@ -128,6 +130,14 @@ marks_in s = record {
   defaults = s.defaults.unread;
   extensions = map marks_of s.extensions;
   user = s.user.unread;
+}
+
+-- the marks of the load of these files that a list of unread patterns tells
+abbrev pub marks_told : Files → List UnreadIn → LoadMarks
+marks_told files told = record {
+  defaults = rules_told origin.Defaults told;
+  extensions = extensions_told 0 files.manifests told;
+  user = rules_told origin.User told;
 }
 
 abbrev pub no_marks : ExtensionMarks

@@ -1,18 +1,19 @@
 -- What the calls of a session do to it.
-use Rattle.std.specs.Prelude.{◌≡◌, ℕ, true, false, List, [], length, take, Result, Ok, Err}
+use Rattle.std.specs.Prelude.{◌≡◌, ℕ, true, false, List, [], ◌∷◌, length, take, Result, Ok, Err}
 use Rattle.kb_context.specs.Failure.{Fails}
 use Rattle.kb_context.specs.Reading.{seen}
 use Rattle.kb_context.specs.Scopes.{ScopesData}
 use Rattle.kb_context.specs.declared.failure.Failure.{Failure}
 use Rattle.kb_core.specs.declared.run.Core.{Core}
 use Rattle.kb_keys.specs.declared.keystroke.Keystroke.{Keystroke}
-use Rattle.kb_session.specs.Load.{Files, LoadMarks, held_by, sources_by, marks_in}
+use Rattle.kb_session.specs.Load.{Files, LoadMarks, held_by, sources_by, marks_told}
 use Rattle.kb_session.specs.Sources.{Sources}
 use Rattle.kb_session.specs.State.{State, Told, happens, Answered, did, refused, step, step_on, out_of, next}
 use Rattle.kb_session.specs.State.{loaded_state}
 use Rattle.kb_session.specs.declared.fault.LoadFault.{LoadFault}
 use Rattle.kb_session.specs.declared.fault.SessionFault.{SessionFault}
 use Rattle.kb_session.specs.declared.fault.SessionFault.TheVariants.{NoMemory, Stopped}
+use Rattle.kb_session.specs.declared.unread.UnreadIn.{UnreadIn}
 use Rattle.kb_stream.specs.Fold.{Traced, after, after_all, StopsAmong}
 use Rattle.kb_trace.specs.declared.event.Answer.{Answer}
 use Rattle.kb_trace.specs.declared.event.Answer.TheVariants as answer
@@ -30,10 +31,19 @@ abbrev pub loaded : LoadMarks → Files → Result Seen LoadFault
 loaded marks files =
     seen (λ held. loaded_session held.scopes (sources_by marks files.platform held)) (held_by files)
 
+-- the first list of unread patterns that a session tells, that of its load
+abbrev pub first_list : List (List UnreadIn) → List UnreadIn
+first_list [] = []
+first_list (told ∷ lists) = told
+
+-- the marks of the load of these files, as a session tells them
+abbrev pub marks_by : Files → Seen → LoadMarks
+marks_by files session = marks_told files (first_list session.state.unread)
+
 -- a load answered what its files load for the marks that its session tells, or their fault, which is one for
 -- all marks, or was refused memory
 abbrev pub Loads : Files → Result Seen (Failure LoadFault) → Type 0
-Loads files (Ok session) = loaded (marks_in session.state.sources) files ≡ Ok session
+Loads files (Ok session) = loaded (marks_by files session) files ≡ Ok session
 Loads files (Err failure) = Fails failure (held_by files)
 
 abbrev pub answered : Answer → Answered

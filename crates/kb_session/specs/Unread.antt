@@ -1,8 +1,10 @@
 -- The patterns of all files that aren't read, in the order of the files and of their entries.
-use Rattle.std.specs.Prelude.{List, ◌++◌, map}
+use Rattle.std.specs.Prelude.{◌&&◌, ℕ, ◌+◌, List, [], ◌∷◌, ◌++◌, map, nat_eq, Bool, true, false, if◌then◌else◌}
 use Rattle.std.specs.List.{flat_map}
 use Rattle.kb_files.specs.declared.extension_file.Extension.{Extension}
-use Rattle.kb_manifest.specs.declared.warning.Part.TheVariants.{Keybindings}
+use Rattle.kb_files.specs.Extension.{ExtensionMarks}
+use Rattle.kb_manifest.specs.declared.warning.Part.{Part}
+use Rattle.kb_manifest.specs.declared.warning.Part.TheVariants.{Commands, Keybindings, Palette}
 use Rattle.kb_manifest.specs.declared.warning.Unread.{Unread}
 use Rattle.kb_rules.specs.declared.origin.Origin.{Origin}
 use Rattle.kb_rules.specs.declared.origin.Origin.TheVariants as origin
@@ -41,3 +43,63 @@ in_extension e =
 abbrev pub unread_of : Sources → List UnreadIn
 unread_of s = in_rules origin.Defaults s.defaults.unread
     ++ (flat_map in_extension s.extensions ++ in_rules origin.User s.user.unread)
+
+-- ---- the marks that such a list tells
+
+abbrev pub same_origin : Origin → Origin → Bool
+same_origin origin.Defaults origin.Defaults = true
+same_origin origin.Defaults (origin.Extension number) = false
+same_origin origin.Defaults origin.User = false
+same_origin (origin.Extension number) origin.Defaults = false
+same_origin (origin.Extension number) (origin.Extension other) = nat_eq number other
+same_origin (origin.Extension number) origin.User = false
+same_origin origin.User origin.Defaults = false
+same_origin origin.User (origin.Extension number) = false
+same_origin origin.User origin.User = true
+
+abbrev pub same_part : Part → Part → Bool
+same_part Commands Commands = true
+same_part Commands Keybindings = false
+same_part Commands Palette = false
+same_part Keybindings Commands = false
+same_part Keybindings Keybindings = true
+same_part Keybindings Palette = false
+same_part Palette Commands = false
+same_part Palette Keybindings = false
+same_part Palette Palette = true
+
+-- it is of an entry of this part
+abbrev pub is_of : Origin → Part → UnreadIn → Bool
+is_of origin part u = same_origin origin u.origin && same_part part u.part
+
+abbrev pub rule_told : Origin → UnreadIn → List UnreadAt
+rule_told origin u =
+    if is_of origin Keybindings u
+    then record { place = u.place; number = u.number; pattern = u.pattern } ∷ [] else []
+
+abbrev pub entry_told : Origin → Part → UnreadIn → List Unread
+entry_told origin part u = if is_of origin part u then record {
+  part = u.part;
+  place = u.place;
+  pattern = record { number = u.number; pattern = u.pattern };
+} ∷ [] else []
+
+-- those of the rules of a file, and of another part of a manifest
+abbrev pub rules_told : Origin → List UnreadIn → List UnreadAt
+rules_told origin told = flat_map (rule_told origin) told
+
+abbrev pub entries_told : Origin → Part → List UnreadIn → List Unread
+entries_told origin part told = flat_map (entry_told origin part) told
+
+-- those of an extension by its number, and of the extensions of some manifests, from a number on
+abbrev pub extension_told : ℕ → List UnreadIn → ExtensionMarks
+extension_told number told = record {
+  commands = entries_told (origin.Extension number) Commands told;
+  rules = rules_told (origin.Extension number) told;
+  palette = entries_told (origin.Extension number) Palette told;
+}
+
+abbrev pub extensions_told : ℕ → List (List ℕ) → List UnreadIn → List ExtensionMarks
+extensions_told number [] told = []
+extensions_told number (manifest ∷ manifests) told =
+    extension_told number told ∷ extensions_told (number + 1) manifests told

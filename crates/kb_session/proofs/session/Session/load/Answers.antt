@@ -39,8 +39,7 @@ returns-clause-read c =
       extensions = c.in_ok-extensions.extensions;
       user = c.in_ok-user.user;
     } in
-    all_loaded files.platform (refused_by file.Layout (layout_scopes files.layout))
-    (refused_by file.Defaults (elements_held files.defaults)) (refused_by file.User (elements_held files.user))
-    (extensions_held files.manifests) _ sources _ c.in_ok-scopes.ensures c.in_ok-defaults.ensures.read
-    c.in_ok-user.ensures.read c.in_ok-extensions.ensures.read
-    (c.in_ok-begin.ensures ∙ ap (loaded_session _) c.in_ok-bindings.ensures)
+    all_loaded files (refused_by file.Layout (layout_scopes files.layout))
+    (refused_by file.Defaults (elements_held files.defaults)) (refused_by file.User (elements_held files.user)) _
+    sources _ c.in_ok-scopes.ensures c.in_ok-defaults.ensures.read c.in_ok-user.ensures.read
+    c.in_ok-extensions.ensures.read (c.in_ok-begin.ensures ∙ ap (loaded_session _) c.in_ok-bindings.ensures)
