@@ -65,17 +65,25 @@ fn edit(native: Native, core: &mut Core, args: Args) -> Result<(), NoMemory>
 {
     let Core { buffer, scopes } = core;
     match native {
-        Native::TypeText => buffer.insert(text_of(args.as_slice()))?,
-        Native::DeleteLeft => buffer.delete_left(),
-        Native::DeleteRight => buffer.delete_right(),
-        Native::CursorLeft => buffer.move_left()?,
-        Native::CursorRight => buffer.move_right()?,
-        Native::BufferClear => buffer.clear(),
-        Native::BufferTop => buffer.move_to_top()?,
-        Native::BufferBottom => buffer.move_to_bottom()?,
-        Native::SetContext => set_context(scopes, args)?,
+        Native::TypeText => buffer.insert(text_of(args.as_slice())),
+        Native::CursorLeft => buffer.move_left(),
+        Native::CursorRight => buffer.move_right(),
+        Native::BufferTop => buffer.move_to_top(),
+        Native::BufferBottom => buffer.move_to_bottom(),
+        Native::SetContext => set_context(scopes, args),
+        Native::DeleteLeft => {
+            buffer.delete_left();
+            Ok(())
+        }
+        Native::DeleteRight => {
+            buffer.delete_right();
+            Ok(())
+        }
+        Native::BufferClear => {
+            buffer.clear();
+            Ok(())
+        }
     }
-    Ok(())
 }
 
 /// Gives the key that the first argument is the value that the second one is, in the outermost

@@ -6,10 +6,10 @@ use Rattle.kb_context.specs.Faults.{fault_name}
 use Rattle.kb_context.specs.declared.failure.Failure.{Failure}
 use Rattle.kb_context.specs.declared.failure.Failure.TheVariants as failure
 use Rattle.kb_manifest.specs.Warning.{name_of}
-use Rattle.kb_session.specs.Fault.{load_file_word}
-use Rattle.kb_session.specs.declared.fault.LoadFile.{LoadFile}
-use Rattle.kb_session.specs.declared.fault.LoadFault.{LoadFault}
-use Rattle.kb_session.specs.declared.warning.Warning.{Warning}
+use Rattle.kb_bindings.specs.Fault.{load_file_word}
+use Rattle.kb_bindings.specs.declared.fault.LoadFile.{LoadFile}
+use Rattle.kb_bindings.specs.declared.fault.LoadFault.{LoadFault}
+use Rattle.kb_bindings.specs.declared.warning.Warning.{Warning}
 use Rattle.kb_script.specs.declared.fault.ScriptFault.{ScriptFault}
 use Rattle.kb_script.specs.declared.fault.ScriptFault.TheVariants as script
 use Rattle.kb_stream.specs.declared.reading.ReadFault.{ReadFault}

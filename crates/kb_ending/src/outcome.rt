@@ -3,7 +3,7 @@ ghost use Rattle.std.specs.Prelude.{◌≡◌};
 
 use kb_context::{Failure, NoMemory};
 use kb_script::ScriptFault;
-use kb_session::LoadFault;
+use kb_bindings::LoadFault;
 
 /// Why a run stopped before its end, once the command line was read.
 #[derive(Debug, Drop)]

@@ -8,7 +8,7 @@ ghost use Rattle.kb_ending.specs.Report as report;
 use crate::outcome::Stop;
 use kb_context::Failure;
 use kb_script::ScriptFault;
-use kb_session::{LoadFault, Warning};
+use kb_bindings::{LoadFault, Warning};
 use kb_stream::ReadFault;
 use std::fmt;
 
@@ -82,7 +82,7 @@ pub fn ending(end: &Result<(), Stop<'_>>) -> u8
 }
 
 /// Shows the line for standard error of a warning of a load: its number, its source as
-/// `kb_session::Session::source` names it, the part of a manifest that its entry stands in, and the
+/// `kb_bindings::Bindings::source` names it, the part of a manifest that its entry stands in, and the
 /// entry's place. It has no line feed.
 #[derive(Clone, Copy, Debug)]
 pub struct WarningLine<'a> {

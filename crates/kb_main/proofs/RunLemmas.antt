@@ -14,11 +14,11 @@ use Rattle.kb_ending.specs.declared.outcome.Stop.{Stop}
 use Rattle.kb_main.specs.Run.{FailsToLoad, FileMissing, HasBytes, HasFiles, HasPackages, HasRules, HasScript}
 use Rattle.kb_main.specs.Run.{IsHad, Silent, StopsAtScript, StopsInDirs, Streams, script_bytes, warning_text}
 use Rattle.kb_options.specs.declared.given.Options.{Options}
-use Rattle.kb_session.specs.Load.{Files}
+use Rattle.kb_bindings.specs.Load.{Files}
 use Rattle.kb_session.specs.Session.{Loads}
-use Rattle.kb_session.specs.Sources.{Sources, source_of}
-use Rattle.kb_session.specs.declared.fault.LoadFault.{LoadFault}
-use Rattle.kb_session.specs.declared.warning.Warning.{Warning}
+use Rattle.kb_bindings.specs.Sources.{Sources, source_of}
+use Rattle.kb_bindings.specs.declared.fault.LoadFault.{LoadFault}
+use Rattle.kb_bindings.specs.declared.warning.Warning.{Warning}
 
 says_nothing : (before : Heard) → Says before before []
 says_nothing before whole = (whole, Appends-nil before.said)

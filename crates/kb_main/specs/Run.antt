@@ -22,12 +22,12 @@ use Rattle.kb_options.specs.declared.given.WordsFault.{WordsFault}
 use Rattle.kb_options.specs.declared.given.WordsFault.TheVariants as words
 use Rattle.kb_script.specs.ScriptRun.{Answers}
 use Rattle.kb_script.specs.declared.fault.ScriptFault.{ScriptFault}
-use Rattle.kb_session.specs.Load.{Files, held_by}
+use Rattle.kb_bindings.specs.Load.{Files, held_by}
 use Rattle.kb_session.specs.Session.{loaded, marks_by}
-use Rattle.kb_session.specs.Sources.{Sources, source_of}
+use Rattle.kb_bindings.specs.Sources.{Sources, source_of}
 use Rattle.kb_session.specs.State.{State}
-use Rattle.kb_session.specs.Warning.{warnings_of}
-use Rattle.kb_session.specs.declared.warning.Warning.{Warning}
+use Rattle.kb_bindings.specs.Warning.{warnings_of}
+use Rattle.kb_bindings.specs.declared.warning.Warning.{Warning}
 use Rattle.kb_stream.specs.Fold.{Traced}
 
 -- ---- the script

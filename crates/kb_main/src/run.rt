@@ -5,9 +5,10 @@ ghost use Rattle.std.specs.Io.Buffered.{writer_contents, writer_inner};
 ghost use Rattle.kb_ending.specs.Voice.{Says, heard_by};
 ghost use Rattle.kb_main.specs.Run.{CarriesOut, Runs, Plays, PlaysAny, script_bytes, warning_text};
 ghost use Rattle.kb_main.specs.Run.{HasPackages, HasFiles, StopsInDirs, StopsReadingFiles, files_in};
-ghost use Rattle.kb_session.specs.Load.{files_of};
-ghost use Rattle.kb_session.specs.Warning.{warnings_of};
+ghost use Rattle.kb_bindings.specs.Load.{files_of};
+ghost use Rattle.kb_bindings.specs.Warning.{warnings_of};
 
+use kb_bindings::Inputs;
 use kb_context::NoMemory;
 use kb_ending::{
     Console, FileSource, Stop, Voice, WarningLine, bytes_in, bytes_named, file_named, lent,
@@ -16,7 +17,7 @@ use kb_ending::{
 use kb_keys::Platform;
 use kb_options::Options;
 use kb_script::run_script;
-use kb_session::{Inputs, Session};
+use kb_session::Session;
 use std::alloc::Global;
 use std::io::{BufWriter, Read, Write};
 

@@ -18,7 +18,7 @@ use Rattle.kb_rules.specs.declared.origin.Origin.TheVariants.{User}
 use Rattle.kb_context.specs.Faults.{fault_name}
 use Rattle.kb_context.specs.declared.refusal.Refusal.{Refusal}
 use Rattle.kb_script.specs.Script.{told_of}
-use Rattle.kb_session.specs.Sources.{Sources}
+use Rattle.kb_bindings.specs.Sources.{Sources}
 use Rattle.kb_session.specs.State.{loaded_state, next}
 use Rattle.kb_stream.specs.FoldWriting.{text_of}
 use Rattle.kb_files.specs.Layout.{window_scopes}

@@ -8,27 +8,28 @@ use Rattle.kb_rows.specs.Transcript.{FailsToRun}
 use Rattle.kb_script.specs.ScriptRun.{Answers, Fails}
 use Rattle.kb_script.specs.declared.fault.ScriptFault.{ScriptFault}
 use Rattle.kb_script.specs.declared.fault.ScriptFault.TheVariants as script
-use Rattle.kb_session.specs.Load.{Files, Held, LoadMarks, held_by, sources_by}
+use Rattle.kb_bindings.specs.Load as load
+use Rattle.kb_bindings.specs.Load.{Files, LoadMarks}
+use Rattle.kb_bindings.specs.declared.load.Loaded.{Loaded}
 use Rattle.kb_session.specs.Session.{loaded, loaded_session}
-use Rattle.kb_session.specs.Sources.{Sources}
 use Rattle.kb_session.specs.State.{State}
-use Rattle.kb_session.specs.declared.fault.LoadFault.{LoadFault}
+use Rattle.kb_bindings.specs.declared.fault.LoadFault.{LoadFault}
 use Rattle.kb_stream.specs.Fold.{Traced}
 
 abbrev is_stopped : Result (Traced State) LoadFault → Bool
 is_stopped (Ok session) = session.state.stopped
 is_stopped (Err fault) = false
 
-loads_running : (make : Held → Sources) (held : Result Held LoadFault)
-    → is_stopped (seen (λ h. loaded_session h.scopes (make h)) held) ≡ false
-loads_running make (Err fault) = refl
-loads_running make (Ok held) = refl
+loads_running : (r : Result Loaded LoadFault)
+    → is_stopped (seen (λ (l : Loaded). loaded_session l.scopes l.bindings) r) ≡ false
+loads_running (Err fault) = refl
+loads_running (Ok l) = refl
 
 -- a session that was just loaded isn't stopped
 pub loaded_runs : (marks : LoadMarks) (files : Files) (session : Traced State)
     → loaded marks files ≡ Ok session → session.state.stopped ≡ false
 loaded_runs marks files session is =
-    sym (ap is_stopped is) ∙ loads_running (sources_by marks files.platform) (held_by files)
+    sym (ap is_stopped is) ∙ loads_running (load.loaded marks files)
 
 apart : false ≡ true → ⊥
 apart e = cc

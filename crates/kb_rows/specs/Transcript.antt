@@ -7,7 +7,7 @@ use Rattle.kb_rows.specs.declared.TranscriptFault.TheVariants.{Load, Script}
 use Rattle.kb_script.specs.Script.{told_of, bare}
 use Rattle.kb_script.specs.declared.fault.ScriptFault.{ScriptFault}
 use Rattle.kb_script.specs.declared.fault.ScriptFault.TheVariants as script
-use Rattle.kb_session.specs.Load.{Files, held_by}
+use Rattle.kb_bindings.specs.Load.{Files, held_by}
 use Rattle.kb_session.specs.Session.{loaded, marks_by}
 use Rattle.kb_session.specs.State.{State, Told, next}
 use Rattle.kb_stream.specs.Fold.{Traced}

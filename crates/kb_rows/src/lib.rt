@@ -5,11 +5,12 @@
 
 ghost use Rattle.std.specs.Prelude.{IfOk, IfErr};
 ghost use Rattle.kb_rows.specs.Transcript.{IsTranscript, FailsToGive};
-ghost use Rattle.kb_session.specs.Load.{files_of};
+ghost use Rattle.kb_bindings.specs.Load.{files_of};
 
+use kb_bindings::{Inputs, LoadFault};
 use kb_context::Failure;
 use kb_script::{ScriptFault, run_script};
-use kb_session::{Inputs, LoadFault, Session};
+use kb_session::Session;
 use std::alloc::Global;
 
 /// Why there is no transcript.

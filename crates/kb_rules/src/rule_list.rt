@@ -1,5 +1,5 @@
 //! The rules of one file.
-ghost use Rattle.std.specs.Prelude.{◌≡◌, ◌+◌, [], ◌++◌, length, IfOk, OnOk, map};
+ghost use Rattle.std.specs.Prelude.{◌≡◌, ◌+◌, [], ◌++◌, length, IfOk, OnOk, Ok, map};
 ghost use Rattle.serde_json.specs.View.{view};
 ghost use Rattle.kb_context.specs.Reading.{seen};
 ghost use Rattle.kb_rules.specs.Entry.{entry_of};
@@ -143,20 +143,48 @@ impl RuleList {
         ensures right { OnOk result (IsRight read) }
     {
         match read {
-            Ok(Entry::Starts(rule)) => {
-                self.note(&rule.when, origin, place)?;
-                self.rules.push(Rc::new(alloc, rule)?)?;
-            }
-            Ok(Entry::Removes(removal)) => {
-                self.note(&removal.when, origin, place)?;
-                self.removals.push(Rc::new(alloc, removal)?)?;
-            }
+            Ok(Entry::Starts(rule)) => self.take_rule(alloc, rule, origin, place),
+            Ok(Entry::Removes(removal)) => self.take_removal(alloc, removal, origin, place),
             Err(number) => self.warn(Warning {
                 origin,
                 number,
                 place,
-            })?,
+            }),
         }
+    }
+
+    /// Adds a rule at the bottom, with its unread patterns.
+    fn take_rule(
+        &mut self,
+        alloc: Global,
+        rule: Rule,
+        origin: Origin,
+        place: usize,
+    ) -> Result<(), NoMemory>
+        ensures taken { OnOk result (self.new ≡ with_read origin place (Ok (Entry.Starts rule)) self.old) }
+        ensures whole { OnOk result (IsWhole (Ok (Entry.Starts rule))) }
+        ensures right { OnOk result (IsRight (Ok (Entry.Starts rule))) }
+    {
+        self.note(&rule.when, origin, place)?;
+        self.rules.push(Rc::new(alloc, rule)?)?;
+        Ok(())
+    }
+
+    /// Adds a removal, with its unread patterns.
+    fn take_removal(
+        &mut self,
+        alloc: Global,
+        removal: Removal,
+        origin: Origin,
+        place: usize,
+    ) -> Result<(), NoMemory>
+        ensures taken { OnOk result
+            (self.new ≡ with_read origin place (Ok (Entry.Removes removal)) self.old) }
+        ensures whole { OnOk result (IsWhole (Ok (Entry.Removes removal))) }
+        ensures right { OnOk result (IsRight (Ok (Entry.Removes removal))) }
+    {
+        self.note(&removal.when, origin, place)?;
+        self.removals.push(Rc::new(alloc, removal)?)?;
         Ok(())
     }
 }

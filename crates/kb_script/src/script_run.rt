@@ -118,8 +118,8 @@ fn run_line<W: Write>(
     }
 }
 
-/// Has the session do what a line tells, if it tells something, with the marks that it found. Where memory is refused, also to reading
-/// the line, the session is stopped.
+/// Has the session do what a line tells, if it tells something, with the marks that it found. Where memory
+/// is refused, also to reading the line, the session is stopped.
 #[tactic(auto, using(crate::proofs::ScriptRuns::halting))]
 fn obey(alloc: Global, number: u64, line: &[u8], session: &mut Session) -> Result<(), NoMemory>
     requires { session.old.state.stopped ≡ false }

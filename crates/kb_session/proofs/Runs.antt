@@ -5,7 +5,7 @@ use Rattle.kb_session.specs.declared.fault.SessionFault.TheVariants as fault
 use Rattle.kb_session.specs.Session.{took, halt, half_done, Halts, HaltsAt, FailsAt, FailsAmong}
 use Rattle.kb_session.specs.State.{State, Told, happens, reload, step_unless, next, out_of}
 use Rattle.kb_stream.specs.Fold.{Traced, nothing, fold, after_all}
-use Rattle.kb_stream.proofs.FoldLemmas.{fold-still, after_none, RunsUpTo, run_start, run_step, run_end}
+use Rattle.kb_stream.proofs.FoldLemmas.{fold-still, RunsUpTo, run_start, run_step, run_end}
 use Rattle.kb_stream.proofs.FoldLemmas.{run_stop}
 use Rattle.kb_trace.specs.declared.event.Event.TheVariants as event
 

@@ -9,8 +9,8 @@ use Rattle.kb_rules.specs.declared.origin.Origin.TheVariants.{User}
 use Rattle.kb_session.specs.Session.{Halts}
 use Rattle.kb_session.specs.State.{State, Told, happens, reload, step, step_on, step_unless, next}
 use Rattle.kb_session.specs.State.{taken_unless, reloaded, refusal_of}
-use Rattle.kb_session.specs.Unread.{in_rules}
-use Rattle.kb_session.specs.declared.unread.UnreadIn.{UnreadIn}
+use Rattle.kb_bindings.specs.Unread.{in_rules}
+use Rattle.kb_bindings.specs.declared.unread.UnreadIn.{UnreadIn}
 use Rattle.kb_stream.specs.Fold.{fold}
 use Rattle.kb_trace.specs.declared.event.Event.{Event}
 use Rattle.kb_trace.specs.declared.event.Event.TheVariants as event

@@ -1,9 +1,4 @@
-pub mod Bindings
 pub mod Fault
-pub mod Load
 pub mod Session
-pub mod Sources
 pub mod Start
 pub mod State
-pub mod Unread
-pub mod Warning

@@ -6,14 +6,15 @@ use Rattle.kb_context.specs.Scopes.{ScopesData}
 use Rattle.kb_context.specs.declared.failure.Failure.{Failure}
 use Rattle.kb_core.specs.declared.run.Core.{Core}
 use Rattle.kb_keys.specs.declared.keystroke.Keystroke.{Keystroke}
-use Rattle.kb_session.specs.Load.{Files, LoadMarks, held_by, sources_by, marks_told}
-use Rattle.kb_session.specs.Sources.{Sources}
+use Rattle.kb_bindings.specs.Load as load
+use Rattle.kb_bindings.specs.Load.{Files, LoadMarks, held_by, marks_told}
+use Rattle.kb_bindings.specs.Sources.{Sources}
 use Rattle.kb_session.specs.State.{State, Told, happens, Answered, did, refused, step, step_on, out_of, next}
 use Rattle.kb_session.specs.State.{loaded_state}
-use Rattle.kb_session.specs.declared.fault.LoadFault.{LoadFault}
+use Rattle.kb_bindings.specs.declared.fault.LoadFault.{LoadFault}
 use Rattle.kb_session.specs.declared.fault.SessionFault.{SessionFault}
 use Rattle.kb_session.specs.declared.fault.SessionFault.TheVariants.{NoMemory, Stopped}
-use Rattle.kb_session.specs.declared.unread.UnreadIn.{UnreadIn}
+use Rattle.kb_bindings.specs.declared.unread.UnreadIn.{UnreadIn}
 use Rattle.kb_stream.specs.Fold.{Traced, after, after_all, StopsAmong}
 use Rattle.kb_trace.specs.declared.event.Answer.{Answer}
 use Rattle.kb_trace.specs.declared.event.Answer.TheVariants as answer
@@ -28,8 +29,7 @@ loaded_session scopes sources = record { state = loaded_state scopes sources; tr
 
 -- what files load, for the marks of their patterns: a session, or the first file's fault
 abbrev pub loaded : LoadMarks → Files → Result Seen LoadFault
-loaded marks files =
-    seen (λ held. loaded_session held.scopes (sources_by marks files.platform held)) (held_by files)
+loaded marks files = seen (λ l. loaded_session l.scopes l.bindings) (load.loaded marks files)
 
 -- the first list of unread patterns that a session tells, that of its load
 abbrev pub first_list : List (List UnreadIn) → List UnreadIn

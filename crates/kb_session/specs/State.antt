@@ -16,10 +16,10 @@ use Rattle.kb_keys.specs.declared.keystroke.Keystroke.{Keystroke}
 use Rattle.kb_rules.specs.RuleList.{Listed}
 use Rattle.kb_rules.specs.declared.origin.Origin.TheVariants.{User}
 use Rattle.kb_rules.specs.declared.unread.UnreadAt.{UnreadAt}
-use Rattle.kb_session.specs.Sources.{Sources, with_user_rules, pressed, still_pressed}
+use Rattle.kb_bindings.specs.Sources.{Sources, with_user_rules, pressed, still_pressed}
 use Rattle.kb_session.specs.Start.{Started, press_started}
-use Rattle.kb_session.specs.Unread.{in_rules, unread_of}
-use Rattle.kb_session.specs.declared.unread.UnreadIn.{UnreadIn}
+use Rattle.kb_bindings.specs.Unread.{in_rules, unread_of}
+use Rattle.kb_bindings.specs.declared.unread.UnreadIn.{UnreadIn}
 use Rattle.kb_stream.specs.Fold.{Out}
 use Rattle.kb_trace.specs.Lines as line
 use Rattle.kb_trace.specs.declared.event.Event.{Event}
@@ -81,9 +81,9 @@ begun p pressed s = stepped (record s { core = p.core; pressed = pressed }) p.li
 -- a press looks at what the focus sees at that moment
 abbrev pub press : Keystroke → State → Stepped
 press key s =
-    let does = pressed s.pressed key s.core s.sources in
+    let does = pressed s.pressed key s.core.scopes s.sources in
     begun (press_started (line.key_text s.pressed key) does s.core)
-    (still_pressed s.pressed key s.core s.sources) s
+    (still_pressed s.pressed key s.core.scopes s.sources) s
 
 -- why an event is refused, if it is
 abbrev pub unless_known : Option ℕ → Option ScopeFault

@@ -1,33 +1,10 @@
-//! Why a load or a call of a session was refused. The numbers are the engine's own.
+//! Why a call of a session was refused. The numbers are the engine's own.
 ghost use Rattle.std.specs.Prelude.{◌≡◌};
 ghost use Rattle.kb_session.specs.Fault as fault;
 
-use kb_context::{Failure, NoMemory, Refusal};
+use kb_context::{Failure, NoMemory};
 use std::alloc::AllocError;
-use std::fmt;
 use thiserror::Error;
-
-/// A file that a load reads, in the order of loading.
-#[derive(Clone, Copy, Debug, PartialEq, Eq)]
-pub enum LoadFile {
-    /// The layout of the scopes.
-    Layout,
-    /// The default rules.
-    Defaults,
-    /// The user's rules.
-    User,
-    /// All extensions together.
-    Extensions,
-    /// The `package.json` of an extension, by its number in load order, from 0 on.
-    Package(usize),
-}
-
-/// Why a session was not loaded: the first file in the order of loading that is refused, and why.
-#[derive(Debug, Drop)]
-pub struct LoadFault {
-    pub file: LoadFile,
-    pub refusal: Refusal,
-}
 
 /// Why a call of a session did nothing more.
 #[derive(Clone, Copy, Debug, PartialEq, Eq, Error)]
@@ -38,47 +15,6 @@ pub enum SessionFault {
     /// The session was stopped before.
     #[error("the session is stopped")]
     Stopped,
-}
-
-/// Shows the word by which the line of a refused load names the file.
-impl fmt::Display for LoadFile {
-    ghost use Rattle.std.specs.Prelude.{Some};
-    ghost use Rattle.kb_session.specs.Fault.{load_file_word};
-
-    ghost output = { λ file. Some (load_file_word file) };
-
-    fn fmt<W: fmt::Write>(&self, f: &mut fmt::Formatter<W>) -> fmt::Result {
-        match self {
-            LoadFile::Layout => f.write_str("layout"),
-            LoadFile::Defaults => f.write_str("defaults"),
-            LoadFile::User => f.write_str("user"),
-            LoadFile::Extensions => f.write_str("extensions"),
-            LoadFile::Package(number) => write!(f, "ext {number} package.json"),
-        }
-    }
-}
-
-/// Why a load failed, by the failure of one of its files. It takes no memory.
-pub(crate) fn failure_of(file: LoadFile, failure: Failure<Refusal>) -> Failure<LoadFault>
-    ensures { result ≡ fault.failure_of file failure }
-{
-    match failure {
-        Failure::NoMemory => Failure::NoMemory,
-        Failure::Fault(refusal) => Failure::Fault(LoadFault { file, refusal }),
-    }
-}
-
-/// What was read of a file, or the failure of that file. It takes no memory.
-pub(crate) fn of_file<T: Drop>(
-    file: LoadFile,
-    read: Result<T, Failure<Refusal>>,
-) -> Result<T, Failure<LoadFault>>
-    ensures { result ≡ fault.of_file file read }
-{
-    match read {
-        Ok(value) => Ok(value),
-        Err(failure) => Err(failure_of(file, failure)),
-    }
 }
 
 /// The fault that a failure is, or refused memory. It takes no memory.

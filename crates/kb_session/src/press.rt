@@ -1,12 +1,12 @@
 //! A press: the rule that it starts, and the lines of that.
-ghost use Rattle.std.specs.Prelude.{◌≡◌, ◌++◌, OnOk, OnErr, option_map, string_bytes};
+ghost use Rattle.std.specs.Prelude.{◌≡◌, ◌++◌, OnOk, OnErr, string_bytes};
 ghost use Rattle.kb_session.specs.Session.{Begins};
-ghost use Rattle.kb_session.specs.Sources.{pressed, still_pressed};
+ghost use Rattle.kb_bindings.specs.Sources.{pressed, still_pressed};
 ghost use Rattle.kb_session.specs.Start.{press_started, rule_started};
 ghost use Rattle.kb_trace.specs.Lines as line;
 
-use crate::bindings::Bindings;
 use crate::start::start_command;
+use kb_bindings::Bindings;
 use kb_context::NoMemory;
 use kb_core::HeldCore;
 use kb_keys::Keystroke;
@@ -27,12 +27,12 @@ pub(crate) fn press_key(
     bindings: &Bindings,
     trace: &mut Lines,
 ) -> Result<(), NoMemory>
-    ensures core { let does = pressed chord.old key core.old bindings.now in
+    ensures core { let does = pressed chord.old key core.old.scopes bindings.now in
         OnOk result (core.new ≡ (press_started (line.key_text chord.old key) does core.old).core) }
-    ensures trace { let does = pressed chord.old key core.old bindings.now in
+    ensures trace { let does = pressed chord.old key core.old.scopes bindings.now in
         OnOk result
         (trace.new ≡ trace.old ++ (press_started (line.key_text chord.old key) does core.old).lines) }
-    ensures pressed { OnOk result (chord.new ≡ still_pressed chord.old key core.old bindings.now) }
+    ensures pressed { OnOk result (chord.new ≡ still_pressed chord.old key core.old.scopes bindings.now) }
     ensures err { OnErr result (Begins trace.old trace.new) }
 {
     let key = &key;

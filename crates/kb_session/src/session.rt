@@ -4,24 +4,23 @@ ghost use Rattle.std.specs.Prelude.{OnOk, OnErr, IfOk, IfErr};
 ghost use Rattle.kb_context.specs.Refusal.{refused_for};
 ghost use Rattle.kb_context.specs.ScopeFault.{number_of};
 ghost use Rattle.kb_rules.specs.RuleList.{AreRightlyMarked};
-ghost use Rattle.kb_session.specs.Load.{files_of, MarksAreRight};
-ghost use Rattle.kb_session.specs.Session.{loaded_session, Loads, Takes, Does, halt, Undone, HalfDone};
+ghost use Rattle.kb_bindings.specs.Load.{files_of, MarksAreRight};
+ghost use Rattle.kb_session.specs.Session.{Loads, Takes, Does, halt, Undone, HalfDone};
 ghost use Rattle.kb_session.specs.Session.{FailsAt, FailsAmong};
-ghost use Rattle.kb_session.specs.Sources.{source_of};
+ghost use Rattle.kb_bindings.specs.Sources.{source_of};
 ghost use Rattle.kb_session.specs.State.{happens, reload, next, left_lines, with_user};
-ghost use Rattle.kb_session.specs.Warning.{warnings_of};
+ghost use Rattle.kb_bindings.specs.Unread.{unread_of};
+ghost use Rattle.kb_bindings.specs.Warning.{warnings_of};
 ghost use Rattle.kb_session.specs.declared.fault.SessionFault.TheVariants.{NoMemory};
 ghost use Rattle.kb_stream.specs.Fold.{after_all};
 ghost use Rattle.kb_trace.specs.Lines as line;
 
-use crate::bindings::Bindings;
-use crate::fault::{LoadFault, LoadFile, SessionFault, fault_in};
-use crate::inputs::Inputs;
-use crate::load::{load_extensions, load_rules, load_scopes};
+use crate::fault::{SessionFault, fault_in};
 use crate::press::press_key;
-use crate::unread::{UnreadIn, unread_rules};
-use crate::warning::Warning;
-use kb_context::{ContextValue, Failure, NoMemory, Refusal, ScopeFault, Scopes, Seq};
+use kb_bindings::{
+    Bindings, Inputs, LoadFault, Loaded, UnreadIn, Warning, load_files, unread_rules,
+};
+use kb_context::{ContextValue, Failure, NoMemory, Refusal, ScopeFault, Seq};
 use kb_core::{Core, HeldCore};
 use kb_files::read_rules;
 use kb_keys::Keystroke;
@@ -58,7 +57,7 @@ impl Model for Session {
     ghost use Rattle.kb_rules.specs.contracts.unread.UnreadAt as marks;
     ghost use Rattle.kb_rules.specs.contracts.warning.Warning as warning;
     ghost use Rattle.kb_session.specs.State.{State};
-    ghost use Rattle.kb_session.specs.contracts.unread.UnreadIn as told;
+    ghost use Rattle.kb_bindings.specs.contracts.unread.UnreadIn as told;
     ghost use Rattle.kb_stream.specs.Fold.{Traced};
 
     ghost Value = { Traced State };
@@ -93,26 +92,15 @@ impl Session {
     /// 41, 21, 22), the default rules, the user's rules (1 to 4, 41 each), more than 100 extensions (44), the
     /// manifests in load order (1 to 4, 40, 41), an extension that repeats the identifier of an earlier one
     /// (91), one that depends on an extension that isn't before it (90); or refused memory.
+    #[tactic(auto, using(crate::proofs::LoadLemmas::session_loaded))]
     pub fn load(alloc: Global, inputs: Inputs<'_>) -> Result<Session, Failure<LoadFault>>
         ensures read { Loads (files_of inputs.entry) result }
 
         // A pattern is told as unread only where `regex` doesn't read it, and isn't told only where it does.
         ensures right { IfOk result (λ session. MarksAreRight (files_of inputs.entry) session.state.sources) }
     {
-        let scopes = load_scopes(alloc, inputs.layout)?;
-        let defaults = load_rules(alloc, LoadFile::Defaults, inputs.defaults, Origin::Defaults)?;
-        let user = load_rules(alloc, LoadFile::User, inputs.user, Origin::User)?;
-        let extensions = load_extensions(alloc, inputs.manifests, inputs.platform)?;
-        let bindings = Bindings::new(alloc, defaults, extensions, user)?;
-        Ok(Session::begin(alloc, scopes, bindings)?)
-    }
-
-    /// A session with these scopes and rules, without text and trace.
-    fn begin(alloc: Global, scopes: Scopes, bindings: Bindings) -> Result<Session, NoMemory>
-        ensures { IfOk result (λ session. session ≡ loaded_session scopes bindings) }
-    {
-        let mut unread = Seq::new(alloc);
-        unread.push(bindings.unread(alloc)?)?;
+        let Loaded { scopes, bindings } = load_files(alloc, inputs)?;
+        let unread = first_list(alloc, &bindings)?;
         Ok(Session {
             core: HeldCore::new(Core::new(alloc, scopes)),
             bindings,
@@ -131,9 +119,9 @@ impl Session {
         &self.trace
     }
 
-    /// What is said of the entries of the files as they stand: of the default rules, of the extensions in load
-    /// order, of each its commands, its rules and its items of the palette, and of the user's rules. It takes
-    /// no memory.
+    /// What is said of the entries of the files as they stand: of the default rules, of the extensions in
+    /// load order, of each its commands, its rules and its items of the palette, and of the user's rules. It
+    /// takes no memory.
     pub fn warnings(&self) -> &[Warning]
         ensures { result.now ≡ warnings_of self.now.state.sources }
     {
@@ -148,9 +136,9 @@ impl Session {
         self.bindings.source(origin)
     }
 
-    /// The patterns of clauses that weren't read, of the files of the load and then of the rules of each reload
-    /// that was taken, each list in the order of `warnings`: with the bytes that it was told, these determine
-    /// what the session does. It takes no memory.
+    /// The patterns of clauses that weren't read, of the files of the load and then of the rules of each
+    /// reload that was taken, each list in the order of `warnings`: with the bytes that it was told, these
+    /// determine what the session does. It takes no memory.
     pub fn unread(&self) -> &[Seq<UnreadIn>]
         ensures { result.now ≡ self.now.state.unread }
     {
@@ -340,6 +328,18 @@ impl Session {
         lines::left_line(&mut self.trace, pressed)
     }
 
+    /// Notes that the user's rules were read anew, which leaves a chord.
+    #[tactic(auto, using(crate::proofs::Undoing::undoing))]
+    fn note_reload(&mut self) -> Result<(), NoMemory>
+        ensures ok { OnOk result (self.new ≡ record self.old {
+          trace = self.old.trace ++ (left_lines self.old.state.pressed ++ line.reloaded_line ∷ []);
+        }) }
+        ensures err { OnErr result (Undone self.old self.new) }
+    {
+        self.note_leaving()?;
+        lines::reloaded_line(&mut self.trace)
+    }
+
     /// Takes back all lines but the first ones, and notes the line of a refusal in their place.
     fn refuse_instead(&mut self, mark: usize, fault: ScopeFault) -> Result<Answer, NoMemory>
         ensures answer { IfOk result (λ answer. answer ≡ Answer.Refused (refused_for (number_of fault))) }
@@ -389,13 +389,21 @@ impl Session {
         }) }
         ensures err { OnErr result (Undone self.old self.new) }
     {
+        self.note_reload()?;
         let unread = unread_rules(self.alloc, Origin::User, &user)?;
         let renewed = self.bindings.renewed(self.alloc, user)?;
-        self.note_leaving()?;
-        lines::reloaded_line(&mut self.trace)?;
         self.unread.push(unread)?;
         self.chord.leave();
         self.bindings.renew(renewed);
         Ok(())
     }
+}
+
+/// The lists of unread patterns that a session has at first: that of its load.
+fn first_list(alloc: Global, bindings: &Bindings) -> Result<Seq<Seq<UnreadIn>>, NoMemory>
+    ensures { IfOk result (λ lists. lists ≡ unread_of bindings.now ∷ []) }
+{
+    let mut lists = Seq::new(alloc);
+    lists.push(bindings.unread(alloc)?)?;
+    Ok(lists)
 }

@@ -35,6 +35,18 @@ unset_line scope key = codes "unset " ++ (scope ++ (codes " " ++ key))
 abbrev pub reloaded_line : List ℕ
 reloaded_line = codes "reloaded"
 
+-- registered type 10
+abbrev pub registered_line : List ℕ → ℕ → List ℕ
+registered_line command ticket = codes "registered " ++ (command ++ (codes " " ++ decimal ticket))
+
+-- disposed type 10
+abbrev pub disposed_line : List ℕ → ℕ → List ℕ
+disposed_line command ticket = codes "disposed " ++ (command ++ (codes " " ++ decimal ticket))
+
+-- run type
+abbrev pub run_line : List ℕ → List ℕ
+run_line command = codes "run " ++ command
+
 -- refused 4 Syntax, and refused 73 InUse x.hi
 abbrev pub refused_words : ℕ → Option (List ℕ) → List ℕ
 refused_words number None = codes "refused " ++ (decimal number ++ (codes " " ++ fault_name number))

@@ -1,6 +1,6 @@
 //! The lines of a trace. Each is written into the text of `Lines::begin_line`, so that it takes no memory of
 //! its own for long; where memory is refused, the lines stay as they were.
-ghost use Rattle.std.specs.Prelude.{◌≡◌, [], ◌∷◌, ◌++◌, IfOk, OnOk, OnErr, string_bytes};
+ghost use Rattle.std.specs.Prelude.{◌≡◌, [], ◌∷◌, ◌++◌, IfOk, OnOk, OnErr, string_bytes, codes, decimal};
 ghost use Rattle.kb_trace.specs.Lines as line;
 
 use json::Writer;
@@ -102,6 +102,42 @@ pub fn reloaded_line(lines: &mut Lines) -> Result<(), NoMemory>
     let mut text = lines.begin_line();
     text.push_str("reloaded")?;
     lines.push(text)
+}
+
+/// `registered COMMAND TICKET`, for a closure that was registered.
+pub fn registered_line(lines: &mut Lines, command: &str, ticket: u64) -> Result<(), NoMemory>
+    ensures ok { OnOk result (lines.new ≡ lines.old ++ line.registered_line command.now ticket ∷ []) }
+    ensures err { OnErr result (lines.new ≡ lines.old) }
+{
+    ticketed(lines, "registered ", command, ticket)
+}
+
+/// `disposed COMMAND TICKET`, for a closure that was disposed.
+pub fn disposed_line(lines: &mut Lines, command: &str, ticket: u64) -> Result<(), NoMemory>
+    ensures ok { OnOk result (lines.new ≡ lines.old ++ line.disposed_line command.now ticket ∷ []) }
+    ensures err { OnErr result (lines.new ≡ lines.old) }
+{
+    ticketed(lines, "disposed ", command, ticket)
+}
+
+/// A line of words, a name and the number of its ticket.
+fn ticketed(lines: &mut Lines, words: &str, name: &str, ticket: u64) -> Result<(), NoMemory>
+    ensures ok { OnOk result
+        (lines.new ≡ lines.old ++ (words.now ++ (name.now ++ (codes " " ++ decimal ticket))) ∷ []) }
+    ensures err { OnErr result (lines.new ≡ lines.old) }
+{
+    let mut text = lines.begin_line();
+    text.push_str(words)?;
+    write!(text, "{name} {ticket}")?;
+    lines.push(text)
+}
+
+/// `run COMMAND`, for an element of `runCommands` that starts.
+pub fn run_line(lines: &mut Lines, command: &str) -> Result<(), NoMemory>
+    ensures ok { OnOk result (lines.new ≡ lines.old ++ line.run_line command.now ∷ []) }
+    ensures err { OnErr result (lines.new ≡ lines.old) }
+{
+    worded(lines, "run ", command)
 }
 
 /// `refused NUMBER NAME`, for what is refused, and behind it what the refusal says more.

@@ -1,7 +1,7 @@
 -- What `regex` ensures of a pattern, in the words of this crate.
 use Rattle.std.proofs.Common.{◌≡◌, ◌≢◌, inl, inr, ℕ, ◌≤◌, ◌<◌, List, Bool, true, false, Option, Some}
 use Rattle.std.proofs.Common.{None, is_some, is_none, not, IsSomeAnd, IfSome, get_or, refl, sym, ◌∙◌, ap}
-use Rattle.std.proofs.Common.{subst, arith, Result, Ok, Err, IfOk, IfErr}
+use Rattle.std.proofs.Common.{subst, arith, option_map, Result, Ok, Err, IfOk, IfErr}
 use Rattle.std.specs.Prelude.{chars}
 use Rattle.std.proofs.lemmas.Bool.{false≢true}
 use Rattle.std.proofs.lemmas.Bool.Decides.{nat_tests}
@@ -111,6 +111,28 @@ held p text flags o r hay h e v bytes =
     ∙ ap (λ (b : Bool). pattern_holds (record { text = text; flags = flags; unread = b }) hay)
     (sym (ap is_none e))
     ∙ ap (λ (x : MarkedPattern). pattern_holds x hay) v
+
+-- the same of what is compiled in a place of its own
+module _ {B : Type 0} (regex_of : B → Regex) (text : List ℕ) (flags : Flags) where
+  pub right_mark_apart : (o : Option B) → Stands text flags (option_map regex_of o)
+      → HasRightMark (record { text = text; flags = flags; unread = is_none o })
+  right_mark_apart None h = right_mark text flags None h
+  right_mark_apart (Some b) h = right_mark text flags (Some (regex_of b)) h
+
+  pub marked_apart : (compiled : Option Regex) (o : Option B) → option_map regex_of o ≡ compiled
+      → Stands text flags compiled → is_none o ≡ not (is_read (config_of flags) text)
+  marked_apart compiled None e h = marked text flags None (subst (Stands text flags) (sym e) h)
+  marked_apart compiled (Some b) e h =
+      marked text flags (Some (regex_of b)) (subst (Stands text flags) (sym e) h)
+
+  pub held_apart : (p : MarkedPattern) (o : Option B) (b : B) (hay : List ℕ)
+      → Stands text flags (option_map regex_of o) → o ≡ Some b
+      → record { text = text; flags = flags; unread = is_none o } ≡ p
+      → ((k : ℕ) → get_or hay k 0 < 256)
+      → is_some (find_str (regex_pattern (regex_of b)) hay 0) ≡ pattern_holds p hay
+  held_apart p None b hay h e v bytes = absurd (cc)
+  held_apart p (Some x) b hay h e v bytes =
+      held p text flags (Some (regex_of x)) (regex_of b) hay h (ap (option_map regex_of) e) v bytes
 
 -- what `regex` took or refused stands as it must
 pub stands_by : (text : List ℕ) (flags : Flags) (k : Config) (s : List ℕ) (built : Result Regex Error)

@@ -1,5 +1,5 @@
 //! Patterns that `regex` reads, or doesn't.
-ghost use Rattle.std.specs.Prelude.{◌≡◌, IfOk, not};
+ghost use Rattle.std.specs.Prelude.{◌≡◌, IfOk, not, option_map};
 ghost use Rattle.regex.specs.Views.{builder_source, builder_config};
 ghost use Rattle.kb_when.specs.Pattern.{config_of, is_read, pattern_holds, Stands, compiled_of};
 
@@ -11,23 +11,23 @@ use std::fmt;
 use std::marker::Model;
 
 /// A pattern with its flags, compiled once. One that `regex` doesn't read is marked, and matches
-/// nothing.
+/// nothing. What is compiled takes more than a kilobyte, so it stands apart: most clauses have no pattern.
 #[derive(Drop)]
 pub(crate) struct Pattern {
     text: Text,
     flags: Flags,
-    compiled: Option<Regex>,
+    compiled: Option<Box<Regex>>,
 }
 
 impl Model for Pattern {
-    ghost use Rattle.std.specs.Prelude.{is_none};
+    ghost use Rattle.std.specs.Prelude.{is_none, option_map};
     ghost use Rattle.kb_when.specs.Pattern.{MarkedPattern, Stands};
 
     ghost Value = { MarkedPattern };
 
     ghost view = { λ p. record { text = p.text; flags = p.flags; unread = is_none p.compiled } };
 
-    ghost invariant = { λ p. Stands p.text p.flags p.compiled };
+    ghost invariant = { λ p. Stands p.text p.flags (option_map (λ b. b.value) p.compiled) };
 }
 
 impl Pattern {
@@ -39,7 +39,7 @@ impl Pattern {
     pub(crate) fn new(alloc: Global, text: Text, flags: Flags) -> Result<Pattern, NoMemory>
         ensures { IfOk result (λ pattern. pattern ≡ marked_pattern text flags) }
     {
-        let compiled = compile(alloc, text.as_str(), flags)?;
+        let compiled = set_apart(alloc, compile(alloc, text.as_str(), flags)?)?;
         Ok(Pattern {
             text,
             flags,
@@ -116,6 +116,16 @@ fn compile(alloc: Global, text: &str, flags: Flags) -> Result<Option<Regex>, NoM
     ensures { IfOk result (Stands text.now flags) }
 {
     compiled_of(builder(text, flags).build(alloc))
+}
+
+/// The same in a place of its own.
+fn set_apart(alloc: Global, compiled: Option<Regex>) -> Result<Option<Box<Regex>>, NoMemory>
+    ensures { IfOk result (λ apart. option_map (λ b. b.value) apart ≡ compiled) }
+{
+    match compiled {
+        Some(regex) => Ok(Some(Box::new(alloc, regex)?)),
+        None => Ok(None),
+    }
 }
 
 fn builder<'t>(text: &'t str, flags: Flags) -> RegexBuilder<'t>

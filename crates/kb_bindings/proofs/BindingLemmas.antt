@@ -1,0 +1,33 @@
+-- The commands of a table in turn.
+use Rattle.std.proofs.Common.{◌≡◌, ◌<◌, ◌+◌, ℕ, List, [], ◌∷◌, ◌++◌, ◌∙◌, map, drop, length, ap, sym, arith, Some, None}
+use Rattle.std.proofs.lemmas.List.{append_assoc, drop_more}
+use Rattle.std.proofs.lemmas.Option.{get_or_from_slice_get, slice_get_within, slice_get-get_or}
+use Rattle.std.specs.List.{slice_get}
+use Rattle.kb_manifest.specs.declared.command_table.Named.{Named}
+use Rattle.kb_resolve.specs.declared.enablements.Contribution.{Contribution}
+use Rattle.kb_bindings.specs.Sources.{contribution_of}
+
+left_behind : (commands : List Named) (n : ℕ) (e : Named) → slice_get commands n ≡ Some e
+    → map contribution_of (drop n commands) ≡ contribution_of e ∷ map contribution_of (drop (n + 1) commands)
+left_behind commands n e at =
+    ap (map contribution_of) (drop_more commands n e (slice_get_within commands n e at))
+    ∙ ap (λ (x : Named). contribution_of x ∷ map contribution_of (drop (n + 1) commands))
+    (get_or_from_slice_get commands n e e at)
+
+-- one more, and then those that are left
+pub one_contributed : (now before whole : List Contribution) (commands : List Named) (n : ℕ) (e : Named)
+    → slice_get commands n ≡ Some e → now ≡ before ++ contribution_of e ∷ []
+    → before ++ map contribution_of (drop n commands) ≡ whole
+    → now ++ map contribution_of (drop (n + 1) commands) ≡ whole
+one_contributed now before whole commands n e at made so_far =
+    ap (λ (xs : List Contribution). xs ++ map contribution_of (drop (n + 1) commands)) made
+    ∙ append_assoc before (contribution_of e ∷ []) (map contribution_of (drop (n + 1) commands))
+    ∙ ap (λ (xs : List Contribution). before ++ xs) (sym (left_behind commands n e at))
+    ∙ so_far
+
+pub none_left : (commands : List Named) (n : ℕ) → n < length commands → slice_get commands n ≡ None → ⊥
+none_left [] n below at = omega (arith, below)
+none_left (e ∷ commands) n below at =
+    let there = slice_get-get_or (e ∷ commands) n e below in
+    let both = sym there ∙ at in
+    cc

@@ -1,0 +1,3 @@
+pub mod BindingLemmas
+pub mod LoadLemmas
+pub mod ToldLemmas

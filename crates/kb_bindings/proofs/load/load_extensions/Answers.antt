@@ -1,0 +1,15 @@
+use Rattle.std.proofs.Common.{◌≤◌, length, rules}
+use Rattle.kb_bindings.proofs.LoadLemmas.{identifiers_fail, identifiers_pass}
+use Rattle.kb_bindings.proofs.load.load_extensions.Goals as goal
+
+pub returns-in-Some-clause-read : goal.returns-in-Some-clause-read
+returns-in-Some-clause-read c =
+    let few : length c.args.manifests.now ≤ 100 = search rules in
+    identifiers_fail c.args.platform c.args.manifests.now c.in_ok-extensions.extensions c.in-Some.fault few
+    c.in_ok-extensions.ensures.read (search rules)
+
+pub returns-in-None-clause-read : goal.returns-in-None-clause-read
+returns-in-None-clause-read c =
+    let few : length c.args.manifests.now ≤ 100 = search rules in
+    identifiers_pass c.args.platform c.args.manifests.now c.in_ok-extensions.extensions few
+    c.in_ok-extensions.ensures.read (search rules)

@@ -1,0 +1,6 @@
+pub mod Bindings
+pub mod Fault
+pub mod Load
+pub mod Sources
+pub mod Unread
+pub mod Warning

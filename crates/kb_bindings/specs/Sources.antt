@@ -1,0 +1,58 @@
+-- What binds keys: the default rules, the extensions in load order, and the user's rules. All extensions are
+-- enabled.
+use Rattle.std.specs.Prelude.{ℕ, List, [], map, true, Option, codes, slice_get}
+use Rattle.std.specs.List.{flat_map}
+use Rattle.std.specs.Option.{option_map_or}
+use Rattle.kb_context.specs.Scopes.{ScopesData, context}
+use Rattle.kb_files.specs.declared.extension_file.Extension.{Extension}
+use Rattle.kb_keys.specs.declared.keystroke.Keystroke.{Keystroke}
+use Rattle.kb_manifest.specs.declared.command_table.Named.{Named}
+use Rattle.kb_resolve.specs.ChordState.{step, pressed_after}
+use Rattle.kb_resolve.specs.Enablements.{enablement_of}
+use Rattle.kb_resolve.specs.Pressed.{Step}
+use Rattle.kb_resolve.specs.declared.enablements.Contribution.{Contribution}
+use Rattle.kb_rules.specs.RuleList.{Listed}
+use Rattle.kb_rules.specs.RuleSet.{rules_in_force}
+use Rattle.kb_rules.specs.declared.origin.Origin.{Origin}
+use Rattle.kb_rules.specs.declared.origin.Origin.TheVariants as origin
+use Rattle.kb_rules.specs.declared.rule.Rule.{Rule}
+use Rattle.kb_when.specs.Marks.{MarkedClause}
+
+pub record Sources : Type 0 where
+  pub defaults : Listed
+  pub extensions : List Extension
+  pub user : Listed
+
+-- the rules in force, from the top down
+abbrev pub rules_of : Sources → List Rule
+rules_of s =
+    rules_in_force s.defaults (map (λ e. e.rules) s.extensions) (map (λ e. true) s.extensions) s.user
+
+-- what an extension contributes of its commands
+abbrev pub contribution_of : Named → Contribution
+contribution_of named = record { command = named.name; enablement = named.command.enablement }
+
+abbrev pub contributions_of : Extension → List Contribution
+contributions_of e = map contribution_of e.commands
+
+-- the enablement of a command: that of its first contribution, if it has one
+abbrev pub enablement : Sources → List ℕ → Option MarkedClause
+enablement s = enablement_of (flat_map contributions_of s.extensions)
+
+-- the same with other rules of the user
+abbrev pub with_user_rules : Listed → Sources → Sources
+with_user_rules user s = record s { user = user }
+
+-- how a file is named in messages: an extension's by the identifier, as its manifest spells it
+abbrev pub source_of : Sources → Origin → List ℕ
+source_of s origin.Defaults = codes "defaults"
+source_of s (origin.Extension number) = option_map_or (λ e. e.id) (slice_get s.extensions number) []
+source_of s origin.User = codes "user"
+
+-- what a press does behind these keystrokes, over what the focus sees at that moment
+abbrev pub pressed : List Keystroke → Keystroke → ScopesData → Sources → Step
+pressed before key scopes s = step before key (context scopes) (enablement s) (rules_of s)
+
+-- the keystrokes that are pressed after it
+abbrev pub still_pressed : List Keystroke → Keystroke → ScopesData → Sources → List Keystroke
+still_pressed before key scopes s = pressed_after before key (context scopes) (enablement s) (rules_of s)

@@ -1,0 +1,291 @@
+//! What binds keys, and the search among it.
+ghost use Rattle.std.specs.Prelude.{◌≡◌, ◌++◌, IfOk, OnOk, OnErr, map, true};
+ghost use Rattle.std.specs.List.{flat_map};
+ghost use Rattle.kb_resolve.specs.Enablements.{enablement_in};
+ghost use Rattle.kb_resolve.specs.Pressed.{step_of};
+ghost use Rattle.kb_bindings.specs.Sources.{pressed, still_pressed, rules_of, with_user_rules, source_of};
+ghost use Rattle.kb_bindings.specs.Sources.{contribution_of, contributions_of};
+ghost use Rattle.kb_bindings.specs.Unread as unread;
+ghost use Rattle.kb_bindings.specs.Warning.{warnings_of};
+ghost use Rattle.kb_bindings.specs.Bindings.{IsRenewed, IsSearched};
+ghost use Rattle.kb_resolve.specs.Enablements.{enablement_in};
+
+use crate::unread::{UnreadIn, all_unread};
+use crate::warning::{Warning, all_warnings};
+use kb_context::{NoMemory, Scopes, Seq, Text};
+use kb_files::Extension;
+use kb_keys::Keystroke;
+use kb_manifest::{Command, CommandTable};
+use kb_resolve::{ChordState, Contribution, Enablements, Pressed, Resolver};
+use kb_rules::{Origin, RuleList, RuleSet};
+use std::alloc::Global;
+use std::marker::Model;
+
+/// The default rules, the extensions and the user's rules, with the search among them and what is said of
+/// their entries. Contracts see the three. All extensions are enabled.
+#[derive(Drop)]
+pub struct Bindings {
+    defaults: RuleList,
+    extensions: Seq<Extension>,
+    user: RuleList,
+    resolver: Resolver,
+    enablements: Enablements,
+    warnings: Seq<Warning>,
+}
+
+impl Model for Bindings {
+    ghost use Rattle.std.specs.Prelude.{◌≡◌};
+    ghost use Rattle.std.specs.Coded.{codes};
+    ghost use Rattle.kb_files.specs.contracts.extension_file.Extension as extension;
+    ghost use Rattle.kb_resolve.specs.Enablements.{enablement_in};
+    ghost use Rattle.kb_rules.specs.contracts.removal.Removal as removal;
+    ghost use Rattle.kb_rules.specs.contracts.rule.Rule as rule;
+    ghost use Rattle.kb_rules.specs.contracts.unread.UnreadAt as marks;
+    ghost use Rattle.kb_rules.specs.contracts.warning.Warning as warning;
+    ghost use Rattle.kb_bindings.specs.Bindings.{IsSearched};
+    ghost use Rattle.kb_bindings.specs.Sources.{Sources};
+
+    ghost Value = { Sources };
+
+    ghost coded = { Prim.hlevel (
+      codes,
+      extension.the_row.coded,
+      rule.the_row.coded,
+      removal.the_row.coded,
+      warning.the_row.coded,
+      marks.the_row.coded,
+    ) };
+
+    ghost view = { λ b. record { defaults = b.defaults; extensions = b.extensions; user = b.user } };
+
+    // The search is among their rules and asks their enablements, and what is said is said of them.
+    ghost invariant = { λ b.
+        IsSearched (record { defaults = b.defaults; extensions = b.extensions; user = b.user })
+        b.resolver (enablement_in b.enablements) b.warnings };
+}
+
+/// Other rules of the user, with the search among all rules and what is then said of all entries.
+#[derive(Drop)]
+pub struct Renewed {
+    user: RuleList,
+    resolver: Resolver,
+    warnings: Seq<Warning>,
+}
+
+impl Bindings {
+    /// These rules and extensions, all of them enabled.
+    pub(crate) fn new(
+        alloc: Global,
+        defaults: RuleList,
+        extensions: Seq<Extension>,
+        user: RuleList,
+    ) -> Result<Bindings, NoMemory>
+        ensures { IfOk result (λ made.
+            made ≡ record { defaults = defaults; extensions = extensions; user = user }) }
+    {
+        let Derived {
+            resolver,
+            enablements,
+            warnings,
+        } = derive_all(alloc, &defaults, extensions.as_slice(), &user)?;
+        Ok(Bindings {
+            defaults,
+            extensions,
+            user,
+            resolver,
+            enablements,
+            warnings,
+        })
+    }
+
+    /// Presses a key, over what the focus of the scopes sees.
+    pub fn press<'b>(
+        &'b self,
+        chord: &mut ChordState,
+        stroke: Keystroke,
+        scopes: &Scopes,
+    ) -> Result<Pressed<'b>, NoMemory>
+        ensures step { IfOk result (λ does. step_of does ≡ pressed chord.old stroke scopes.now self.now) }
+        ensures pressed { OnOk result (chord.new ≡ still_pressed chord.old stroke scopes.now self.now) }
+        ensures err { OnErr result (chord.new ≡ chord.old) }
+    {
+        chord.press(stroke, &self.resolver, scopes, &self.enablements)
+    }
+
+    /// What is said of the entries. It takes no memory.
+    pub fn warnings(&self) -> &[Warning]
+        ensures { result.now ≡ warnings_of self.now }
+    {
+        self.warnings.as_slice()
+    }
+
+    /// The patterns of the entries that aren't read.
+    pub fn unread(&self, alloc: Global) -> Result<Seq<UnreadIn>, NoMemory>
+        ensures { IfOk result (λ all. all ≡ unread.unread_of self.now) }
+    {
+        all_unread(
+            alloc,
+            &self.defaults,
+            self.extensions.as_slice(),
+            &self.user,
+        )
+    }
+
+    /// How messages name a file. It takes no memory.
+    pub fn source(&self, origin: Origin) -> &str
+        ensures { result.now ≡ source_of self.now origin }
+    {
+        match origin {
+            Origin::Defaults => "defaults",
+            Origin::Extension(number) => match self.extensions.as_slice().get(number as usize) {
+                Some(extension) => extension.id.as_str(),
+                None => "",
+            },
+            Origin::User => "user",
+        }
+    }
+
+    /// What other rules of the user make of the search, before anything changes.
+    pub fn renewed(&self, alloc: Global, user: RuleList) -> Result<Renewed, NoMemory>
+        ensures { IfOk result (λ renewed. IsRenewed self.now user renewed) }
+    {
+        let extensions = self.extensions.as_slice();
+        let resolver = search_among(alloc, &self.defaults, extensions, &user)?;
+        let warnings = all_warnings(alloc, &self.defaults, extensions, &user)?;
+        Ok(Renewed {
+            user,
+            resolver,
+            warnings,
+        })
+    }
+
+    /// Takes other rules of the user. It takes no memory.
+    pub fn renew(&mut self, renewed: Renewed)
+        requires { IsRenewed self.old renewed.user renewed }
+        ensures { self.new ≡ with_user_rules renewed.user self.old }
+    {
+        let Renewed {
+            user,
+            resolver,
+            warnings,
+        } = renewed;
+        self.user = user;
+        self.resolver = resolver;
+        self.warnings = warnings;
+    }
+}
+
+/// What follows from rules and extensions: the search among the rules, the enablements that it asks, and what
+/// is said of their entries.
+#[derive(Drop)]
+struct Derived {
+    resolver: Resolver,
+    enablements: Enablements,
+    warnings: Seq<Warning>,
+}
+
+/// What follows from these rules and extensions.
+fn derive_all(
+    alloc: Global,
+    defaults: &RuleList,
+    extensions: &[Extension],
+    user: &RuleList,
+) -> Result<Derived, NoMemory>
+    ensures { IfOk result (λ made. IsSearched (record {
+      defaults = defaults.now;
+      extensions = extensions.now;
+      user = user.now;
+    }) made.resolver (enablement_in made.enablements) made.warnings) }
+{
+    let warnings = all_warnings(alloc, defaults, extensions, user)?;
+    let enablements = Enablements::new(alloc, all_contributions(alloc, extensions)?)?;
+    let resolver = search_among(alloc, defaults, extensions, user)?;
+    Ok(Derived {
+        resolver,
+        enablements,
+        warnings,
+    })
+}
+
+/// The search among all rules.
+fn search_among(
+    alloc: Global,
+    defaults: &RuleList,
+    extensions: &[Extension],
+    user: &RuleList,
+) -> Result<Resolver, NoMemory>
+    ensures { IfOk result (λ resolver. resolver ≡ rules_of (record {
+      defaults = defaults.now;
+      extensions = extensions.now;
+      user = user.now;
+    })) }
+{
+    let lists = lists_of(alloc, extensions)?;
+    let enabled = all_enabled(alloc, extensions)?;
+    let rules = RuleSet::assemble(alloc, defaults, lists.as_slice(), enabled.as_slice(), user)?;
+    Ok(Resolver::new(rules))
+}
+
+/// The rules of each extension, lent.
+fn lists_of<'e>(alloc: Global, extensions: &'e [Extension]) -> Result<Vec<&'e RuleList>, NoMemory>
+    ensures { IfOk result (λ lists. map (λ list. list.now) lists.items ≡ map (λ e. e.rules) extensions.now) }
+{
+    let mut lists = Vec::new(alloc);
+    for extension in extensions {
+        lists.push(&extension.rules)?;
+    }
+    Ok(lists)
+}
+
+/// That each extension is enabled.
+fn all_enabled(alloc: Global, extensions: &[Extension]) -> Result<Vec<bool>, NoMemory>
+    ensures { IfOk result (λ enabled. enabled.items ≡ map (λ e. true) extensions.now) }
+{
+    let mut enabled = Vec::new(alloc);
+    for _ in extensions {
+        enabled.push(true)?;
+    }
+    Ok(enabled)
+}
+
+/// What the extensions contribute of their commands, in load order.
+fn all_contributions(alloc: Global, extensions: &[Extension]) -> Result<Vec<Contribution>, NoMemory>
+    ensures { IfOk result (λ made. made.items ≡ flat_map contributions_of extensions.now) }
+{
+    let mut made = Vec::new(alloc);
+    for extension in extensions {
+        contribute(alloc, &extension.commands, &mut made)?;
+    }
+    Ok(made)
+}
+
+/// Adds what these commands contribute.
+fn contribute(
+    alloc: Global,
+    commands: &CommandTable,
+    made: &mut Vec<Contribution>,
+) -> Result<(), NoMemory>
+    ensures { OnOk result (made.new.items ≡ made.old.items ++ map contribution_of commands.now) }
+{
+    for number in 0..commands.len() {
+        if let Some((name, command)) = commands.at(number) {
+            made.push(contribution(alloc, name, command)?)?;
+        }
+    }
+    Ok(())
+}
+
+/// What a command contributes. Its enablement is shared.
+fn contribution(alloc: Global, name: &str, command: &Command) -> Result<Contribution, NoMemory>
+    ensures { IfOk result (λ made. made
+        ≡ contribution_of (record { name = name.now; command = command.now })) }
+{
+    let enablement = match &command.enablement {
+        Some(clause) => Some(clause.share()?),
+        None => None,
+    };
+    Ok(Contribution {
+        command: Text::from_str(alloc, name)?,
+        enablement,
+    })
+}

@@ -1,0 +1,90 @@
+//! The files of a session, from the lines that state them: `layout TEXT`, `defaults TEXT`, `user TEXT`, each
+//! extension's manifest as `extension TEXT`, and `platform NAME` (`linux` where there is none). More than
+//! one line of a file are parted by line feeds, and manifests, which may share a line, by ` ;; `.
+use kb_context::NoMemory;
+use kb_keys::Platform;
+use kb_row_text::bytes_of;
+use std::alloc::Global;
+use std::str;
+
+/// The files of a session. A file that no line states is none.
+#[derive(Drop)]
+pub(crate) struct Files {
+    pub(crate) layout: Option<Vec<u8>>,
+    pub(crate) defaults: Option<Vec<u8>>,
+    pub(crate) user: Option<Vec<u8>>,
+    pub(crate) extensions: Option<Vec<u8>>,
+    pub(crate) platform: Platform,
+}
+
+// What a line says of a file.
+fn text_of<'a>(line: &'a str, file: &str) -> Option<&'a str> {
+    let (word, text) = line.split_once(' ').unwrap_or((line, ""));
+    if word == file { Some(text) } else { None }
+}
+
+/// Whether a line states a file.
+pub(crate) fn is_of_file(line: &str) -> bool {
+    let (word, _) = line.split_once(' ').unwrap_or((line, ""));
+    match word {
+        "layout" | "defaults" | "user" | "extension" | "platform" => true,
+        _ => false,
+    }
+}
+
+// The text of a file, if it has a line.
+fn file_in(
+    alloc: Global,
+    lines: &str,
+    file: &str,
+    between: &str,
+) -> Result<Option<Vec<u8>>, NoMemory> {
+    let mut text = String::new(alloc);
+    let mut is_there = false;
+    for line in lines.lines() {
+        if let Some(more) = text_of(line, file) {
+            if is_there {
+                text.push_str(between)?;
+            }
+            text.push_str(more)?;
+            is_there = true;
+        }
+    }
+    if is_there {
+        Ok(Some(bytes_of(alloc, &[], text.as_str())?))
+    } else {
+        Ok(None)
+    }
+}
+
+// The platform that the lines name.
+fn platform_in(lines: &str) -> Platform {
+    for line in lines.lines() {
+        if let Some(name) = text_of(line, "platform") {
+            return Platform::named(name).unwrap_or(Platform::Linux);
+        }
+    }
+    Platform::Linux
+}
+
+/// The files that lines state.
+pub(crate) fn files_in(alloc: Global, lines: &str) -> Result<Files, NoMemory> {
+    Ok(Files {
+        layout: file_in(alloc, lines, "layout", "\n")?,
+        defaults: file_in(alloc, lines, "defaults", "\n")?,
+        user: file_in(alloc, lines, "user", "\n")?,
+        extensions: file_in(alloc, lines, "extension", " ;; ")?,
+        platform: platform_in(lines),
+    })
+}
+
+/// The manifests that the text of extensions has.
+pub(crate) fn manifests_in(alloc: Global, extensions: &[u8]) -> Result<Vec<&[u8]>, NoMemory> {
+    let mut manifests = Vec::new(alloc);
+    for manifest in str::from_utf8(extensions).unwrap_or("").split(" ;; ") {
+        if !manifest.is_empty() {
+            manifests.push(manifest.as_bytes()).map_err(NoMemory::from)?;
+        }
+    }
+    Ok(manifests)
+}
