@@ -1,9 +1,9 @@
 //! Why a run of the program stopped before its end.
 ghost use Rattle.std.specs.Prelude.{◌≡◌};
 
+use kb_bindings::LoadFault;
 use kb_context::{Failure, NoMemory};
 use kb_script::ScriptFault;
-use kb_bindings::LoadFault;
 
 /// Why a run stopped before its end, once the command line was read.
 #[derive(Debug, Drop)]

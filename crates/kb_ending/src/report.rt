@@ -6,9 +6,9 @@ ghost use Rattle.std.specs.Prelude.{◌≡◌};
 ghost use Rattle.kb_ending.specs.Report as report;
 
 use crate::outcome::Stop;
+use kb_bindings::{LoadFault, Warning};
 use kb_context::Failure;
 use kb_script::ScriptFault;
-use kb_bindings::{LoadFault, Warning};
 use kb_stream::ReadFault;
 use std::fmt;
 
