@@ -1,8 +1,10 @@
 //! A session of the engine: what it is told changes its state and writes lines to its trace.
 #![tactic(auto)]
 
+mod closures;
 pub mod fault;
 mod press;
+mod run_commands;
 pub mod session;
 pub mod start;
 
