@@ -1,0 +1,243 @@
+//! Which closures of the host are live, by native and by ticket.
+ghost use Rattle.std.specs.Prelude.{◌≡◌, ℕ, ◌+◌, ◌<◌, slice_get, Some, None, IsTrue, is_some, option_map};
+ghost use Rattle.std.specs.Prelude.{option_copied, IfOk, IfSome, IfErr, IfNone, OnOk, OnErr, MatchResult};
+ghost use Rattle.indexmap.specs.IndexMap.{get, index_map_len};
+ghost use Rattle.kb_context.specs.Failure.{IsRefusalOrMemory};
+ghost use Rattle.kb_core.specs.Native.{Fits, declaration_of};
+ghost use Rattle.kb_core.specs.Ran.{Does};
+ghost use Rattle.kb_registry.specs.declared.fault.RegistryFault.TheVariants.{StaleTicket};
+ghost use Rattle.kb_registry.specs.Live.{same_native, fresh, is_live, live_native, registration_fault};
+ghost use Rattle.kb_registry.specs.Live.{registered, holder, disposed};
+ghost use Rattle.kb_registry.specs.Place.{IsPlace};
+
+use crate::command::HostCommand;
+use crate::fault::RegistryFault;
+use indexmap::IndexMap;
+use kb_context::{Failure, NoMemory};
+use kb_core::{Args, Core, Native, Ran, Signature};
+use std::alloc::Global;
+use std::marker::Model;
+
+/// How many native commands there are, and so how many closures can be live.
+const NATIVES: usize = 9;
+
+/// The number of a registration, counted from 1, by which the closure is taken back. No number is given
+/// twice, so the ticket of a closure that was taken back stays without one (our decision).
+#[derive(Clone, Copy, Debug, PartialEq, Eq)]
+pub struct Ticket(pub u64);
+
+/// A live closure, with its ticket and with what its native declares.
+#[derive(Drop)]
+pub struct Entry<C> {
+    ticket: u64,
+    signature: Signature,
+    command: C,
+}
+
+/// The live closures of a host, at most one for each native. Contracts see which natives are live under
+/// which tickets, how many registrations were made, and how many may be.
+#[derive(Drop)]
+pub struct Registry<C: HostCommand> {
+    alloc: Global,
+    limit: u64,
+    made: u64,
+    table: IndexMap<Native, Entry<C>>,
+}
+
+impl<C: HostCommand> Model for Registry<C> {
+    ghost use Rattle.kb_registry.specs.Live.{Live};
+    ghost use Rattle.kb_registry.specs.Sound.{Sound, plain_entries};
+
+    ghost Value = { Live };
+
+    ghost view = { λ r. record {
+        limit = r.limit;
+        made = r.made;
+        commands = plain_entries (λ e. e.ticket) r.table.entries
+    } };
+
+    ghost invariant = { λ r. Sound (λ e. C.stands_for e.command) (λ e. e.signature) r.limit r.made r.table };
+}
+
+/// The ticket at a place of the table.
+fn ticket_at<C>(table: &IndexMap<Native, Entry<C>>, place: usize) -> u64
+    requires { place < index_map_len table.now }
+    ensures ticket { (e : _) → slice_get table.now.entries place ≡ Some e → e.1.ticket ≡ result }
+    ensures got { (e : _) → slice_get table.now.entries place ≡ Some e → get same_native table.now e.0 ≡ Some e.1 }
+{
+    let (_, entry) = table.get_index(place).unwrap();
+    entry.ticket
+}
+
+/// The place of a ticket in the table.
+fn place_of<C>(table: &IndexMap<Native, Entry<C>>, ticket: u64) -> Option<usize>
+    ensures place { IsPlace (λ e. e.ticket) table.now.entries ticket result }
+    ensures got { IfSome result (λ i. (e : _) → slice_get table.now.entries i ≡ Some e
+        → get same_native table.now e.0 ≡ Some e.1) }
+{
+    for place in 0..table.len() {
+        if ticket_at(table, place) == ticket {
+            return Some(place);
+        }
+    }
+    None
+}
+
+impl<C: HostCommand> Registry<C> {
+    /// The registry in which nothing is registered yet and `limit` registrations may be made. It takes memory
+    /// for all closures that can be live.
+    pub fn new(alloc: Global, limit: u64) -> Result<Registry<C>, NoMemory>
+        ensures { IfOk result (λ r. r ≡ fresh limit) }
+    {
+        let table = IndexMap::with_capacity(alloc, NATIVES)?;
+        Ok(Registry {
+            alloc,
+            limit,
+            made: 0,
+            table,
+        })
+    }
+
+    /// Why no closure can be registered for a native now, or `None` where one can: 70 where one is live
+    /// for it, then 71 where as many registrations were made as may be. It takes no memory.
+    pub fn registration_fault(&self, native: Native) -> Option<RegistryFault>
+        ensures fault { result ≡ registration_fault native self.now }
+        ensures room { IfNone result (self.now.made < self.now.limit) }
+    {
+        if self.table.contains_key(&native) {
+            return Some(RegistryFault::AlreadyExists);
+        }
+        if self.made == self.limit {
+            return Some(RegistryFault::Exhausted);
+        }
+        None
+    }
+
+    /// The ticket that the next registration gets. It takes no memory.
+    pub fn next_ticket(&self) -> Ticket
+        requires { self.now.made < self.now.limit }
+        ensures { result.0 ≡ self.now.made + 1 }
+    {
+        Ticket(self.made + 1)
+    }
+
+    /// Makes a closure live for its native, and gives its ticket. It is handed back where it is refused, by 70
+    /// or 71 as `registration_fault` says, or where memory is refused, which is asked for what its native
+    /// declares; then the registry stays as it was.
+    pub fn register(&mut self, command: C) -> Result<Ticket, (C, Failure<RegistryFault>)>
+        ensures allowed { OnOk result (registration_fault (C.stands_for command) self.old ≡ None) }
+        ensures ticket { IfOk result (λ ticket. ticket.0 ≡ self.old.made + 1) }
+        ensures ok { OnOk result (self.new ≡ registered (C.stands_for command) self.old) }
+        ensures why { IfErr result (λ e. IsRefusalOrMemory (registration_fault (C.stands_for command) self.old) e.1) }
+        ensures back { IfErr result (λ e. e.0 ≡ command) }
+        ensures err { OnErr result (self.new ≡ self.old) }
+    {
+        let native = command.native();
+        match self.registration_fault(native) {
+            Some(fault) => Err((command, Failure::Fault(fault))),
+            None => match native.signature(self.alloc) {
+                Ok(signature) => Ok(self.admit(native, signature, command)),
+                Err(_) => Err((command, Failure::NoMemory)),
+            },
+        }
+    }
+
+    /// Puts a closure behind the others, and gives its ticket.
+    fn admit(&mut self, native: Native, signature: Signature, command: C) -> Ticket
+        requires native { native ≡ C.stands_for command }
+        requires signature { signature ≡ declaration_of native }
+        requires allowed { registration_fault native self.old ≡ None }
+        ensures ticket { result.0 ≡ self.old.made + 1 }
+        ensures ok { self.new ≡ registered native self.old }
+    {
+        let ticket = self.made + 1;
+        let entry = Entry {
+            ticket,
+            signature,
+            command,
+        };
+        match self.table.insert(native, entry) {
+            Ok(_) => {
+                self.made = ticket;
+                Ticket(ticket)
+            }
+            Err(_) => unreachable!(),
+        }
+    }
+
+    /// The native of the live closure that has a ticket, or `None` where none has it. It takes no memory.
+    pub fn holder(&self, ticket: Ticket) -> Option<Native>
+        ensures { result ≡ holder ticket.0 self.now }
+    {
+        match place_of(&self.table, ticket.0) {
+            Some(place) => {
+                let (native, _) = self.table.get_index(place).unwrap();
+                Some(*native)
+            }
+            None => None,
+        }
+    }
+
+    /// Takes the closure with a ticket away and gives it back. Refused as 72 where no live closure has the
+    /// ticket; then the registry stays as it was. It takes no memory.
+    pub fn dispose(&mut self, ticket: Ticket) -> Result<C, RegistryFault>
+        ensures answer { MatchResult result (λ command. holder ticket.0 self.old ≡ Some (C.stands_for command))
+            (λ fault. (holder ticket.0 self.old ≡ None) × (fault ≡ StaleTicket)) }
+        ensures ok { OnOk result (self.new ≡ disposed ticket.0 self.old) }
+        ensures err { OnErr result (self.new ≡ self.old) }
+    {
+        match place_of(&self.table, ticket.0) {
+            Some(place) => {
+                let (_, entry) = self.table.shift_remove_index(place).unwrap();
+                let Entry { command, .. } = entry;
+                Ok(command)
+            }
+            None => Err(RegistryFault::StaleTicket),
+        }
+    }
+
+    /// Runs the live closure of a native, with arguments that fit it. It costs at most the native's budget,
+    /// in instructions, or the core comes back as it was with `NoMemory`.
+    pub fn call(&self, native: Native, core: Core, args: Args) -> Ran
+        requires live { IsTrue (is_live native self.now) }
+        requires fits { Fits native args }
+        ensures { Does native core args result }
+    {
+        match self.table.get(&native) {
+            Some(entry) => entry.command.call(core, args),
+            None => unreachable!(),
+        }
+    }
+
+    /// Whether a closure is live for the native command of an identifier. It takes no memory.
+    pub fn is_live(&self, command: &str) -> bool
+        ensures { result ≡ is_some (live_native command.now self.now) }
+    {
+        self.live_native(command).is_some()
+    }
+
+    /// The native command of an identifier, or `None` where no native has it or no closure is live for
+    /// the one that does. It takes no memory.
+    pub fn live_native(&self, command: &str) -> Option<Native>
+        ensures { result ≡ live_native command.now self.now }
+    {
+        match Native::named(command) {
+            Some(native) if self.table.contains_key(&native) => Some(native),
+            _ => None,
+        }
+    }
+
+    /// What the native command of an identifier declares, or `None` where no native has it or no closure
+    /// is live for the one that does. It takes no memory.
+    pub fn signature(&self, command: &str) -> Option<&Signature>
+        ensures { option_copied result ≡ option_map declaration_of (live_native command.now self.now) }
+    {
+        match Native::named(command) {
+            Some(native) => match self.table.get(&native) {
+                Some(entry) => Some(&entry.signature),
+                None => None,
+            },
+            None => None,
+        }
+    }
+}
