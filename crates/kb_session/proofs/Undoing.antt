@@ -34,8 +34,8 @@ pub begins_on : (old mid new : List (List ℕ)) → Begins old mid → Begins mi
 begins_on old mid new first second =
     begins_more old new (drop (length old) mid ++ drop (length mid) new)
     (begins_with mid new second
-        ∙ ap (λ (lines : List (List ℕ)). lines ++ drop (length mid) new) (begins_with old mid first)
-        ∙ append_assoc old (drop (length old) mid) (drop (length mid) new))
+    ∙ ap (λ (lines : List (List ℕ)). lines ++ drop (length mid) new) (begins_with old mid first)
+    ∙ append_assoc old (drop (length old) mid) (drop (length mid) new))
 
 pub ruleset undoing = (begins_same, begins_more, begins_still, begins_twice)
 

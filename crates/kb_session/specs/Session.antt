@@ -2,9 +2,10 @@
 use Rattle.std.specs.Prelude.{◌≡◌, ℕ, true, false, List, [], ◌∷◌, length, take, Result, Ok, Err}
 use Rattle.kb_context.specs.Failure.{Fails}
 use Rattle.kb_context.specs.Reading.{◌>>=◌, seen}
-use Rattle.kb_context.specs.Refusal.{numbered}
+use Rattle.kb_context.specs.Refusal.{numbered, refused_for}
 use Rattle.kb_context.specs.Scopes.{ScopesData}
 use Rattle.kb_context.specs.declared.failure.Failure.{Failure}
+use Rattle.kb_context.specs.declared.failure.Failure.TheVariants as failure
 use Rattle.kb_core.specs.declared.native.Native.{Native}
 use Rattle.kb_core.specs.declared.run.Core.{Core}
 use Rattle.kb_keys.specs.declared.keystroke.Keystroke.{Keystroke}
@@ -13,11 +14,12 @@ use Rattle.kb_bindings.specs.Load.{Files, LoadMarks, held_by, marks_told}
 use Rattle.kb_bindings.specs.Sources.{Sources}
 use Rattle.kb_session.specs.State.{State, Told, happens, Answered, did, refused, step, step_on, out_of, next}
 use Rattle.kb_session.specs.State.{loaded_state}
-use Rattle.kb_bindings.specs.Fault.{refused_by}
+use Rattle.kb_bindings.specs.Fault.{refused_by, refused_file}
 use Rattle.kb_bindings.specs.declared.fault.LoadFault.{LoadFault}
 use Rattle.kb_bindings.specs.declared.fault.LoadFile.TheVariants as file
 use Rattle.kb_registry.specs.Fault as registry
 use Rattle.kb_registry.specs.Live.{Live, fresh, all_registered}
+use Rattle.kb_registry.specs.declared.fault.RegistryFault.{RegistryFault}
 use Rattle.kb_session.specs.declared.fault.SessionFault.{SessionFault}
 use Rattle.kb_session.specs.declared.fault.SessionFault.TheVariants.{Refused, NoMemory, Stopped}
 use Rattle.kb_bindings.specs.declared.unread.UnreadIn.{UnreadIn}
@@ -32,7 +34,8 @@ Seen = Traced State
 
 -- closures for these natives are registered in order, at most 1,000,000 in a session's life, behind all files
 abbrev pub natives_held : List Native → Result Live LoadFault
-natives_held natives = refused_by file.Natives (numbered registry.number_of (all_registered natives (fresh 1000000)))
+natives_held natives =
+    refused_by file.Natives (numbered registry.number_of (all_registered natives (fresh 1000000)))
 
 abbrev pub loaded_session : ScopesData → Sources → Live → Seen
 loaded_session scopes sources live = record { state = loaded_state scopes sources live; trace = [] }
@@ -115,6 +118,12 @@ FailsAmong NoMemory told old new = (old.state.stopped ≡ false) × StopsAmong n
 FailsAmong Stopped told old new = (new.state.stopped ≡ true) × (new ≡ after_all next told old)
 
 -- ---- for private functions
+
+-- why a load failed whose closures could not all be registered
+abbrev pub load_failure : Failure RegistryFault → Failure LoadFault
+load_failure failure.NoMemory = failure.NoMemory
+load_failure (failure.Fault fault) =
+    failure.Fault (refused_file file.Natives (refused_for (registry.number_of fault)))
 
 -- a session that is running took what it was told, and this is its answer
 abbrev pub Does : Told → Seen → Answer → Seen → Type 0

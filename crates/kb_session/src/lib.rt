@@ -1,7 +1,6 @@
 //! A session of the engine: what it is told changes its state and writes lines to its trace.
 #![tactic(auto)]
 
-mod closures;
 pub mod fault;
 mod press;
 mod run_commands;
