@@ -1,6 +1,6 @@
 -- What contracts see of a registry: which natives are live and under which tickets, with no closure in it.
 use Rattle.std.specs.Prelude.{ℕ, ◌+◌, Bool, List, [], ◌∷◌, ◌++◌, map, find, Option, Some, None, option_map}
-use Rattle.std.specs.Prelude.{option_and_then, Result, Ok, Err, if◌then◌else◌, nat_eq}
+use Rattle.std.specs.Prelude.{Result, Ok, Err, if◌then◌else◌, nat_eq}
 use Rattle.std.specs.List.{list_any}
 use Rattle.kb_core.specs.declared.native.Native.{Native}
 use Rattle.kb_core.specs.contracts.native.NativePartialEq.TheImpl as equality
@@ -34,10 +34,14 @@ natives_of commands = map (λ c. c.native) commands
 abbrev pub is_live : Native → Live → Bool
 is_live native live = list_any (same_native native) (natives_of live.commands)
 
+-- the native, where there is one and it is live
+abbrev pub where_live : Option Native → Live → Option Native
+where_live None live = None
+where_live (Some native) live = if is_live native live then Some native else None
+
 -- the native that has this identifier, where it is live
 abbrev pub live_native : List ℕ → Live → Option Native
-live_native identifier live =
-    option_and_then (λ native. if is_live native live then Some native else None) (named identifier)
+live_native identifier live = where_live (named identifier) live
 
 -- why no closure can be registered for the native
 abbrev pub registration_fault : Native → Live → Option RegistryFault

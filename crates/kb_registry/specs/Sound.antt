@@ -1,6 +1,6 @@
 -- What is true of the fields of a registry.
-use Rattle.std.specs.Prelude.{◌≡◌, ℕ, ◌+◌, ◌≤◌, List, Some, map}
-use Rattle.indexmap.specs.IndexMap.{IndexMap, get, spare, index_map_len, IsUnique}
+use Rattle.std.specs.Prelude.{◌≡◌, ℕ, ◌≤◌, List, Some, map}
+use Rattle.indexmap.specs.IndexMap.{IndexMap, get}
 use Rattle.kb_core.specs.declared.native.Native.{Native}
 use Rattle.kb_core.specs.Declaration.{Declaration}
 use Rattle.kb_core.specs.Native.{declaration_of}
@@ -10,12 +10,10 @@ use Rattle.kb_registry.specs.Live.{Registered, same_native}
 abbrev pub plain_entries : {E : Type 0} → (E → ℕ) → List (Native × E) → List Registered
 plain_entries ticket es = map (λ e. record { native = e.0; ticket = ticket e.1 }) es
 
--- Each entry stands under the native of its command, with what that declares. No more registrations were made than
--- may be. Each native has one entry at most, and there is room for all nine.
+-- each entry stands under the native of its command, with what that declares, and no more registrations were made
+-- than may be
 pub record Sound {E S : Type 0} (native : E → Native) (declares : E → Declaration) (limit made : ℕ)
     (table : IndexMap Native E S) : Type 0 where
-  pub keyed : (k : Native) (e : E) → get same_native table k ≡ Some e
-      → (native e ≡ k) × (declares e ≡ declaration_of k)
+  pub keyed : (k : Native) (e : E) → get same_native table k ≡ Some e → native e ≡ k
+  pub declared : (k : Native) (e : E) → get same_native table k ≡ Some e → declares e ≡ declaration_of k
   pub within : made ≤ limit
-  pub unique : IsUnique same_native table
-  pub room : 9 ≤ index_map_len table + spare table

@@ -1,5 +1,5 @@
 //! Which closures of the host are live, by native and by ticket.
-ghost use Rattle.std.specs.Prelude.{◌≡◌, ℕ, ◌+◌, ◌<◌, slice_get, Some, None, IsTrue, is_some, option_map};
+ghost use Rattle.std.specs.Prelude.{◌≡◌, ◌+◌, ◌<◌, false, slice_get, Some, None, IsTrue, is_some, option_map};
 ghost use Rattle.std.specs.Prelude.{option_copied, IfOk, IfSome, IfErr, IfNone, OnOk, OnErr, MatchResult};
 ghost use Rattle.indexmap.specs.IndexMap.{get, index_map_len};
 ghost use Rattle.kb_context.specs.Failure.{IsRefusalOrMemory};
@@ -7,7 +7,7 @@ ghost use Rattle.kb_core.specs.Native.{Fits, declaration_of};
 ghost use Rattle.kb_core.specs.Ran.{Does};
 ghost use Rattle.kb_registry.specs.declared.fault.RegistryFault.TheVariants.{StaleTicket};
 ghost use Rattle.kb_registry.specs.Live.{same_native, fresh, is_live, live_native, registration_fault};
-ghost use Rattle.kb_registry.specs.Live.{registered, holder, disposed};
+ghost use Rattle.kb_registry.specs.Live.{registered, holder, disposed, where_live};
 ghost use Rattle.kb_registry.specs.Place.{IsPlace};
 
 use crate::command::HostCommand;
@@ -59,6 +59,14 @@ impl<C: HostCommand> Model for Registry<C> {
     ghost invariant = { λ r. Sound (λ e. C.stands_for e.command) (λ e. e.signature) r.limit r.made r.table };
 }
 
+/// The number that follows one below a limit.
+fn following(number: u64, limit: u64) -> u64
+    requires { number < limit }
+    ensures { result ≡ number + 1 }
+{
+    number + 1
+}
+
 /// The ticket at a place of the table.
 fn ticket_at<C>(table: &IndexMap<Native, Entry<C>>, place: usize) -> u64
     requires { place < index_map_len table.now }
@@ -102,9 +110,10 @@ impl<C: HostCommand> Registry<C> {
     /// for it, then 71 where as many registrations were made as may be. It takes no memory.
     pub fn registration_fault(&self, native: Native) -> Option<RegistryFault>
         ensures fault { result ≡ registration_fault native self.now }
+        ensures free { IfNone result (is_live native self.now ≡ false) }
         ensures room { IfNone result (self.now.made < self.now.limit) }
     {
-        if self.table.contains_key(&native) {
+        if self.entry(native).is_some() {
             return Some(RegistryFault::AlreadyExists);
         }
         if self.made == self.limit {
@@ -118,12 +127,11 @@ impl<C: HostCommand> Registry<C> {
         requires { self.now.made < self.now.limit }
         ensures { result.0 ≡ self.now.made + 1 }
     {
-        Ticket(self.made + 1)
+        Ticket(following(self.made, self.limit))
     }
 
     /// Makes a closure live for its native, and gives its ticket. It is handed back where it is refused, by 70
-    /// or 71 as `registration_fault` says, or where memory is refused, which is asked for what its native
-    /// declares; then the registry stays as it was.
+    /// or 71 as `registration_fault` says, or where memory is refused; then the registry stays as it was.
     pub fn register(&mut self, command: C) -> Result<Ticket, (C, Failure<RegistryFault>)>
         ensures allowed { OnOk result (registration_fault (C.stands_for command) self.old ≡ None) }
         ensures ticket { IfOk result (λ ticket. ticket.0 ≡ self.old.made + 1) }
@@ -136,19 +144,24 @@ impl<C: HostCommand> Registry<C> {
         match self.registration_fault(native) {
             Some(fault) => Err((command, Failure::Fault(fault))),
             None => match native.signature(self.alloc) {
-                Ok(signature) => Ok(self.admit(native, signature, command)),
+                Ok(signature) => self
+                    .admit(native, signature, command)
+                    .map_err(|command| (command, Failure::NoMemory)),
                 Err(_) => Err((command, Failure::NoMemory)),
             },
         }
     }
 
-    /// Puts a closure behind the others, and gives its ticket.
-    fn admit(&mut self, native: Native, signature: Signature, command: C) -> Ticket
+    /// Puts a closure behind the others, and gives its ticket. It is handed back where memory is refused.
+    fn admit(&mut self, native: Native, signature: Signature, command: C) -> Result<Ticket, C>
         requires native { native ≡ C.stands_for command }
         requires signature { signature ≡ declaration_of native }
-        requires allowed { registration_fault native self.old ≡ None }
-        ensures ticket { result.0 ≡ self.old.made + 1 }
-        ensures ok { self.new ≡ registered native self.old }
+        requires free { is_live native self.old ≡ false }
+        requires room { self.old.made < self.old.limit }
+        ensures ticket { IfOk result (λ ticket. ticket.0 ≡ self.old.made + 1) }
+        ensures ok { OnOk result (self.new ≡ registered native self.old) }
+        ensures back { IfErr result (λ back. back ≡ command) }
+        ensures err { OnErr result (self.new ≡ self.old) }
     {
         let ticket = self.made + 1;
         let entry = Entry {
@@ -159,10 +172,23 @@ impl<C: HostCommand> Registry<C> {
         match self.table.insert(native, entry) {
             Ok(_) => {
                 self.made = ticket;
-                Ticket(ticket)
+                Ok(Ticket(ticket))
             }
-            Err(_) => unreachable!(),
+            Err(refused) => {
+                let (_, entry) = refused.value;
+                let Entry { command, .. } = entry;
+                Err(command)
+            }
         }
+    }
+
+    /// The entry of a native, where it is live.
+    fn entry(&self, native: Native) -> Option<&Entry<C>>
+        ensures live { is_some result ≡ is_live native self.now }
+        ensures native { IfSome result (λ e. C.stands_for e.now.command ≡ native) }
+        ensures signature { IfSome result (λ e. e.now.signature ≡ declaration_of native) }
+    {
+        self.table.get(&native)
     }
 
     /// The native of the live closure that has a ticket, or `None` where none has it. It takes no memory.
@@ -203,7 +229,7 @@ impl<C: HostCommand> Registry<C> {
         requires fits { Fits native args }
         ensures { Does native core args result }
     {
-        match self.table.get(&native) {
+        match self.entry(native) {
             Some(entry) => entry.command.call(core, args),
             None => unreachable!(),
         }
@@ -219,10 +245,19 @@ impl<C: HostCommand> Registry<C> {
     /// The native command of an identifier, or `None` where no native has it or no closure is live for
     /// the one that does. It takes no memory.
     pub fn live_native(&self, command: &str) -> Option<Native>
-        ensures { result ≡ live_native command.now self.now }
+        ensures native { result ≡ live_native command.now self.now }
+        ensures live { IfSome result (λ native. IsTrue (is_live native self.now)) }
     {
-        match Native::named(command) {
-            Some(native) if self.table.contains_key(&native) => Some(native),
+        self.where_live(Native::named(command))
+    }
+
+    /// The native, where it is live.
+    fn where_live(&self, native: Option<Native>) -> Option<Native>
+        ensures native { result ≡ where_live native self.now }
+        ensures live { IfSome result (λ native. IsTrue (is_live native self.now)) }
+    {
+        match native {
+            Some(native) if self.entry(native).is_some() => Some(native),
             _ => None,
         }
     }
@@ -232,10 +267,10 @@ impl<C: HostCommand> Registry<C> {
     pub fn signature(&self, command: &str) -> Option<&Signature>
         ensures { option_copied result ≡ option_map declaration_of (live_native command.now self.now) }
     {
-        match Native::named(command) {
-            Some(native) => match self.table.get(&native) {
+        match self.live_native(command) {
+            Some(native) => match self.entry(native) {
                 Some(entry) => Some(&entry.signature),
-                None => None,
+                None => unreachable!(),
             },
             None => None,
         }
