@@ -1,7 +1,7 @@
 -- Bytes that are a text, the first line of bytes, and a text that is a number.
 use Rattle.std.proofs.Common.{◌≡◌, ℕ, Bool, true, false, List, [], ◌∷◌, length, refl, sym, ap, ◌∙◌, cond, zero, suc}
 use Rattle.std.proofs.Common.{arith, take, drop, ◌+◌, ◌-◌, ◌<◌, ◌^◌, subst}
-use Rattle.std.specs.Prelude.{Some, None, Option, position, Result, Ok, Err, not, ◌&&◌, nat_eq, nat_lt}
+use Rattle.std.specs.Prelude.{Some, None, position, Result, Ok, Err, not, ◌&&◌, nat_eq, nat_lt}
 use Rattle.std.specs.List.{slice_split, onto_first, list_all}
 use Rattle.std.specs.Char.{is_ascii_digit}
 use Rattle.std.specs.Result.{OkIff, result_ok}

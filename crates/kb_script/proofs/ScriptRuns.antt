@@ -12,6 +12,8 @@ use Rattle.kb_context.specs.declared.refusal.Refusal.{Refusal}
 use Rattle.kb_core.specs.declared.native.Native.{Native}
 use Rattle.kb_files.specs.RuleFile.{rules_in}
 use Rattle.kb_rules.specs.RuleList.{Listed}
+use Rattle.kb_registry.specs.Live.{registration_fault, holder}
+use Rattle.kb_registry.specs.declared.fault.RegistryFault.{RegistryFault}
 use Rattle.kb_script.specs.Script.{line_said, said_from, said_of, lines_of, bare}
 use Rattle.kb_script.specs.ScriptRun.{RunsSaid, BreaksOff, BreaksSaid, MemoryRefused, NothingRan, marked}
 use Rattle.kb_script.specs.Shelf.{Stand, Said, move, move_unless, told_by, Halts, beside}
@@ -20,7 +22,6 @@ use Rattle.kb_script.proofs.ShelfLemmas.{halts_same, halted}
 use Rattle.kb_session.specs.Session.{halt}
 use Rattle.kb_session.specs.State.{State, Told, happens, reload, register, dispose, step, step_unless, step_on}
 use Rattle.kb_session.specs.State.{taken_unless, reloaded, refusal_of, registering, disposing}
-use Rattle.kb_registry.specs.Live.{registration_number, holder}
 use Rattle.kb_trace.specs.declared.event.Event.{Event}
 use Rattle.kb_trace.specs.declared.event.Event.TheVariants as event
 use Rattle.kb_stream.specs.Fold.{Traced, after_all, fold}
@@ -31,14 +32,14 @@ use Rattle.std.proofs.lemmas.List.{length-append, map-append}
 use Rattle.kb_stream.proofs.FoldLemmas.{after_all-one, fold-one}
 use Rattle.kb_stream.proofs.FoldWritingLemmas as f
 
--- what was told ran, and then more of it broke off
+-- what was said ran, and then more of it broke off
 fail_later : (failure : Failure WriteRefused) (xs ys : List Said) (old mid new : Traced Stand)
     (a b c : Option (List ℕ)) → RunsAndWrites move xs old mid a b → BreaksOff failure ys mid new b c
     → BreaksOff failure (xs ++ ys) old new a c
 fail_later NoMemory xs ys old mid new a b c p q = f.stop_later move Halts xs ys old mid new a b c p q
 fail_later (Fault refused) xs ys old mid new a b c p q = f.lack_later move xs ys old mid new a b c p q
 
--- what is told behind that doesn't count
+-- what is said behind that doesn't count
 fail_before : (failure : Failure WriteRefused) (xs ys : List Said) (old new : Traced Stand)
     (a b : Option (List ℕ)) → BreaksOff failure xs old new a b → BreaksOff failure (xs ++ ys) old new a b
 fail_before NoMemory xs ys old new a b p = f.stop_before move Halts xs ys old new a b p
@@ -109,12 +110,12 @@ up_to_fail said old now new a b c number lines more line failure p e q =
 pub ruleset progress = (up_to_start, up_to_step)
 
 -- the lines that are new in the trace
-new_lines : (told : List Said) (old new : Traced Stand) (n : ℕ) → new ≡ after_all move told old
-    → n ≡ length old.trace → drop n new.trace ≡ (fold move told old.state).lines
+new_lines : (said : List Said) (old new : Traced Stand) (n : ℕ) → new ≡ after_all move said old
+    → n ≡ length old.trace → drop n new.trace ≡ (fold move said old.state).lines
 new_lines said old new n session before =
-    rw (before, session) (drop-append_seam old.trace (fold move told old.state).lines)
+    rw (before, session) (drop-append_seam old.trace (fold move said old.state).lines)
 
--- what a line tells, with the marks that the session found
+-- what a line says, with the marks that the session found
 abbrev said_at : List UnreadAt → ℕ → List ℕ → List Said
 said_at marks number line = option_to_list (option_map (marked marks) (line_said number line))
 
@@ -126,7 +127,7 @@ pub line_on : (marks : List UnreadAt) (number : ℕ) (line : List ℕ) (old new 
 line_on marks number line old new a b n session before written =
     let said = said_at marks number line in
     record {
-      said = told;
+      said = said;
       tells = bare_marked marks (line_said number line) ∙ bare_line number line;
       ran = record {
         session = session;
@@ -140,16 +141,16 @@ none_lacks old new part =
     let empty : 0 ≡ length (part.part ++ part.rest) = ap length part.whole in
     absurd (omega (arith, simp length-append at empty, part.missing))
 
-lacks : (told : Option Said) (old new : Traced Stand) (a b : Option (List ℕ)) (n : ℕ)
-    → new ≡ after_all move (option_to_list told) old → n ≡ length old.trace
-    → AppendsPart a b (text_of_lines (drop n new.trace)) → LacksLines move (option_to_list told) old new a b
+lacks : (said : Option Said) (old new : Traced Stand) (a b : Option (List ℕ)) (n : ℕ)
+    → new ≡ after_all move (option_to_list said) old → n ≡ length old.trace
+    → AppendsPart a b (text_of_lines (drop n new.trace)) → LacksLines move (option_to_list said) old new a b
 lacks None old new a b n session before part =
     none_lacks a b (subst (λ (l : List (List ℕ)). AppendsPart a b (text_of_lines l))
     (new_lines [] old new n session before) part)
-lacks (Some told) old new a b n session before part =
-    f.lack_one move told old new a b (session ∙ after_all-one move told old)
+lacks (Some said) old new a b n session before part =
+    f.lack_one move said old new a b (session ∙ after_all-one move said old)
     (subst (λ (l : List (List ℕ)). AppendsPart a b (text_of_lines l))
-    (new_lines (told ∷ []) old new n session before ∙ ap (λ o. o.lines) (fold-one move told old.state)) part)
+    (new_lines (said ∷ []) old new n session before ∙ ap (λ o. o.lines) (fold-one move said old.state)) part)
 
 -- a line ran, and its lines are not all written
 pub line_lacks : (marks : List UnreadAt) (number : ℕ) (line : List ℕ) (old new : Traced Stand)
@@ -167,9 +168,9 @@ pub keeps_same : (a : Option (List ℕ)) → Keeps a a
 keeps_same None = tt
 keeps_same (Some bytes) = refl
 
-stops_now : (told : List Said) (old new : Traced Stand) (a : Option (List ℕ)) → Halts old.state new.state
-    → new.trace ≡ old.trace → StopsAndWrites move Halts told old new a a
-stops_now told old new a halts same = f.stop_now move Halts told old new a a halts same (keeps_same a)
+stops_now : (said : List Said) (old new : Traced Stand) (a : Option (List ℕ)) → Halts old.state new.state
+    → new.trace ≡ old.trace → StopsAndWrites move Halts said old new a a
+stops_now said old new a halts same = f.stop_now move Halts said old new a a halts same (keeps_same a)
 
 -- memory was refused to a line
 pub line_stops : (number : ℕ) (line : List ℕ) (old new : Traced Stand) (a : Option (List ℕ))
@@ -196,7 +197,7 @@ reloaded_runs : (rules : Result Listed Refusal) (s : State) → (reloaded rules 
 reloaded_runs (Ok user) s = refl
 reloaded_runs (Err refusal) s = refl
 
-registering_runs : (fault : Option ℕ) (native : Native) (s : State)
+registering_runs : (fault : Option RegistryFault) (native : Native) (s : State)
     → (registering fault native s).state.stopped ≡ s.stopped
 registering_runs None native s = refl
 registering_runs (Some fault) native s = refl
@@ -209,7 +210,7 @@ disposing_runs (Some native) number s = refl
 step_on_runs : (told : Told) (s : State) → (step_on told s).state.stopped ≡ s.stopped
 step_on_runs (happens e) s = taken_runs (refusal_of e s) e s
 step_on_runs (reload bytes marks) s = reloaded_runs (rules_in marks User bytes) s
-step_on_runs (register native) s = registering_runs (registration_number native s.live) native s
+step_on_runs (register native) s = registering_runs (registration_fault native s.live) native s
 step_on_runs (dispose number) s = disposing_runs (holder number s.live) number s
 
 step_runs : (told : Told) (s : State) → s.stopped ≡ false → (step told s).state.stopped ≡ false

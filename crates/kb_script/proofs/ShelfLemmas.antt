@@ -18,7 +18,7 @@ use Rattle.kb_registry.specs.Live.{same_native}
 use Rattle.kb_script.proofs.LineLemmas.{position_none}
 use Rattle.kb_script.specs.Shelf.{Stand, Halts, on_shelf, without_first}
 use Rattle.kb_session.specs.Session as session
-use Rattle.kb_session.specs.Session.{halt, half_done, HaltsAt, FailsToTake}
+use Rattle.kb_session.specs.Session.{halt, half_done, HaltsAt, FailsAt}
 use Rattle.kb_session.specs.State.{State, Told, happens, reload, register, dispose}
 use Rattle.kb_session.specs.declared.fault.SessionFault.{SessionFault}
 use Rattle.kb_session.specs.declared.fault.SessionFault.TheVariants as fault
@@ -110,19 +110,19 @@ halts_at (reload bytes marks) old new halts = (halted old new halts, ap (λ s. s
 halts_at (register native) old new halts = (halted old new halts, ap (λ s. s.trace) halts)
 halts_at (dispose number) old new halts = (halted old new halts, ap (λ s. s.trace) halts)
 
-fails_to_take : (fault : SessionFault) (told : Told) (old new : Traced State) → old.state.stopped ≡ false
-    → FailsToTake fault told old new → session.Halts old.state new.state × (new.trace ≡ old.trace)
-fails_to_take (fault.Refused r) told old new running fails = absurd fails
-fails_to_take fault.NoMemory told old new running fails = halts_at told old new fails.1
-fails_to_take fault.Stopped told old new running fails = absurd (false≢true (sym running ∙ fails.0))
+fails_at : (fault : SessionFault) (told : Told) (old new : Traced State) → old.state.stopped ≡ false
+    → FailsAt fault told old new → session.Halts old.state new.state × (new.trace ≡ old.trace)
+fails_at (fault.Refused r) told old new running fails = absurd fails
+fails_at fault.NoMemory told old new running fails = halts_at told old new fails.1
+fails_at fault.Stopped told old new running fails = absurd (false≢true (sym running ∙ fails.0))
 
 pub fails_state : (fault : SessionFault) (told : Told) (old new : Traced State) → old.state.stopped ≡ false
-    → FailsToTake fault told old new → session.Halts old.state new.state
-fails_state fault told old new running fails = (fails_to_take fault told old new running fails).0
+    → FailsAt fault told old new → session.Halts old.state new.state
+fails_state fault told old new running fails = (fails_at fault told old new running fails).0
 
 pub fails_trace : (fault : SessionFault) (told : Told) (old new : Traced State) → old.state.stopped ≡ false
-    → FailsToTake fault told old new → new.trace ≡ old.trace
-fails_trace fault told old new running fails = (fails_to_take fault told old new running fails).1
+    → FailsAt fault told old new → new.trace ≡ old.trace
+fails_trace fault told old new running fails = (fails_at fault told old new running fails).1
 
 pub ruleset halting = (halts_same, halts_rotated, fails_state, fails_trace, halted)
 

@@ -1,6 +1,6 @@
 -- A session beside a shelf: the closures that the host has left, in order, seen as the natives that they stand
 -- for. What a line says does to both.
-use Rattle.std.specs.Prelude.{◌≡◌, ℕ, Bool, true, false, List, [], ◌∷◌, ◌++◌, if◌then◌else◌}
+use Rattle.std.specs.Prelude.{◌≡◌, Bool, true, false, List, [], ◌∷◌, ◌++◌, if◌then◌else◌}
 use Rattle.std.specs.List.{list_any}
 use Rattle.std.specs.List.Sorted.{IsPermutation}
 use Rattle.kb_core.specs.declared.native.Native.{Native}
