@@ -13,7 +13,7 @@ pub mod signature;
 pub use arg::{Arg, Kind};
 pub use args::Args;
 pub use buffer::Buffer;
-pub use native::Native;
+pub use native::{NATIVES, Native};
 pub use parameter::{NamedKind, Param};
 pub use run::{Core, Ran, plain};
 pub use signature::Signature;
