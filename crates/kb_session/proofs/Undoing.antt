@@ -39,4 +39,10 @@ begins_on old mid new first second =
 
 pub ruleset undoing = (begins_same, begins_more, begins_still, begins_twice)
 
+-- a line was added, and then others
+pub begins_behind : (old mid new more : List (List ℕ)) → mid ≡ old ++ more → Begins mid new → Begins old new
+begins_behind old mid new more is second = begins_on old mid new (begins_more old mid more is) second
+
+pub ruleset undoing_behind = (begins_same, begins_behind)
+
 pub ruleset undoing_all = (begins_same, begins_on)

@@ -73,7 +73,7 @@ run_plan None live core = unfit run_commands core
 run_plan (Some ps) live core = run_all ps live core
 
 -- a command; `runCommands` is the session's own
-abbrev pub start_of : List ℕ → Option Data → Live → Core → Started
+unfoldable pub start_of : List ℕ → Option Data → Live → Core → Started
 start_of command given live core =
     if bytes_eq command run_commands then run_plan (plan_of given) live core
     else start_native command given live core

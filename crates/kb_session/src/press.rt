@@ -48,7 +48,7 @@ pub(crate) fn press_key<C: HostCommand>(
 }
 
 /// Starts the command of a rule, and adds its lines, the first of which begins with a text.
-#[tactic(auto, using(crate::proofs::Undoing::undoing))]
+#[tactic(auto, using(crate::proofs::Undoing::undoing_behind))]
 fn start_rule<C: HostCommand>(
     alloc: Global,
     text: String,

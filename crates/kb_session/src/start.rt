@@ -26,7 +26,7 @@ pub enum Finish {
 
 /// Starts a command with the arguments that are given with it, and adds its lines. Where memory is refused,
 /// the old lines still come first.
-#[tactic(auto, using(crate::proofs::Undoing::undoing))]
+#[tactic(auto, using(crate::proofs::Undoing::undoing), unfolding(crate::specs::Start::start_of))]
 pub(crate) fn start_command<C: HostCommand>(
     alloc: Global,
     command: &str,
