@@ -1,5 +1,5 @@
 -- What contracts see of a registry: which natives are live and under which tickets, with no closure in it.
-use Rattle.std.specs.Prelude.{ℕ, ◌+◌, Bool, List, [], ◌∷◌, ◌++◌, map, find, Option, Some, None, option_map}
+use Rattle.std.specs.Prelude.{◌≡◌, ℕ, ◌+◌, ◌≤◌, Bool, List, [], ◌∷◌, ◌++◌, map, find, Option, Some, None, option_map}
 use Rattle.std.specs.Prelude.{Result, Ok, Err, if◌then◌else◌, nat_eq}
 use Rattle.std.specs.List.{list_any}
 use Rattle.kb_core.specs.declared.native.Native.{Native}
@@ -58,8 +58,16 @@ registered native live = record {
 }
 
 -- the native of the live closure that has the ticket
+abbrev pub holder_in : ℕ → List Registered → Option Native
+holder_in ticket commands = option_map (λ c. c.native) (find (λ c. nat_eq c.ticket ticket) commands)
+
 abbrev pub holder : ℕ → Live → Option Native
-holder ticket live = option_map (λ c. c.native) (find (λ c. nat_eq c.ticket ticket) live.commands)
+holder ticket live = holder_in ticket live.commands
+
+-- each ticket stands once, and none is above the count of registrations
+abbrev pub AreNumbered : ℕ → List Registered → Type 0
+AreNumbered made [] = Unit {0}
+AreNumbered made (c ∷ cs) = (c.ticket ≤ made) × (holder_in c.ticket cs ≡ None) × AreNumbered made cs
 
 -- all but the one with the ticket
 abbrev pub without : ℕ → List Registered → List Registered

@@ -1,5 +1,5 @@
 -- What running a script leaves: what was read, what the session and the shelf did, and what was written. A
--- script tells no marks of patterns; what was said has them, for each reload, and they are those of its state.
+-- script tells no marks of patterns; what was said has them for each reload, and they are those of its state.
 use Rattle.std.specs.Prelude.{◌≡◌, ℕ, true, false, List, map, Option, IfSome, Result, Ok, Err}
 use Rattle.std.specs.Io.KnownBytes.{Keeps}
 use Rattle.kb_context.specs.declared.failure.Failure.{Failure}

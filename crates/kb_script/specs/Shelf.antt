@@ -1,5 +1,5 @@
--- A session beside a shelf: the closures that the host has left, in order, seen as the natives that they stand
--- for. What a line says does to both.
+-- A session beside a shelf, which is the closures that the host has left, in order, seen as the natives that
+-- they stand for, and what a line of a script does to both.
 use Rattle.std.specs.Prelude.{◌≡◌, Bool, true, false, List, [], ◌∷◌, ◌++◌, if◌then◌else◌}
 use Rattle.std.specs.List.{list_any}
 use Rattle.std.specs.List.Sorted.{IsPermutation}

@@ -5,7 +5,7 @@
 pub mod fault;
 pub mod script;
 pub mod script_run;
-pub mod shelf;
+mod shelf;
 
 pub use fault::ScriptFault;
 pub use script_run::{SCRIPT_LIMIT, run_script};

@@ -1,4 +1,4 @@
-//! What a line of a script does to a session, and to the shelf beside it: the closures that the host has left.
+//! What a line of a script does to a session and to the shelf beside it, the closures that the host has left.
 ghost use Rattle.std.specs.Prelude.{◌≡◌, ◌<◌, false, true, map, option_map, option_to_list, position};
 ghost use Rattle.std.specs.Prelude.{vec_len, vec_capacity, OnOk, OnErr, IsSome, MatchOption};
 ghost use Rattle.kb_registry.specs.Live.{same_native};
@@ -20,7 +20,7 @@ use std::alloc::{AllocError, Global};
 /// found. Where memory is refused, also to reading the line, the session is stopped, and no closure of the
 /// shelf is lost.
 #[tactic(auto, using(crate::proofs::ShelfLemmas::halting))]
-pub fn obey<C: HostCommand>(
+pub(crate) fn obey<C: HostCommand>(
     alloc: Global,
     number: u64,
     line: &[u8],
@@ -55,7 +55,7 @@ pub fn obey<C: HostCommand>(
     }
 }
 
-/// Registers the first closure for a native that is on the shelf. One that is refused goes to the shelf's end.
+/// Registers the first closure for a native that is on the shelf. One that is refused goes to its end.
 #[tactic(auto, using(crate::proofs::ShelfLemmas::halting))]
 fn register_first<C: HostCommand>(
     native: Native,
@@ -124,9 +124,9 @@ fn take_first<C: HostCommand>(native: Native, shelf: &mut Vec<C>) -> Option<C>
     ensures taken { MatchOption result
         ((on_shelf native (map C.stands_for shelf.old.items) ≡ false) × (shelf.new ≡ shelf.old))
         (λ command. (C.stands_for command ≡ native)
-            × (on_shelf native (map C.stands_for shelf.old.items) ≡ true)
-            × (map C.stands_for shelf.new.items
-                ≡ without_first native (map C.stands_for shelf.old.items))) }
+        × (on_shelf native (map C.stands_for shelf.old.items) ≡ true)
+        × (map C.stands_for shelf.new.items
+        ≡ without_first native (map C.stands_for shelf.old.items))) }
     ensures room { IsSome result → vec_len shelf.new < vec_capacity shelf.new }
 {
     match place_of(native, shelf.as_slice()) {

@@ -1,6 +1,6 @@
 -- A session is what its files load, with the closures that are registered.
 use Rattle.std.proofs.Common.{◌≡◌, List, ◌∷◌, Some, None, ap, ◌∙◌, sym}
-use Rattle.std.specs.Prelude.{Result, Ok, Err, Option}
+use Rattle.std.specs.Prelude.{Result, Ok, Err}
 use Rattle.kb_bindings.specs.Fault.{refused_by}
 use Rattle.kb_bindings.specs.Load as load
 use Rattle.kb_bindings.specs.Load.{Files, Held, LoadsFiles, held_by, marks_told, sources_by, LoadMarks}

@@ -1,11 +1,12 @@
 //! A session: its state, what it is told and does, and the trace of that.
 ghost use Rattle.std.specs.Prelude.{◌≡◌, false, [], ◌∷◌, ◌++◌, take, map};
 ghost use Rattle.std.specs.Prelude.{OnOk, OnErr, IfOk, IfErr};
+ghost use Rattle.kb_context.specs.Failure.{Gives};
 ghost use Rattle.kb_context.specs.Refusal.{refused_for};
 ghost use Rattle.kb_context.specs.ScopeFault.{number_of};
 ghost use Rattle.kb_rules.specs.RuleList.{AreRightlyMarked};
 ghost use Rattle.kb_bindings.specs.Load.{files_of, MarksAreRight};
-ghost use Rattle.kb_session.specs.Session.{Loads, Takes, Does, halt, Undone, HalfDone};
+ghost use Rattle.kb_session.specs.Session.{Loads, Takes, Does, halt, Undone, HalfDone, natives_held};
 ghost use Rattle.kb_session.specs.Session.{FailsAt, FailsAmong};
 ghost use Rattle.kb_bindings.specs.Sources.{source_of};
 ghost use Rattle.kb_session.specs.State.{happens, reload, next, left_lines, with_user};
@@ -114,8 +115,7 @@ impl<C: HostCommand> Session<C> {
         ensures right { IfOk result (λ session. MarksAreRight (files_of inputs.entry) session.state.sources) }
     {
         let Loaded { scopes, bindings } = load_files(alloc, inputs)?;
-        let registry = register_all(alloc, natives)?;
-        let unread = first_list(alloc, &bindings)?;
+        let (registry, unread) = prepare(alloc, &bindings, natives)?;
         Ok(Session {
             core: HeldCore::new(Core::new(alloc, scopes)),
             bindings,
@@ -432,6 +432,21 @@ impl<C: HostCommand> Session<C> {
         self.bindings.renew(renewed);
         Ok(())
     }
+}
+
+/// What a session has at first beside its files: the closures that are live, and the lists of unread patterns.
+/// One call makes both, so that little stands to be dropped where one is refused.
+fn prepare<C: HostCommand>(
+    alloc: Global,
+    bindings: &Bindings,
+    natives: Vec<C>,
+) -> Result<(Registry<C>, Seq<Seq<UnreadIn>>), Failure<LoadFault>>
+    ensures live { Gives (λ made. made.0) result (natives_held (map C.stands_for natives.items)) }
+    ensures unread { IfOk result (λ made. made.1 ≡ unread_of bindings.now ∷ []) }
+{
+    let registry = register_all(alloc, natives)?;
+    let unread = first_list(alloc, bindings)?;
+    Ok((registry, unread))
 }
 
 /// The lists of unread patterns that a session has at first: that of its load.
