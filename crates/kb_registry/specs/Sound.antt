@@ -10,10 +10,10 @@ use Rattle.kb_registry.specs.Live.{Registered, AreNumbered, same_native}
 abbrev pub plain_entries : {E : Type 0} → (E → ℕ) → List (Native × E) → List Registered
 plain_entries ticket es = map (λ e. record { native = e.0; ticket = ticket e.1 }) es
 
--- each entry stands under the native of its command, with what that declares; no more registrations were made than
--- may be, and each has a number of its own
-pub record Sound {E S : Type 0} (native : E → Native) (declares : E → Declaration) (ticket : E → ℕ) (limit made : ℕ)
-    (table : IndexMap Native E S) : Type 0 where
+-- each entry stands under the native of its command, with what that declares; no more registrations were made
+-- than may be, and each has a number of its own
+pub record Sound {E S : Type 0} (native : E → Native) (declares : E → Declaration) (ticket : E → ℕ)
+    (limit made : ℕ) (table : IndexMap Native E S) : Type 0 where
   pub keyed : (k : Native) (e : E) → get same_native table k ≡ Some e → native e ≡ k
   pub declared : (k : Native) (e : E) → get same_native table k ≡ Some e → declares e ≡ declaration_of k
   pub within : made ≤ limit

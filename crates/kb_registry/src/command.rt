@@ -22,7 +22,8 @@ pub struct NativeCommand {
     run: Run,
     ghost callable: { (core : Core) (args : List Arg) → Fits native args → Run.pre run core args },
     ghost does: { (core : Core) (args : List Arg) (ran : Ran) → Fits native args
-        → Run.post run core args ran → Does native core args ran } by { Prim.hlevel (props, whole.the_row.coded) },
+        → Run.post run core args ran
+        → Does native core args ran } by { Prim.hlevel (props, whole.the_row.coded) },
 }
 
 impl NativeCommand {

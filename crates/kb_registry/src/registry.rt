@@ -1,6 +1,7 @@
 //! Which closures of the host are live, by native and by ticket.
-ghost use Rattle.std.specs.Prelude.{◌≡◌, ◌≢◌, ℕ, ◌+◌, ◌<◌, ◌≤◌, false, slice_get, Some, None, IsTrue, is_some, option_map};
-ghost use Rattle.std.specs.Prelude.{option_copied, IfOk, IfSome, IfErr, IfNone, OnOk, OnErr, MatchResult};
+ghost use Rattle.std.specs.Prelude.{◌≡◌, ◌≢◌, ℕ, ◌+◌, ◌<◌, ◌≤◌, false, slice_get, Some, None, IsTrue};
+ghost use Rattle.std.specs.Prelude.{is_some, option_map, option_copied, IfOk, IfSome, IfErr, IfNone, OnOk};
+ghost use Rattle.std.specs.Prelude.{OnErr, MatchResult};
 ghost use Rattle.indexmap.specs.IndexMap.{get, index_map_len};
 ghost use Rattle.kb_context.specs.Failure.{IsRefusalOrMemory};
 ghost use Rattle.kb_core.specs.Native.{Fits, declaration_of};
@@ -56,8 +57,8 @@ impl<C: HostCommand> Model for Registry<C> {
       commands = plain_entries (λ e. e.ticket) r.table.entries;
     } };
 
-    ghost invariant = { λ r. Sound (λ e. C.stands_for e.command) (λ e. e.signature) (λ e. e.ticket) r.limit r.made
-        r.table };
+    ghost invariant = { λ r. Sound (λ e. C.stands_for e.command) (λ e. e.signature) (λ e. e.ticket)
+        r.limit r.made r.table };
 }
 
 /// The number that follows one below a limit.
@@ -72,7 +73,8 @@ fn following(number: u64, limit: u64) -> u64
 fn ticket_at<C>(table: &IndexMap<Native, Entry<C>>, place: usize) -> u64
     requires { place < index_map_len table.now }
     ensures ticket { (e : _) → slice_get table.now.entries place ≡ Some e → e.1.ticket ≡ result }
-    ensures got { (e : _) → slice_get table.now.entries place ≡ Some e → get same_native table.now e.0 ≡ Some e.1 }
+    ensures got { (e : _) → slice_get table.now.entries place ≡ Some e
+        → get same_native table.now e.0 ≡ Some e.1 }
 {
     let (_, entry) = table.get_index(place).unwrap();
     entry.ticket
@@ -131,16 +133,17 @@ impl<C: HostCommand> Registry<C> {
         Ticket(following(self.made, self.limit))
     }
 
-    /// Makes a closure live for its native, and gives its ticket. It is handed back where it is refused, by 70
-    /// or 71 as `registration_fault` says, or where memory is refused; then the registry stays as it was. Tickets
-    /// that were given before mean what they meant.
+    /// Makes a closure live for its native, and gives its ticket. It is handed back where it is refused, by
+    /// 70 or 71 as `registration_fault` says, or where memory is refused; then the registry stays as it was.
+    /// Tickets that were given before mean what they meant.
     #[tactic(auto, using(crate::proofs::Tickets::holder_lasts))]
     pub fn register(&mut self, command: C) -> Result<Ticket, (C, Failure<RegistryFault>)>
         ensures allowed { OnOk result (registration_fault (C.stands_for command) self.old ≡ None) }
         ensures ticket { IfOk result (λ ticket. ticket.0 ≡ self.old.made + 1) }
         ensures ok { OnOk result (self.new ≡ registered (C.stands_for command) self.old) }
         ensures lasting { OnOk result ((t : ℕ) → t ≤ self.old.made → holder t self.new ≡ holder t self.old) }
-        ensures why { IfErr result (λ e. IsRefusalOrMemory (registration_fault (C.stands_for command) self.old) e.1) }
+        ensures why { let fault = registration_fault (C.stands_for command) self.old in
+            IfErr result (λ e. IsRefusalOrMemory fault e.1) }
         ensures back { IfErr result (λ e. e.0 ≡ command) }
         ensures err { OnErr result (self.new ≡ self.old) }
     {
@@ -208,11 +211,12 @@ impl<C: HostCommand> Registry<C> {
         }
     }
 
-    /// Takes the closure with a ticket away and gives it back; the ticket is without one from then on, and other
-    /// tickets mean what they meant. Refused as 72 where no live closure has the ticket; then the registry stays
-    /// as it was. It takes no memory.
+    /// Takes the closure with a ticket away and gives it back; the ticket is without one from then on, and
+    /// other tickets mean what they meant. Refused as 72 where no live closure has the ticket; then the
+    /// registry stays as it was. It takes no memory.
     pub fn dispose(&mut self, ticket: Ticket) -> Result<C, RegistryFault>
-        ensures answer { MatchResult result (λ command. holder ticket.0 self.old ≡ Some (C.stands_for command))
+        ensures answer { MatchResult result
+            (λ command. holder ticket.0 self.old ≡ Some (C.stands_for command))
             (λ fault. (holder ticket.0 self.old ≡ None) × (fault ≡ StaleTicket)) }
         ensures ok { OnOk result (self.new ≡ disposed ticket.0 self.old) }
         ensures stale { OnOk result (holder ticket.0 self.new ≡ None) }

@@ -26,8 +26,8 @@ fn window(alloc: Global) -> Result<HeldCore, NoMemory> {
     }
 }
 
-/// The ticket of the first closure on the shelf, 98 without one, or the number of the fault, and then it is put
-/// back at the end.
+/// The ticket of the first closure on the shelf, 98 without one, or the number of the fault, and then it is
+/// put back at the end.
 fn register<C: HostCommand>(
     registry: &mut Registry<C>,
     shelf: &mut Vec<C>,
@@ -61,7 +61,7 @@ fn dispose<C: HostCommand>(
     }
 }
 
-/// What a start of `type` costs, 0 where it isn't live, and 5 where the closure answers that memory was refused.
+/// What a start of `type` costs, 0 where it isn't live, and 5 where the closure answers `NoMemory`.
 fn start<C: HostCommand>(
     alloc: Global,
     registry: &Registry<C>,
@@ -79,8 +79,8 @@ fn start<C: HostCommand>(
     }
 }
 
-/// What each step answers, where three registrations may be made: `+` registers, `t` starts `type`, and a digit
-/// disposes of its ticket.
+/// What each step answers, where three registrations may be made: `+` registers, `t` starts `type`, and a
+/// digit disposes of its ticket.
 fn told<C: HostCommand>(alloc: Global, mut shelf: Vec<C>, steps: &str) -> Result<String, NoMemory> {
     let mut core = window(alloc)?;
     let mut registry = Registry::new(alloc, 3)?;
