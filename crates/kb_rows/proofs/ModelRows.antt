@@ -17,9 +17,13 @@ use Rattle.kb_rules.specs.RuleList.{Listed, no_elements}
 use Rattle.kb_rules.specs.declared.origin.Origin.TheVariants.{User}
 use Rattle.kb_context.specs.Faults.{fault_name}
 use Rattle.kb_context.specs.declared.refusal.Refusal.{Refusal}
-use Rattle.kb_script.specs.Script.{told_of}
+use Rattle.kb_core.specs.Native.{natives}
+use Rattle.kb_registry.specs.Live.{Live, fresh, all_registered}
+use Rattle.kb_registry.specs.declared.fault.RegistryFault.{RegistryFault}
+use Rattle.kb_script.specs.Script.{said_of}
+use Rattle.kb_script.specs.Shelf.{move, stand}
 use Rattle.kb_bindings.specs.Sources.{Sources}
-use Rattle.kb_session.specs.State.{loaded_state, next}
+use Rattle.kb_session.specs.State.{loaded_state}
 use Rattle.kb_stream.specs.FoldWriting.{text_of}
 use Rattle.kb_files.specs.Layout.{window_scopes}
 use Rattle.kb_files.specs.RuleFile.{rules_in}
@@ -33,11 +37,22 @@ lines (line ∷ more) = line ++ (10 ∷ lines more)
 abbrev sources_of : Listed → Sources
 sources_of listed = record { defaults = no_elements; extensions = []; user = listed }
 
+-- what is live where nothing was refused
+abbrev live_in : Result Live RegistryFault → Live
+live_in (Ok live) = live
+live_in (Err fault) = fresh 0
+
+-- a closure for each native, as a load registers them
+abbrev all_live : Live
+all_live = live_in (all_registered natives (fresh 1000000))
+
 abbrev written_by : Result Listed Refusal → List ℕ → List ℕ
-written_by (Ok listed) script = text_of next (told_of script) (loaded_state window_scopes (sources_of listed))
+written_by (Ok listed) script =
+    text_of move (said_of script) (stand (loaded_state window_scopes (sources_of listed) all_live) natives)
 written_by (Err fault) script = []
 
--- what a script writes, in a session that is loaded with the user's rules, whose patterns are all read
+-- what a script writes, in a session that is loaded with the user's rules, whose patterns are all read, and
+-- with a closure for each native, beside a shelf of one more for each
 abbrev pub written : List ℕ → List (List ℕ) → List ℕ
 written user script = written_by (rules_in [] User user) (lines script)
 
@@ -90,3 +105,13 @@ the_focus_leaves_a_chord : written (codes "[{\"key\":\"a b\",\"command\":\"x\"}]
     ≡ lines (codes "key a: chord" ∷ codes "refused 20 UnknownScope" ∷ codes "left a" ∷ codes "focus window" ∷ codes "key b: unbound" ∷ [])
 unfolding fault_name rules_in value_of plain_text plain_value first_piece is_utf8 chars encode names key_named keystroke_of split_of spelling when_of keystrokes_of condition_of args_of binding_of terms_of element_of serde_json_on_literals digits
 the_focus_leaves_a_chord = refl
+
+a_ticket_is_given_once : written (codes "[{\"key\":\"t\",\"command\":\"type\",\"args\":\"x\"}]") (codes "dispose 1" ∷ codes "dispose 1" ∷ codes "key t" ∷ codes "register type" ∷ codes "dispose 1" ∷ codes "key t" ∷ codes "register type" ∷ codes "register nope" ∷ [])
+    ≡ lines (codes "disposed type 1" ∷ codes "refused 72 StaleTicket" ∷ codes "key t: start type" ∷ codes "not found type" ∷ codes "registered type 10" ∷ codes "refused 72 StaleTicket" ∷ codes "key t: start type" ∷ codes "done \"x\" \"\"" ∷ codes "refused 70 AlreadyExists" ∷ codes "unread line 8" ∷ [])
+unfolding fault_name rules_in value_of plain_text plain_value first_piece is_utf8 chars encode names key_named keystroke_of split_of spelling when_of keystrokes_of condition_of args_of binding_of terms_of element_of serde_json_on_literals digits
+a_ticket_is_given_once = refl
+
+commands_run_in_order : written (codes "[{\"key\":\"r\",\"command\":\"runCommands\",\"args\":{\"commands\":[{\"command\":\"type\",\"args\":\"a\"},\"no.such\",\"buffer.clear\"]}},{\"key\":\"s\",\"command\":\"runCommands\",\"args\":{\"commands\":[\"runCommands\"]}}]") (codes "key r" ∷ codes "key s" ∷ [])
+    ≡ lines (codes "key r: start runCommands" ∷ codes "run type" ∷ codes "done \"a\" \"\"" ∷ codes "run no.such" ∷ codes "not found no.such" ∷ codes "key s: start runCommands" ∷ codes "bad arguments runCommands" ∷ [])
+unfolding fault_name rules_in value_of plain_text plain_value first_piece is_utf8 chars encode names key_named keystroke_of split_of spelling when_of keystrokes_of condition_of args_of binding_of terms_of element_of serde_json_on_literals digits
+commands_run_in_order = refl
