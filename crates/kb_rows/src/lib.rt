@@ -7,6 +7,9 @@ ghost use Rattle.std.specs.Prelude.{IfOk, IfErr, map};
 ghost use Rattle.kb_rows.specs.Transcript.{IsTranscript, FailsToGive};
 ghost use Rattle.kb_bindings.specs.Load.{files_of};
 
+mod alike;
+
+pub use alike::run_alike;
 use kb_bindings::{Inputs, LoadFault};
 use kb_context::Failure;
 use kb_registry::HostCommand;
@@ -21,8 +24,9 @@ pub enum TranscriptFault {
     Script(ScriptFault),
 }
 
-/// What a script writes in a session of its own, which is loaded with these files and closures, beside a shelf of more closures: the plain model's text, as the
-/// contracts of `load` and `run_script` give it over memory. Whatever the closures are, the text follows from the natives that they stand for.
+/// What a script writes in a session of its own, which is loaded with these files and closures, beside a shelf
+/// of more closures: the plain model's text, as the contracts of `load` and `run_script` give it over memory.
+/// Whatever the closures are, the text follows from the natives that they stand for.
 ///
 /// Errors: those of `load` and `run_script`, but for `Stopped`, which a session that was just loaded never
 /// gives, and refused memory.
