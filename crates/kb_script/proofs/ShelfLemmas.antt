@@ -62,7 +62,7 @@ module _ {C : Type 0} (stands_for : C → Native) (native : Native) where
   -- the closure that is taken
   pub taken : (cs : List C) (i : ℕ) (command : C) → position test cs ≡ Some i → command ≡ get_or cs i command
       → (stands_for command ≡ native) × (on_shelf native (seen cs) ≡ true)
-          × (seen (remove cs i) ≡ without_first native (seen cs))
+      × (seen (remove cs i) ≡ without_first native (seen cs))
   taken cs i command e is =
       let p = position-Some test cs i command e in
       let q = taken_at cs i command p.0 p.1 p.2 in
@@ -151,7 +151,7 @@ pub ruleset halting = (halts_same, halts_rotated, fails_state, fails_trace, halt
 pub put_back : {C : Type 0} (stands_for : C → Native) (native : Native) (before taken after : List C)
     (command back : C) (old new : Traced State)
     → (stands_for command ≡ native) × (on_shelf native (map stands_for before) ≡ true)
-        × (map stands_for taken ≡ without_first native (map stands_for before))
+    × (map stands_for taken ≡ without_first native (map stands_for before))
     → back ≡ command → after ≡ taken ++ back ∷ [] → new ≡ halt old
     → Halts (stand old.state (map stands_for before)) (stand new.state (map stands_for after))
 put_back stands_for native before taken after command back old new h same is stops =

@@ -111,7 +111,7 @@ registration name = option_map takes (named name)
 abbrev pub number_of : List ℕ → Option ℕ
 number_of digits =
     if list_all is_ascii_digit digits
-        && (not (nat_eq (length digits) 0) && nat_lt (digits_value 10 digits) (2 ^ 64))
+    && (not (nat_eq (length digits) 0) && nat_lt (digits_value 10 digits) (2 ^ 64))
     then Some (digits_value 10 digits) else None
 
 -- dispose N
