@@ -68,11 +68,7 @@ fn dispose(
     }
 }
 
-fn holder(
-    alloc: Global,
-    registry: &Registry<Command>,
-    ticket: Ticket,
-) -> Result<String, NoMemory> {
+fn holder(alloc: Global, registry: &Registry<Command>, ticket: Ticket) -> Result<String, NoMemory> {
     match registry.holder(ticket) {
         Some(native) => String::from_str(alloc, native.name()),
         None => String::from_str(alloc, "none"),
@@ -94,11 +90,7 @@ fn would_be(
     }
 }
 
-fn signature(
-    alloc: Global,
-    registry: &Registry<Command>,
-    name: &str,
-) -> Result<String, NoMemory> {
+fn signature(alloc: Global, registry: &Registry<Command>, name: &str) -> Result<String, NoMemory> {
     match registry.signature(name) {
         Some(signature) => natives::declared_by(alloc, signature),
         None => String::from_str(alloc, "none"),
@@ -121,11 +113,7 @@ fn ticket_of(number: &str) -> Ticket {
     Ticket(number.parse::<u64>().unwrap_or(0))
 }
 
-fn call(
-    alloc: Global,
-    registry: &mut Registry<Command>,
-    text: &str,
-) -> Result<String, NoMemory> {
+fn call(alloc: Global, registry: &mut Registry<Command>, text: &str) -> Result<String, NoMemory> {
     let (word, rest) = text.split_once(' ').unwrap_or((text, ""));
     match word {
         "dispose" => dispose(alloc, registry, ticket_of(rest)),
