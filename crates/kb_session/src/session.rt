@@ -94,8 +94,8 @@ impl<C: HostCommand> Model for Session<C> {
 }
 
 impl<C: HostCommand> Session<C> {
-    /// A session of these files, without text and trace, in which these closures are registered in order, with
-    /// the tickets from 1 on. All extensions are enabled. At most 1,000,000 closures are registered in a
+    /// A session of these files, without text and trace, in which these closures are registered in order,
+    /// with the tickets from 1 on. All extensions are enabled. At most 1,000,000 closures are registered in a
     /// session's life (our decision).
     ///
     /// Errors: the first file that is refused, and why, in this order (our decision): the layout (1 to 4, 40,
@@ -434,8 +434,8 @@ impl<C: HostCommand> Session<C> {
     }
 }
 
-/// What a session has at first beside its files: the closures that are live, and the lists of unread patterns.
-/// One call makes both, so that little stands to be dropped where one is refused.
+/// What a session has at first beside its files: the closures that are live, and the lists of unread
+/// patterns. One call makes both, so that little stands to be dropped where one is refused.
 fn prepare<C: HostCommand>(
     alloc: Global,
     bindings: &Bindings,
