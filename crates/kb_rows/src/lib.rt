@@ -25,8 +25,8 @@ pub enum TranscriptFault {
 }
 
 /// What a script writes in a session of its own, which is loaded with these files and closures, beside a shelf
-/// of more closures: the plain model's text, as the contracts of `load` and `run_script` give it over memory.
-/// Whatever the closures are, the text follows from the natives that they stand for.
+/// of more closures: the plain model's text, as the contracts of `load` and `run_script` give it over memory. It
+/// follows from the natives that the closures stand for, whatever these are.
 ///
 /// Errors: those of `load` and `run_script`, but for `Stopped`, which a session that was just loaded never
 /// gives, and refused memory.
@@ -39,7 +39,8 @@ pub fn transcript<C: HostCommand>(
 ) -> Result<Vec<u8>, Failure<TranscriptFault>>
     ensures ok { IfOk result (λ out. IsTranscript (files_of inputs.entry) (map C.stands_for natives.items)
         (map C.stands_for shelf.items) script.now out.items) }
-    ensures err { IfErr result (FailsToGive (files_of inputs.entry) (map C.stands_for natives.items) script.now) }
+    ensures err { IfErr result (FailsToGive (files_of inputs.entry) (map C.stands_for natives.items)
+        script.now) }
 {
     let mut session = match Session::load(alloc, inputs, natives) {
         Ok(session) => session,

@@ -239,18 +239,45 @@ fn register(
     }
 }
 
+fn ticket_of(number: &str) -> Ticket {
+    Ticket(number.parse::<u64>().unwrap_or(0))
+}
+
 fn dispose(
     session: &mut Session<Command>,
     number: &str,
     told: &mut String,
 ) -> Result<(), NoMemory> {
-    match session.dispose(Ticket(number.parse::<u64>().unwrap_or(0))) {
+    match session.dispose(ticket_of(number)) {
         Ok(command) => {
             let name = command.native.name();
             write!(told, "> back {name}\n")
         }
         Err(fault) => add_fault(fault, told),
     }
+}
+
+// Takes the closure of a ticket back, and registers it anew.
+fn turn(session: &mut Session<Command>, ticket: Ticket) -> Result<Ticket, SessionFault> {
+    let command = session.dispose(ticket)?;
+    match session.register(command) {
+        Ok(ticket) => Ok(ticket),
+        Err((_, fault)) => Err(fault),
+    }
+}
+
+// The same so many times, from a ticket on, and the last ticket.
+fn turns(session: &mut Session<Command>, rest: &str, told: &mut String) -> Result<(), NoMemory> {
+    let (number, count) = rest.split_once(' ').unwrap_or((rest, ""));
+    let mut ticket = ticket_of(number);
+    for _ in 0..count.parse::<u32>().unwrap_or(0) {
+        match turn(session, ticket) {
+            Ok(next) => ticket = next,
+            Err(fault) => return add_fault(fault, told),
+        }
+    }
+    let number = ticket.0;
+    write!(told, "> ticket {number}\n")
 }
 
 fn stop(session: &mut Session<Command>, told: &mut String) -> Result<(), NoMemory> {
@@ -263,9 +290,9 @@ fn stop(session: &mut Session<Command>, told: &mut String) -> Result<(), NoMemor
 // `warnings` are those of the files as they stand, `unread` are the patterns that weren't read, and `trace`
 // is all that was written so far. `read N SCRIPT` runs a script whose reader fails behind so many bytes,
 // `write N SCRIPT` one whose writer does, and `fill N SCRIPT` one whose writer then takes no more. `handle
-// KEY` and `run KEY ..` are calls with presses, `register NATIVE` and `dispose N` are a host's calls, and so is
-// `lacking NATIVE`, which registers a closure that is refused memory. `stop` stops the session, and says
-// whether it was stopped, and is.
+// KEY` and `run KEY ..` are calls with presses, `register NATIVE` and `dispose N` are a host's calls, `lacking
+// NATIVE` registers a closure that is refused memory, and `turns N COUNT` takes the closure of a ticket back and
+// registers it anew, so many times. `stop` stops the session, and says whether it was stopped, and is.
 fn ask(
     alloc: Global,
     session: &mut Session<Command>,
@@ -283,6 +310,7 @@ fn ask(
         "register" => register(session, rest, false, told),
         "lacking" => register(session, rest, true, told),
         "dispose" => dispose(session, rest, told),
+        "turns" => turns(session, rest, told),
         "stop" => stop(session, told),
         "read" | "write" | "fill" => run_stream(alloc, session, shelf, word, rest, told),
         _ => add_answer("no question", told),
