@@ -38,6 +38,11 @@ class Verdict:
     # What stands in its line that nothing here knows how to read.
     unread: str = ""
 
+    @property
+    def is_broken(self):
+        """Whether its proof files hold an error."""
+        return self.lacks_names or bool(self.goals)
+
 
 def own_part(name):
     """The function that a closure belongs to, or the name itself."""

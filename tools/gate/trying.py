@@ -16,6 +16,9 @@ such a check may tell of an edit is held to this, so that no edit passes for ref
   waits for what failed is tried again, in a batch without anything in place that it reaches.
 - Where a goal of a function fails that no edit changes, or a lemma, the batch isn't judged: some edit reaches past its
   function. Its halves are tried, down to single edits.
+- Where nobody had to answer a goal, the proof is only started: rattle writes a hole for each goal that its search leaves open,
+  and a hole refuses the edit. A start takes what is called by its contract and proves nothing, so it takes a third of a
+  check's time, and callers stand beside callees. What has no hole is tried by a check.
 - What isn't refused so is tried alone, by a whole check over the kept work and then from nothing, and judged as rt
   judges a must-fail edit.
 - The functions themselves must be proved, or nothing that was tried counts: rt ci has just said so of the crate, or they
@@ -35,7 +38,7 @@ from gate.edits import edits_of, sources_of, with_edits
 from gate.kit import built_libraries, check, room_with, rt
 from gate.said import Said
 from gate.source import functions_of, named_in, users_of
-from gate.twins import Proofs, Twin, with_twins
+from gate.twins import Proofs, Twin, goals_left, texts_below, with_twins
 
 FLAGS = ["--jobs", "1"]
 # Edits that one check tries: more take no less time, and trouble with one costs all.
@@ -96,12 +99,22 @@ class Trial:
         return set() if self.twin else {it.unit for it in self.functions}
 
     @property
+    def targets(self):
+        """What has the edit: its twin, or the functions themselves."""
+        return [self.twin] if self.twin else self.functions
+
+    @property
     def units(self):
         """Where a goal refuses the edit."""
-        return {self.twin.unit} if self.twin else self.changed
+        return {it.unit for it in self.targets}
 
     def plain_names(self):
-        return [it.plain_name() for it in ([self.twin] if self.twin else self.functions)]
+        return [it.plain_name() for it in self.targets]
+
+    def is_beside(self, other):
+        """Whether neither changes what the other changes, in its place."""
+        own, its = ({it.unit for it in one.functions} for one in (self, other))
+        return not (self.changed & its or other.changed & own)
 
     def rests_on(self, other, calls):
         """Whether what the other changes is what this one changes or calls."""
@@ -134,6 +147,7 @@ class Crate:
             if edit.fault:
                 self.judged(Tried(edit, False, f"can't be applied: {edit.fault}"))
         self.pending = [it for it in self.edits if not it.fault and self.trial_of(it)]
+        self.start_all()
         while self.pending:
             self.try_batch(self.next_batch())
         for edit in self.edits:
@@ -169,6 +183,21 @@ class Crate:
             words = [word for it in names for word in ("--only", it)]
             return check(self.crate, room.folder, [*FLAGS, *words], self.kept), functions_of(room)
 
+    def started(self, texts, targets):
+        """Starts the proofs of these functions in a copy of the crate with these files, and returns which goals each leaves open, too."""
+        with room_with(self.crate, texts) as room:
+            before = {f"proofs/{path}" for path in texts_below(f"{room.folder}/proofs")}
+            words = [word for it in targets for word in ("--start", it.plain_name())]
+            ran = check(self.crate, room.folder, [*FLAGS, *words], self.kept)
+            return ran, functions_of(room), {it: goals_left(it, before, room.folder) for it in targets}
+
+    def texts_of(self, batch, controls):
+        """The sources with a batch's edits and twins in them, and the twins' files of proofs."""
+        twins = [*controls, *(it.twin for it in batch if it.twin)]
+        sources = with_edits([it.edit for it in batch if not it.twin], self.sources)
+        texts = {path: "\n".join(lines) for path, lines in with_twins(twins, sources).items()}
+        return texts | {path: text for it in twins for path, text in self.proofs.of_twin(it).items()}
+
     def judged(self, tried):
         self.results[tried.edit] = tried
         self.say(f"{self.crate.name}/{tried.edit.name}: {tried.text}")
@@ -193,19 +222,48 @@ class Crate:
         needed = [it for it in self.functions if it in twins and self.proofs.of(it)]
         return [Twin(it, f"{it.name}_wrong_0") for it in needed if self.has_controls]
 
+    def start_all(self):
+        """Starts the proofs of all that stands changed, and takes the edits that are refused so from what is left."""
+        left = [it for it in map(self.trial_of, self.pending) if all(map(self.proofs.can_start, it.functions))]
+        while left:
+            batch = []
+            for it in left:
+                if len(batch) < MOST and all(map(it.is_beside, batch)):
+                    batch.append(it)
+            left = [it for it in left if it not in batch]
+            self.start_batch(batch)
+
+    def start_batch(self, batch):
+        """Tries edits by one start."""
+        self.batches += 1
+        number, begun = self.batches, time.time()
+        controls = self.controls_of(batch)
+        texts = self.texts_of(batch, controls)
+        ran, functions, left = self.started(texts, [*controls, *(target for it in batch for target in it.targets)])
+        said = Said(ran.stdout, self.crate, functions)
+        trouble = start_trouble_in(ran, said)
+        took = f"took {time.time() - begun:.0f} s{trouble and f', not judged: {trouble}'}"
+        self.say(f"{self.crate.name}: start {number} of {len(batch)} edits {took}")
+        unlike = {it.function for it in controls if left[it] or said.found[it.unit].is_broken}
+        for it in batch if not trouble else ():
+            if unlike & {*it.functions} or any(said.found[unit].is_broken for unit in it.units):
+                continue
+            opened = [goal for target in it.targets for goal in left[target]]
+            if opened:
+                self.pending.remove(it.edit)
+                where = it.functions[0].unit if it.twin else " or ".join(sorted(it.units))
+                self.judged(Tried(it.edit, True, f"refused by start {number}: `{opened[0]}` of {where}", number))
+
     def try_batch(self, batch):
         """Tries edits by one check, and takes what needs no other batch from what is left."""
         self.batches += 1
         number, begun = self.batches, time.time()
         controls = self.controls_of(batch)
-        twins = [*controls, *(it.twin for it in batch if it.twin)]
-        sources = with_edits([it.edit for it in batch if not it.twin], self.sources)
-        sources = {path: "\n".join(lines) for path, lines in with_twins(twins, sources).items()}
-        texts = {**sources, **{path: text for it in twins for path, text in self.proofs.of_twin(it).items()}}
+        texts = self.texts_of(batch, controls)
         names = [it.plain_name() for it in controls] + [name for it in batch for name in it.plain_names()]
         ran, functions = self.checked(texts, names)
         said = Said(ran.stdout, self.crate, functions)
-        trouble = trouble_in(ran, said, {unit for it in batch for unit in it.units} | {it.unit for it in controls}, sources)
+        trouble = trouble_in(ran, said, {unit for it in batch for unit in it.units} | {it.unit for it in controls})
         took = f"took {time.time() - begun:.0f} s{trouble and f', not judged: {trouble}'}"
         self.say(f"{self.crate.name}: batch {number} of {len(batch)} edits {took}")
         if trouble:
@@ -215,7 +273,7 @@ class Crate:
             if not half:
                 self.pending.remove(batch[0].edit)
             return
-        self.learn(said, twins)
+        self.learn(said, [*controls, *(it.twin for it in batch if it.twin)])
         for it in controls:
             self.take_control(it, said)
         for it in batch:
@@ -272,13 +330,22 @@ class Crate:
         self.judged(Tried(edit, is_refused, f"{text} ({time.time() - begun:.0f} s)", says_little=says_little))
 
 
-def trouble_in(ran, said, changed, texts):
+def start_trouble_in(ran, said):
+    """Why a start of edits tells nothing of them, or an empty text."""
+    if rt.rtlib.STALE.search(ran.stdout):
+        return "the kept work of a library could not be used"
+    if not said.lines[-1].startswith("started="):
+        return f"it did not reach the prover: {next(iter(said.lines), '')[:120]}"
+    return next((f"the prover cannot read an edited text: {it[:120]}" for it in said.lines if rt.unread(it, ())), "")
+
+
+def trouble_in(ran, said, changed):
     """Why a check of edits of these units tells nothing of them, or an empty text."""
     if rt.rtlib.STALE.search(ran.stdout):
         return "the kept work of a library could not be used"
     if not said.lines[-1].startswith("only="):
         return f"it did not reach the prover: {next(iter(said.lines), '')[:120]}"
-    if bad := next((it for it in said.lines if rt.unread(it, texts)), ""):
+    if bad := next((it for it in said.lines if rt.unread(it, ())), ""):
         return f"the prover cannot read an edited text: {bad[:120]}"
     if said.stray:
         return f"what failed is of no function: {said.stray[0][:120]}"

@@ -13,6 +13,10 @@ import os
 import re
 
 
+# A goal that a start left open.
+LEFT = re.compile(r"(?m)^([^\s:]+)(?: [\w-]+)* = \?$")
+
+
 @dataclasses.dataclass(eq=False)
 class Twin:
     """A copy of a function: under which name, and with which edit, or without one."""
@@ -37,7 +41,7 @@ class Twin:
 
 
 def folder_of(function):
-    """The function's folder of proofs, below the crate."""
+    """The folder of proofs of a function or a twin, below the crate."""
     return "/".join(["proofs", *function.unit.split("::")])
 
 
@@ -67,22 +71,37 @@ class Proofs:
         """The files of a function's proof."""
         return {path: text for path, text in self.texts.items() if path.startswith(f"{folder_of(function)}/")}
 
+    def can_start(self, function):
+        """Whether nobody wrote a part of the function's proof, but for the invariants of its loops."""
+        return all(path.endswith("/Invariants.antt") for path in self.of(function)) and not self.calls_itself(function)
+
+    def calls_itself(self, function):
+        """Whether the function's proof is that of a cycle that it is alone in."""
+        parts = folder_of(function).rpartition("/")
+        return any(path.startswith(f"{parts[0]}/+{parts[2]}/") for path in self.texts)
+
     def let_twins_of(self, function, functions):
         """Whether a copy of the function is proved as it is: no trait's or cycle's part, and no other file names its proof."""
-        parts = folder_of(function).rpartition("/")
-        calls_itself = any(path.startswith(f"{parts[0]}/+{parts[2]}/") for path in self.texts)
         is_inner = any(it is not function and it.file == function.file and it.spans(function.head) for it in functions)
         own, named = self.of(function), proof_path(function)
         is_named = any(named.search(text) for path, text in self.texts.items() if path not in own)
-        return not (function.trait or function.cycle or calls_itself or is_inner or is_named)
+        return not (function.trait or function.cycle or self.calls_itself(function) or is_inner or is_named)
 
     def of_twin(self, twin):
         """The proof files of a twin: those of its function under its own name."""
         named = ".".join(twin.unit.split("::"))
         start = folder_of(twin.function)
-        own = f"{start.rpartition('/')[0]}/{twin.name}"
+        own = folder_of(twin)
         path = proof_path(twin.function)
         return {f"{own}{at[len(start):]}": path.sub(named, text) for at, text in self.of(twin.function).items()}
+
+
+def goals_left(target, before, folder):
+    """The goals for which a start left a hole in a function's or twin's answers, or none where it wrote another file than those before."""
+    own, found = folder_of(target), texts_below(os.path.join(folder, folder_of(target)))
+    if any(path != "Answers.antt" and f"{own}/{path}" not in before for path in found):
+        return []
+    return LEFT.findall(found.get("Answers.antt", ""))
 
 
 def with_twins(twins, texts):

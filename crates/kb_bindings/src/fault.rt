@@ -5,7 +5,7 @@ ghost use Rattle.kb_bindings.specs.Fault as fault;
 use kb_context::{Failure, Refusal};
 use std::fmt;
 
-/// A file that a load reads, in the order of loading.
+/// What a load goes over, in its order: files, and last what the host gives for native commands.
 #[derive(Clone, Copy, Debug, PartialEq, Eq)]
 pub enum LoadFile {
     /// The layout of the scopes.
@@ -18,6 +18,8 @@ pub enum LoadFile {
     Extensions,
     /// The `package.json` of an extension, by its number in load order, from 0 on.
     Package(usize),
+    /// The closures that the host gives for native commands.
+    Natives,
 }
 
 /// Why a session was not loaded: the first file in the order of loading that is refused, and why.
@@ -41,6 +43,7 @@ impl fmt::Display for LoadFile {
             LoadFile::User => f.write_str("user"),
             LoadFile::Extensions => f.write_str("extensions"),
             LoadFile::Package(number) => write!(f, "ext {number} package.json"),
+            LoadFile::Natives => f.write_str("natives"),
         }
     }
 }

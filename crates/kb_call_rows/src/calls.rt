@@ -1,5 +1,5 @@
 //! Rows that are one call each.
-use crate::{answers, clauses, manifests, natives, rules, scopes};
+use crate::{answers, clauses, manifests, natives, registries, rules, scopes};
 use kb_context::{NoMemory, Scopes};
 use kb_row_text::{Answers, Teller, tell_rows};
 use std::alloc::Global;
@@ -28,6 +28,18 @@ fn answer_over(
     }
 }
 
+fn answer_in_scopes(
+    alloc: Global,
+    kind: &str,
+    scopes: &mut Option<Scopes>,
+    text: &str,
+) -> Result<String, NoMemory> {
+    match scopes {
+        Some(scopes) => answer_over(alloc, kind, scopes, text),
+        None => String::from_str(alloc, "no scopes"),
+    }
+}
+
 fn answer_of_text(
     alloc: Global,
     kind: &str,
@@ -46,9 +58,9 @@ fn answer_of_text(
         "arguments" => natives::arguments(alloc, text),
         "tree" => clauses::same(alloc, text),
         "unread" => clauses::unread(alloc, text),
-        _ => match scopes {
-            Some(scopes) => answer_over(alloc, kind, scopes, text),
-            None => String::from_str(alloc, "no scopes"),
+        _ => match kind.strip_prefix("registry ") {
+            Some(limit) => registries::calls(alloc, limit, text),
+            None => answer_in_scopes(alloc, kind, scopes, text),
         },
     }
 }

@@ -6,6 +6,7 @@ mod calls;
 mod clauses;
 mod manifests;
 mod natives;
+mod registries;
 mod rules;
 mod scopes;
 

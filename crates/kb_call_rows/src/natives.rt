@@ -4,7 +4,8 @@ use kb_core::{Arg, Args, Native, Signature};
 use serde_json::Value;
 use std::alloc::Global;
 
-fn declared_by(alloc: Global, signature: &Signature) -> Result<String, NoMemory> {
+/// What a signature declares.
+pub(crate) fn declared_by(alloc: Global, signature: &Signature) -> Result<String, NoMemory> {
     let mut said = String::new(alloc);
     for param in signature.params() {
         let name = param.name.as_str();

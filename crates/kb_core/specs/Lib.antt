@@ -6,5 +6,4 @@ pub mod Reading
 pub mod Buffer
 pub mod Native
 pub mod Core
-pub mod HeldCore
-pub mod HeldCoreLoan
+pub mod Ran

@@ -1,6 +1,6 @@
 -- The table of the native commands: identifier, parameters, budget and effect.
 use Rattle.std.specs.Prelude.{◌≡◌, ℕ, List, [], ◌∷◌, Option, None, is_some, false, if◌then◌else◌, codes, find}
-use Rattle.std.specs.Prelude.{bytes_eq}
+use Rattle.std.specs.Prelude.{bytes_eq, IsTrue}
 use Rattle.kb_context.specs.declared.value.ContextValue.{ContextValue}
 use Rattle.kb_context.specs.declared.value.ContextValue.TheVariants as value
 use Rattle.kb_context.specs.Scopes.{ScopesData, value_at, set_fault_at, with_value_at}
@@ -17,6 +17,7 @@ use Rattle.kb_core.specs.Arg.{context_value}
 use Rattle.kb_core.specs.Buffer.{empty, with_inserted, without_left, without_right, moved_left, moved_right}
 use Rattle.kb_core.specs.Buffer.{at_top, at_bottom}
 use Rattle.kb_core.specs.Declaration.{Declaration}
+use Rattle.kb_core.specs.Signature.{fits}
 
 abbrev pub natives : List Native
 natives =
@@ -60,6 +61,10 @@ budget_of BufferClear = 11
 budget_of BufferTop = 11
 budget_of BufferBottom = 11
 budget_of SetContext = 101
+
+-- the arguments fit the native's parameters
+abbrev pub Fits : Native → List Arg → Type 0
+Fits native args = IsTrue (fits (parameters_of native) args)
 
 -- a native calls nothing
 abbrev pub declaration_of : Native → Declaration

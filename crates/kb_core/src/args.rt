@@ -1,23 +1,26 @@
 //! The list of arguments that a command gets.
 ghost use Rattle.std.specs.Prelude.{◌≡◌, ◌<◌, ◌≤◌, ◌-◌, [], ◌∷◌, ◌++◌, length, take, slice_get};
+ghost use Rattle.std.specs.Prelude.{OnOk, OnErr};
 ghost use Rattle.kb_core.specs.Declaration.{parameter_limit};
 
 use crate::arg::Arg;
+use kb_context::NoMemory;
 use smallvec::SmallVec;
 use std::alloc::Global;
 use std::marker::Model;
 
-/// How many parameters a command may have, and so how many arguments it may get (our decision).
-pub const PARAMETER_LIMIT: usize = 8;
+/// How many arguments are kept inline, as many as a native command takes at most: a list is moved several
+/// times before a command has it.
+const INLINE: usize = 2;
 
-/// At most `PARAMETER_LIMIT` arguments, kept inline. Contracts see their list.
+/// At most eight arguments, as many as a command may have parameters (our decision). Contracts see their list.
 #[derive(Drop)]
 pub struct Args {
-    items: SmallVec<Arg, PARAMETER_LIMIT>,
+    items: SmallVec<Arg, INLINE>,
 }
 
 impl Model for Args {
-    ghost use Rattle.std.specs.Prelude.{◌≡◌, ◌≤◌, List, length};
+    ghost use Rattle.std.specs.Prelude.{◌≤◌, List, length};
     ghost use Rattle.kb_core.specs.Declaration.{parameter_limit};
     ghost use Rattle.kb_core.specs.declared.arg.Arg.{Arg};
 
@@ -25,8 +28,7 @@ impl Model for Args {
 
     ghost view = { λ a. a.items.items };
 
-    ghost invariant = { λ a. (length a.items.items ≤ parameter_limit)
-        × (a.items.capacity ≡ parameter_limit) };
+    ghost invariant = { λ a. (length a.items.items ≤ parameter_limit) × (2 ≤ a.items.capacity) };
 }
 
 impl Args {
@@ -39,12 +41,16 @@ impl Args {
         }
     }
 
-    /// Adds an argument at the end. It takes no memory.
-    pub fn push(&mut self, arg: Arg)
+    /// Adds an argument at the end, which takes memory from the third on. Without memory the arguments stay as
+    /// they were.
+    pub fn push(&mut self, arg: Arg) -> Result<(), NoMemory>
         requires { length self.old < parameter_limit }
-        ensures { self.new ≡ self.old ++ arg ∷ [] }
+        ensures ok { OnOk result (self.new ≡ self.old ++ arg ∷ []) }
+        ensures err { OnErr result (self.new ≡ self.old) }
+        ensures more { OnErr result (2 ≤ length self.old) }
     {
-        self.items.push_reserved(arg);
+        self.items.push(arg)?;
+        Ok(())
     }
 
     /// Takes the last argument away and gives it, or `None` without one. It takes no memory.

@@ -4,7 +4,6 @@
 pub mod arg;
 pub mod args;
 pub mod buffer;
-pub mod held_core;
 pub mod native;
 pub mod parameter;
 mod reading;
@@ -14,8 +13,7 @@ pub mod signature;
 pub use arg::{Arg, Kind};
 pub use args::Args;
 pub use buffer::Buffer;
-pub use held_core::HeldCore;
-pub use native::Native;
+pub use native::{NATIVES, Native};
 pub use parameter::{NamedKind, Param};
 pub use run::{Core, Ran, plain};
 pub use signature::Signature;

@@ -34,6 +34,19 @@ static KEY_AND_VALUE: [NamedKind; 2] = [
     },
 ];
 
+/// The native commands, in the order of their table.
+pub const NATIVES: [Native; 9] = [
+    Native::TypeText,
+    Native::DeleteLeft,
+    Native::DeleteRight,
+    Native::CursorLeft,
+    Native::CursorRight,
+    Native::BufferClear,
+    Native::BufferTop,
+    Native::BufferBottom,
+    Native::SetContext,
+];
+
 /// A native command. The nine, their identifiers and what they take are our decision. VS Code
 /// documents a command `setContext`, which sets a context key.
 #[derive(Clone, Copy, Debug, PartialEq, Eq, Hash)]
@@ -126,7 +139,8 @@ impl Native {
         Ok(Signature::new(params, self.budget(), 0))
     }
 
-    fn budget(self) -> u32
+    /// What a run of the command may cost at most, in instructions.
+    pub fn budget(self) -> u32
         ensures { result ≡ budget_of self }
     {
         match self {

@@ -73,7 +73,7 @@ fn object_args<P: Parameter>(
     for param in params {
         let member = object.get(param.name());
         match member_arg(alloc, param.kind(), member)? {
-            Some(arg) => args.push(arg),
+            Some(arg) => args.push(arg)?,
             None => return Ok(None),
         }
     }
@@ -81,15 +81,15 @@ fn object_args<P: Parameter>(
 }
 
 /// For each parameter the empty value of its kind.
-fn empty_args<P: Parameter>(alloc: Global, params: &[P]) -> Args
+fn empty_args<P: Parameter>(alloc: Global, params: &[P]) -> Result<Args, NoMemory>
     requires { length params.now ≤ parameter_limit }
-    ensures { result ≡ map (λ p. empty_of p.kind) (map P.declares params.now) }
+    ensures { IfOk result (λ args. args ≡ map (λ p. empty_of p.kind) (map P.declares params.now)) }
 {
     let mut args = Args::new(alloc);
     for param in params {
-        args.push(param.kind().empty(alloc));
+        args.push(param.kind().empty(alloc))?;
     }
-    args
+    Ok(args)
 }
 
 /// A lone value for a lone parameter.
@@ -100,7 +100,7 @@ fn lone_arg(alloc: Global, kind: Kind, value: &Value) -> Result<Option<Args>, No
         return Ok(None);
     };
     let mut args = Args::new(alloc);
-    args.push(arg);
+    args.push(arg)?;
     Ok(Some(args))
 }
 
@@ -118,7 +118,7 @@ pub(crate) fn arguments_for<P: Parameter>(
         return Ok(Some(Args::new(alloc)));
     }
     match value {
-        None | Some(Value::Null) => Ok(Some(empty_args(alloc, params))),
+        None | Some(Value::Null) => Ok(Some(empty_args(alloc, params)?)),
         Some(value) => {
             if value.is_object() {
                 return object_args(alloc, params, value);

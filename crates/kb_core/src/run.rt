@@ -3,6 +3,7 @@ ghost use Rattle.std.specs.Prelude.{◌≡◌, IsTrue, OnOk, OnErr, IfOk, None};
 ghost use Rattle.kb_core.specs.Core.{new_core, core_after};
 ghost use Rattle.kb_context.specs.Scopes.{set_fault_at, value_at};
 ghost use Rattle.kb_core.specs.Native.{text_of, value_of, with_root_key, parameters_of, MayLackMemory};
+ghost use Rattle.kb_core.specs.Ran.{Does};
 ghost use Rattle.kb_core.specs.Signature.{fits};
 ghost use Rattle.kb_core.specs.declared.native.Native.TheVariants.{SetContext};
 
@@ -47,6 +48,7 @@ pub fn plain(native: Native, core: Core, args: Args) -> Ran
     ensures err { OnErr result.cost (result.core ≡ core) }
     ensures refused { OnErr result.cost (MayLackMemory native args core.scopes) }
     ensures cost { IfOk result.cost (λ cost. cost ≡ 1) }
+    ensures does { Does native core args result }
 {
     let mut core = core;
     let cost = match edit(native, &mut core, args) {

@@ -34,9 +34,9 @@ impl Model for Signature {
 }
 
 impl Signature {
-    /// A signature within the limits (our decision): at most `PARAMETER_LIMIT` parameters, a budget from
-    /// 1 to 1,000,000,000 instructions and costs of native commands, and a depth up to 64, which is 0 for
-    /// what calls nothing.
+    /// A signature within the limits (our decision): at most eight parameters, a budget from 1 to
+    /// 1,000,000,000 instructions and costs of native commands, and a depth up to 64, which is 0 for what
+    /// calls nothing.
     pub fn new(params: Seq<Param>, budget: u32, depth: u8) -> Signature
         requires params { length params ≤ parameter_limit }
         requires some_budget { 1 ≤ budget }

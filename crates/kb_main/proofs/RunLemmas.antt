@@ -6,6 +6,7 @@ use Rattle.std.specs.Borrow.{Bor}
 use Rattle.std.specs.Prelude.{Option, Some, None, Result, Ok, Err, option_map, unwrap_or}
 use Rattle.std.specs.Io.KnownBytes.{append_known}
 use Rattle.kb_context.specs.declared.failure.Failure.{Failure}
+use Rattle.kb_core.specs.declared.native.Native.{Native}
 use Rattle.kb_context.specs.declared.failure.Failure.TheVariants as failure
 use Rattle.kb_ending.specs.Files.{Held, unknown, refuses, holds, HasRead, HasManifest, Opens, NamesBytes, NamesFile}
 use Rattle.kb_ending.specs.Report.{warning_line, load_stop, manifest_path}
@@ -49,10 +50,10 @@ warned_all sources before end warnings all are says =
     subst (λ xs. Says before end (warning_text sources xs)) are says
 
 -- a load that fails stops the run
-pub load_fails : (files : Files) (failed : Failure LoadFault) → Loads files (Err failed)
-    → FailsToLoad files (load_stop failed)
-load_fails files failure.NoMemory fails = tt
-load_fails files (failure.Fault fault) fails = fails
+pub load_fails : (files : Files) (natives : List Native) (failed : Failure LoadFault)
+    → Loads files natives (Err failed) → FailsToLoad files natives (load_stop failed)
+load_fails files natives failure.NoMemory fails = tt
+load_fails files natives (failure.Fault fault) fails = fails
 
 pub nothing_left : (had : Option (List ℕ)) → had ≡ append_known had []
 nothing_left None = refl

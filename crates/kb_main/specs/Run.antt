@@ -6,6 +6,7 @@ use Rattle.std.specs.Io.KnownBytes.{Keeps, append_known}
 use Rattle.clap.specs.Words.{kind_of}
 use Rattle.clap.specs.declared.error.kind.ErrorKind.TheVariants.{InvalidValue}
 use Rattle.kb_context.specs.declared.failure.Failure.{Failure}
+use Rattle.kb_core.specs.declared.native.Native.{Native}
 use Rattle.kb_ending.specs.Files.{Held, HasRead, HasManifest, NamesBytes, NamesFile, Opens}
 use Rattle.kb_ending.specs.Report.{warning_line, stop_line, script_stop}
 use Rattle.kb_ending.specs.Voice.{Heard, Says}
@@ -21,9 +22,10 @@ use Rattle.kb_options.specs.declared.given.OptionsFault.TheVariants as options
 use Rattle.kb_options.specs.declared.given.WordsFault.{WordsFault}
 use Rattle.kb_options.specs.declared.given.WordsFault.TheVariants as words
 use Rattle.kb_script.specs.ScriptRun.{Answers}
+use Rattle.kb_script.specs.Shelf.{Stand, beside}
 use Rattle.kb_script.specs.declared.fault.ScriptFault.{ScriptFault}
-use Rattle.kb_bindings.specs.Load.{Files, held_by}
-use Rattle.kb_session.specs.Session.{loaded, marks_by}
+use Rattle.kb_bindings.specs.Load.{Files}
+use Rattle.kb_session.specs.Session.{loaded, load_held, marks_by}
 use Rattle.kb_bindings.specs.Sources.{Sources, source_of}
 use Rattle.kb_session.specs.State.{State}
 use Rattle.kb_bindings.specs.Warning.{warnings_of}
@@ -39,7 +41,7 @@ Flushes true written has = Keeps written has
 Flushes false written has = (left : List ℕ) × Keeps written (append_known has left)
 
 -- the script was run, its lines were written through a buffer, and that was flushed
-pub record Plays (had left : Option (List ℕ)) (old new : Traced State) (before has : Option (List ℕ))
+pub record Plays (had left : Option (List ℕ)) (old new : Traced Stand) (before has : Option (List ℕ))
     (end : Result (Unit {0}) Stop) : Type 0 where
   pub ran : Result (Unit {0}) (Failure ScriptFault)
   pub is_flushed : Bool
@@ -49,7 +51,7 @@ pub record Plays (had left : Option (List ℕ)) (old new : Traced State) (before
   pub end_is : end ≡ script_stop ran is_flushed
 
 -- the same, with whatever is left of the script's bytes
-abbrev pub PlaysAny : Option (List ℕ) → Traced State → Traced State → Option (List ℕ) → Option (List ℕ)
+abbrev pub PlaysAny : Option (List ℕ) → Traced Stand → Traced Stand → Option (List ℕ) → Option (List ℕ)
     → Result (Unit {0}) Stop → Type 0
 PlaysAny script old new before has end = (left : Option (List ℕ)) × Plays script left old new before has end
 
@@ -61,6 +63,15 @@ warning_text sources warnings =
     flat_map (λ warning. warning_line (source_of sources warning.origin) warning ++ 10 ∷ []) warnings
 
 -- ---- the run
+
+-- the host's closures, seen as the natives that they stand for: those that a load registers, and the shelf of a
+-- script
+pub record Closures : Type 0 where
+  pub natives : List Native
+  pub shelf : List Native
+
+abbrev pub closures_of : List Native → List Native → Closures
+closures_of natives shelf = record { natives = natives; shelf = shelf }
 
 -- standard error and standard output, before a run and behind it
 pub record Streams : Type 0 where
@@ -74,34 +85,35 @@ pub record Silent (o : Streams) : Type 0 where
   pub said : o.said ≡ o.said_before
   pub printed : (left : List ℕ) × (o.had ≡ append_known o.has left)
 
--- the script was reached: the session is what its files load for the marks that it tells, each of its
--- warnings is said in its line, and the script was played
-pub record Played (files : Files) (script : Option (List ℕ)) (o : Streams) (end : Result (Unit {0}) Stop)
-    : Type 0 where
+-- the script was reached: the session is what its files load for the marks that it tells, with the host's
+-- closures, each of its warnings is said in its line, and the script was played
+pub record Played (files : Files) (closures : Closures) (script : Option (List ℕ)) (o : Streams)
+    (end : Result (Unit {0}) Stop) : Type 0 where
   pub session : Traced State
-  pub loaded_is : loaded (marks_by files session) files ≡ Ok session
+  pub loaded_is : loaded (marks_by files session) files closures.natives ≡ Ok session
   pub warned : Says o.said_before o.said
       (warning_text session.state.sources (warnings_of session.state.sources))
-  pub new : Traced State
-  pub plays : PlaysAny script session new o.had o.has end
+  pub new : Traced Stand
+  pub plays : PlaysAny script (beside session closures.shelf) new o.had o.has end
 
 -- why nothing was loaded; the marks of patterns make no fault
-abbrev pub FailsToLoad : Files → Stop → Type 0
-FailsToLoad files (CannotRead path) = ⊥
-FailsToLoad files (CannotReadIn dir) = ⊥
-FailsToLoad files (Load fault) = held_by files ≡ Err fault
-FailsToLoad files (Script fault) = ⊥
-FailsToLoad files NoMemory = ⊤
+abbrev pub FailsToLoad : Files → List Native → Stop → Type 0
+FailsToLoad files natives (CannotRead path) = ⊥
+FailsToLoad files natives (CannotReadIn dir) = ⊥
+FailsToLoad files natives (Load fault) = load_held files natives ≡ Err fault
+FailsToLoad files natives (Script fault) = ⊥
+FailsToLoad files natives NoMemory = ⊤
 
-pub record NotLoaded (files : Files) (o : Streams) (end : Result (Unit {0}) Stop) : Type 0 where
+pub record NotLoaded (files : Files) (closures : Closures) (o : Streams) (end : Result (Unit {0}) Stop)
+    : Type 0 where
   pub stop : Stop
   pub end_is : end ≡ Err stop
-  pub why : FailsToLoad files stop
+  pub why : FailsToLoad files closures.natives stop
   pub silent : Silent o
 
 -- what a run does with what its files hold
-abbrev pub Runs : Files → Option (List ℕ) → Streams → Result (Unit {0}) Stop → Type 0
-Runs files script o end = NotLoaded files o end ⊎ Played files script o end
+abbrev pub Runs : Files → Closures → Option (List ℕ) → Streams → Result (Unit {0}) Stop → Type 0
+Runs files closures script o end = NotLoaded files closures o end ⊎ Played files closures script o end
 
 -- the script's bytes, where they are known: those of its file, or of standard input
 abbrev pub script_bytes : {F : Type 0} → (F → Option (List ℕ)) → Option F → Option (List ℕ) → Option (List ℕ)
@@ -145,13 +157,13 @@ pub record HasFiles (held : List ℕ → Held) (given : Options) (files : Files)
   pub manifests : HasPackages held given.dirs.items files.manifests
 
 -- all files were had, and what they hold was run
-pub record FilesRun (held : List ℕ → Held) (given : Options) (input : Option (List ℕ)) (o : Streams)
-    (end : Result (Unit {0}) Stop) : Type 0 where
+pub record FilesRun (held : List ℕ → Held) (given : Options) (closures : Closures) (input : Option (List ℕ))
+    (o : Streams) (end : Result (Unit {0}) Stop) : Type 0 where
   pub files : Files
   pub script : Option (List ℕ)
   pub files_had : HasFiles held given files
   pub script_had : HasScript held given.script input script
-  pub runs : Runs files script o end
+  pub runs : Runs files closures script o end
 
 -- ---- a file that is missing
 
@@ -192,9 +204,10 @@ pub record FileMissing (held : List ℕ → Held) (given : Options) (o : Streams
   pub why : StopsReadingFiles held given stop ⊎ StopsOpeningScript held given stop
   pub silent : Silent o
 
-abbrev pub CarriesOut : (List ℕ → Held) → Options → Option (List ℕ) → Streams → Result (Unit {0}) Stop
-    → Type 0
-CarriesOut held given input o end = FileMissing held given o end ⊎ FilesRun held given input o end
+abbrev pub CarriesOut : (List ℕ → Held) → Options → Closures → Option (List ℕ) → Streams
+    → Result (Unit {0}) Stop → Type 0
+CarriesOut held given closures input o end =
+    FileMissing held given o end ⊎ FilesRun held given closures input o end
 
 -- ---- for private functions
 

@@ -3,9 +3,10 @@
 ghost use Rattle.std.specs.Prelude.{◌≡◌, [], IfOk, IfErr, map, option_map, unwrap_or};
 ghost use Rattle.std.specs.Io.Buffered.{writer_contents, writer_inner};
 ghost use Rattle.kb_ending.specs.Voice.{Says, heard_by};
-ghost use Rattle.kb_main.specs.Run.{CarriesOut, Runs, Plays, PlaysAny, script_bytes, warning_text};
+ghost use Rattle.kb_main.specs.Run.{CarriesOut, Runs, Plays, PlaysAny, closures_of, script_bytes, warning_text};
 ghost use Rattle.kb_main.specs.Run.{HasPackages, HasFiles, StopsInDirs, StopsReadingFiles, files_in};
 ghost use Rattle.kb_bindings.specs.Load.{files_of};
+ghost use Rattle.kb_script.specs.Shelf.{beside};
 ghost use Rattle.kb_bindings.specs.Warning.{warnings_of};
 
 use kb_bindings::Inputs;
@@ -16,13 +17,21 @@ use kb_ending::{
 };
 use kb_keys::Platform;
 use kb_options::Options;
+use kb_registry::HostCommand;
 use kb_script::run_script;
 use kb_session::Session;
 use std::alloc::Global;
 use std::io::{BufWriter, Read, Write};
 
+/// The closures of a host: those that a load registers, and the shelf from which a script takes more.
+#[derive(Drop)]
+pub struct HostClosures<H> {
+    pub natives: Vec<H>,
+    pub shelf: Vec<H>,
+}
+
 // Says a line for each warning of a session.
-fn say_warnings<C: Console + Drop>(session: &Session, voice: &mut Voice<C>)
+fn say_warnings<H: HostCommand, C: Console + Drop>(session: &Session<H>, voice: &mut Voice<C>)
     ensures { Says (heard_by C.said voice.old) (heard_by C.said voice.new)
         (warning_text session.now.state.sources (warnings_of session.now.state.sources)) }
 {
@@ -34,58 +43,68 @@ fn say_warnings<C: Console + Drop>(session: &Session, voice: &mut Voice<C>)
 }
 
 // Runs the script, and has what is left of its trace in the buffer written too.
-fn play<'a, I: Read, O: Write + Drop>(
+fn play<'a, I: Read, O: Write + Drop, H: HostCommand>(
     alloc: Global,
     script: &mut I,
     trace: &mut BufWriter<O>,
-    session: &mut Session,
+    session: &mut Session<H>,
+    shelf: &mut Vec<H>,
 ) -> Result<(), Stop<'a>>
-    ensures { Plays (I.remaining script.old) (I.remaining script.new) session.old session.new
+    ensures { Plays (I.remaining script.old) (I.remaining script.new)
+        (beside session.old (map H.stands_for shelf.old.items))
+        (beside session.new (map H.stands_for shelf.new.items))
         (writer_contents O.contents trace.old) (O.contents (writer_inner trace.new)) result }
 {
-    let ran = run_script(alloc, script, trace, session);
+    let ran = run_script(alloc, script, trace, session, shelf);
     let is_flushed = trace.flush().is_ok();
     script_stop(ran, is_flushed)
 }
 
 // Runs the script of a file, where there is one, and else of standard input.
-fn play_any<'a, S: Read + Drop, I: Read, O: Write + Drop>(
+fn play_any<'a, S: Read + Drop, I: Read, O: Write + Drop, H: HostCommand>(
     alloc: Global,
     script: Option<S>,
     input: &mut I,
     trace: &mut BufWriter<O>,
-    session: &mut Session,
+    session: &mut Session<H>,
+    shelf: &mut Vec<H>,
 ) -> Result<(), Stop<'a>>
-    ensures { PlaysAny (script_bytes S.remaining script (I.remaining input.old)) session.old session.new
+    ensures { PlaysAny (script_bytes S.remaining script (I.remaining input.old))
+        (beside session.old (map H.stands_for shelf.old.items))
+        (beside session.new (map H.stands_for shelf.new.items))
         (writer_contents O.contents trace.old) (O.contents (writer_inner trace.new)) result }
 {
     match script {
-        Some(mut file) => play(alloc, &mut file, trace, session),
-        None => play(alloc, input, trace, session),
+        Some(mut file) => play(alloc, &mut file, trace, session, shelf),
+        None => play(alloc, input, trace, session, shelf),
     }
 }
 
-// Loads a session of what the files hold, says its warnings, and runs the script.
+// Loads a session of what the files hold, with the host's closures, says its warnings, and runs the script.
 #[tactic(auto, using(crate::proofs::RunLemmas::loading))]
-fn run_loaded<'a, S: Read + Drop, I: Read, O: Write + Drop, C: Console + Drop>(
+fn run_loaded<'a, S: Read + Drop, I: Read, O: Write + Drop, C: Console + Drop, H: HostCommand>(
     alloc: Global,
     inputs: Inputs<'_>,
+    closures: HostClosures<H>,
     script: Option<S>,
     input: &mut I,
     trace: &mut BufWriter<O>,
     voice: &mut Voice<C>,
 ) -> Result<(), Stop<'a>>
-    ensures { Runs (files_of inputs.entry) (script_bytes S.remaining script (I.remaining input.old)) (record {
-      said_before = heard_by C.said voice.old;
-      said = heard_by C.said voice.new;
-      had = writer_contents O.contents trace.old;
-      has = O.contents (writer_inner trace.new);
-    }) result }
+    ensures { Runs (files_of inputs.entry)
+        (closures_of (map H.stands_for closures.natives.items) (map H.stands_for closures.shelf.items))
+        (script_bytes S.remaining script (I.remaining input.old)) (record {
+          said_before = heard_by C.said voice.old;
+          said = heard_by C.said voice.new;
+          had = writer_contents O.contents trace.old;
+          has = O.contents (writer_inner trace.new);
+        }) result }
 {
-    match Session::load(alloc, inputs) {
+    let HostClosures { natives, mut shelf } = closures;
+    match Session::load(alloc, inputs, natives) {
         Ok(mut session) => {
             say_warnings(&session, voice);
-            let end = play_any(alloc, script, input, trace, &mut session);
+            let end = play_any(alloc, script, input, trace, &mut session, &mut shelf);
             drop(session);
             end
         }
@@ -166,16 +185,18 @@ fn lent_all<'b>(alloc: Global, files: &'b [Vec<u8>]) -> Result<Vec<&'b [u8]>, No
 }
 
 // Runs the script over the files of a load, as they were read.
-fn run_files<'a, S: Read + Drop, I: Read, O: Write + Drop, C: Console + Drop>(
+fn run_files<'a, S: Read + Drop, I: Read, O: Write + Drop, C: Console + Drop, H: HostCommand>(
     alloc: Global,
     platform: Platform,
     read: &FileBytes,
+    closures: HostClosures<H>,
     script: Option<S>,
     input: &mut I,
     trace: &mut BufWriter<O>,
     voice: &mut Voice<C>,
 ) -> Result<(), Stop<'a>>
     ensures { Runs (files_in platform read.now)
+        (closures_of (map H.stands_for closures.natives.items) (map H.stands_for closures.shelf.items))
         (script_bytes S.remaining script (I.remaining input.old)) (record {
           said_before = heard_by C.said voice.old;
           said = heard_by C.said voice.new;
@@ -191,31 +212,44 @@ fn run_files<'a, S: Read + Drop, I: Read, O: Write + Drop, C: Console + Drop>(
         platform,
         manifests: manifests.as_slice(),
     };
-    run_loaded(alloc, inputs, script, input, trace, voice)
+    run_loaded(alloc, inputs, closures, script, input, trace, voice)
 }
 
 /// Carries out what the command line asks for. All files are read or opened before the load, in this
 /// order: the layout, the default rules, the user's rules, the manifest in each directory, the script. The
-/// first that is not had ends the run. Warnings of the load are said before the script runs.
+/// first that is not had ends the run. The load registers the host's closures, and the script has the shelf
+/// of them. Warnings of the load are said before the script runs.
 ///
 /// Errors: why the run stopped before its end.
 #[tactic(auto, using(crate::proofs::RunLemmas::files))]
-pub fn carry_out<'a, F: FileSource, I: Read, O: Write + Drop, C: Console + Drop>(
+pub fn carry_out<'a, F: FileSource, I: Read, O: Write + Drop, C: Console + Drop, H: HostCommand>(
     alloc: Global,
     given: Options<'a>,
+    closures: HostClosures<H>,
     files: &F,
     input: &mut I,
     trace: &mut BufWriter<O>,
     voice: &mut Voice<C>,
 ) -> Result<(), Stop<'a>>
-    ensures { CarriesOut (F.held files.now) given.entry (I.remaining input.old) (record {
-      said_before = heard_by C.said voice.old;
-      said = heard_by C.said voice.new;
-      had = writer_contents O.contents trace.old;
-      has = O.contents (writer_inner trace.new);
-    }) result }
+    ensures { CarriesOut (F.held files.now) given.entry
+        (closures_of (map H.stands_for closures.natives.items) (map H.stands_for closures.shelf.items))
+        (I.remaining input.old) (record {
+          said_before = heard_by C.said voice.old;
+          said = heard_by C.said voice.new;
+          had = writer_contents O.contents trace.old;
+          has = O.contents (writer_inner trace.new);
+        }) result }
 {
     let read = read_files(alloc, &given, files)?;
     let script = file_named(files, given.script)?;
-    run_files(alloc, given.platform, &read, script, input, trace, voice)
+    run_files(
+        alloc,
+        given.platform,
+        &read,
+        closures,
+        script,
+        input,
+        trace,
+        voice,
+    )
 }

@@ -5,10 +5,11 @@ ghost use Rattle.kb_ending.specs.Report.{status_of};
 ghost use Rattle.kb_ending.specs.Voice.{heard_by};
 ghost use Rattle.kb_main.specs.Run.{HasNoWords, IsNoWords, Reports, IsStatus};
 
-use crate::run::carry_out;
+use crate::run::{HostClosures, carry_out};
 use kb_context::NoMemory;
 use kb_ending::{Console, Stop, SystemConsole, SystemFiles, Voice, ending};
 use kb_options::{Options, OptionsFault, WordsFault, line_status, not_text, options, words_fault};
+use kb_registry::HostCommand;
 use std::alloc::Global;
 use std::io::BufWriter;
 use std::process::ExitCode;
@@ -56,7 +57,12 @@ fn report<C: Console + Drop>(end: &Result<(), Stop<'_>>, voice: &mut Voice<C>) -
 }
 
 // Runs what the options ask for, over the system.
-fn run<R: Files + Print + Eprint + Input>(rt: &R, alloc: Global, given: Options<'_>) -> u8
+fn run<R: Files + Print + Eprint + Input, H: HostCommand>(
+    rt: &R,
+    alloc: Global,
+    given: Options<'_>,
+    closures: HostClosures<H>,
+) -> u8
     ensures { IsStatus result }
 {
     let mut voice = Voice::new(SystemConsole { rt });
@@ -67,6 +73,7 @@ fn run<R: Files + Print + Eprint + Input>(rt: &R, alloc: Global, given: Options<
     let end = carry_out(
         alloc,
         given,
+        closures,
         &files,
         &mut rt.reader(),
         &mut trace,
@@ -76,10 +83,11 @@ fn run<R: Files + Print + Eprint + Input>(rt: &R, alloc: Global, given: Options<
 }
 
 // Reads the words, and runs what they ask for.
-fn run_words<R: Files + Print + Eprint + Input>(
+fn run_words<R: Files + Print + Eprint + Input, H: HostCommand>(
     rt: &R,
     alloc: Global,
     words: &[String],
+    closures: HostClosures<H>,
 ) -> Result<u8, OptionsFault>
     ensures { IfOk result IsStatus }
 {
@@ -88,36 +96,43 @@ fn run_words<R: Files + Print + Eprint + Input>(
         texts.push(word.as_str()).map_err(NoMemory::from)?;
     }
     let given = options(alloc, texts.as_slice())?;
-    Ok(run(rt, alloc, given))
+    Ok(run(rt, alloc, given, closures))
 }
 
-fn run_line<R: Alloc<A = Global> + Env + Files + Print + Eprint + Input>(
+fn run_line<R: Alloc<A = Global> + Env + Files + Print + Eprint + Input, H: HostCommand>(
     rt: &R,
     alloc: Global,
+    closures: HostClosures<H>,
 ) -> Result<u8, OptionsFault>
     ensures { IfOk result IsStatus }
 {
     let words = line_words(rt, alloc)?;
-    run_words(rt, alloc, words.as_slice())
+    run_words(rt, alloc, words.as_slice(), closures)
 }
 
-/// The program: reads the command line and the files that it names, loads a session, and runs the
-/// script.
-pub fn program<R: Alloc<A = Global> + Env + Files + Print + Eprint + Input>(
+/// The program: reads the command line and the files that it names, loads a session with the host's
+/// closures, and runs the script.
+pub fn program<R: Alloc<A = Global> + Env + Files + Print + Eprint + Input, H: HostCommand>(
     rt: &R,
     alloc: Global,
+    closures: HostClosures<H>,
 ) -> ExitCode
     ensures { IsStatus (exit_status result) }
 {
-    match run_line(rt, alloc) {
+    match run_line(rt, alloc, closures) {
         Ok(status) => ExitCode::from(status),
         Err(OptionsFault::Line(error)) => {
             let _ = error.print(rt);
             ExitCode::from(line_status(&error))
         }
-        Err(OptionsFault::NoMemory) => {
-            let mut voice = Voice::new(SystemConsole { rt });
-            ExitCode::from(report(&Err(Stop::NoMemory), &mut voice))
-        }
+        Err(OptionsFault::NoMemory) => without_memory(rt),
     }
+}
+
+/// The end of a program that found no memory before it could run.
+pub fn without_memory<R: Eprint>(rt: &R) -> ExitCode
+    ensures { exit_status result ≡ 4 }
+{
+    let mut voice = Voice::new(SystemConsole { rt });
+    ExitCode::from(report(&Err(Stop::NoMemory), &mut voice))
 }

@@ -16,21 +16,22 @@ use Rattle.kb_manifest.specs.Layout.{lacks_member, scope_of, record_of}
 use Rattle.kb_rules.specs.Entry.{when_of, keystrokes_of, condition_of, args_of}
 use Rattle.kb_rules.specs.Entry.{binding_of, terms_of, element_of}
 use Rattle.kb_files.specs.RuleFile.{rules_in}
+use Rattle.kb_session.specs.Start.{start_of}
 use Rattle.kb_when.specs.ClauseText.{clause_in}
 use Rattle.kb_when.specs.Tokenizer.{tokens_of, tokens_within}
 use Rattle.kb_rows.proofs.ModelRows.{lines, written}
 
 a_clause_is_asked : written (codes "[{\"key\":\"a\",\"command\":\"x\",\"when\":\"!true\"},{\"key\":\"b\",\"command\":\"y\",\"when\":\"true && !false\"}]") (codes "key a" ∷ codes "key b" ∷ [])
     ≡ lines (codes "key a: unbound" ∷ codes "key b: start y" ∷ codes "not found y" ∷ [])
-unfolding rules_in value_of plain_text plain_value first_piece is_utf8 chars encode names key_named keystroke_of split_of spelling when_of keystrokes_of condition_of args_of binding_of terms_of element_of serde_json_on_literals digits fault_name clause_in tokens_of tokens_within over
+unfolding start_of rules_in value_of plain_text plain_value first_piece is_utf8 chars encode names key_named keystroke_of split_of spelling when_of keystrokes_of condition_of args_of binding_of terms_of element_of serde_json_on_literals digits fault_name clause_in tokens_of tokens_within over
 a_clause_is_asked = refl
 
 a_key_is_unset : written [] (codes "unset window k" ∷ codes "unset nowhere k" ∷ [])
     ≡ lines (codes "unset window k" ∷ codes "refused 20 UnknownScope" ∷ [])
-unfolding rules_in value_of plain_text plain_value first_piece is_utf8 chars encode names key_named keystroke_of split_of spelling when_of keystrokes_of condition_of args_of binding_of terms_of element_of serde_json_on_literals digits fault_name clause_in tokens_of tokens_within over
+unfolding start_of rules_in value_of plain_text plain_value first_piece is_utf8 chars encode names key_named keystroke_of split_of spelling when_of keystrokes_of condition_of args_of binding_of terms_of element_of serde_json_on_literals digits fault_name clause_in tokens_of tokens_within over
 a_key_is_unset = refl
 
 a_set_that_is_refused : written [] (codes "set nowhere k 1" ∷ codes "set window k" ∷ [])
     ≡ lines (codes "refused 20 UnknownScope" ∷ codes "unread line 2" ∷ [])
-unfolding rules_in value_of plain_text plain_value first_piece is_utf8 chars encode names key_named keystroke_of split_of spelling when_of keystrokes_of condition_of args_of binding_of terms_of element_of serde_json_on_literals digits fault_name clause_in tokens_of tokens_within over lacks_member scope_of record_of
+unfolding start_of rules_in value_of plain_text plain_value first_piece is_utf8 chars encode names key_named keystroke_of split_of spelling when_of keystrokes_of condition_of args_of binding_of terms_of element_of serde_json_on_literals digits fault_name clause_in tokens_of tokens_within over lacks_member scope_of record_of
 a_set_that_is_refused = refl

@@ -2,25 +2,28 @@
 use Rattle.std.specs.Prelude.{◌≡◌, ⊤, ℕ, List, map, Ok, Err, ◌<◌, length}
 use Rattle.kb_context.specs.declared.failure.Failure.{Failure}
 use Rattle.kb_context.specs.declared.failure.Failure.TheVariants.{NoMemory, Fault}
+use Rattle.kb_core.specs.declared.native.Native.{Native}
 use Rattle.kb_rows.specs.declared.TranscriptFault.{TranscriptFault}
 use Rattle.kb_rows.specs.declared.TranscriptFault.TheVariants.{Load, Script}
-use Rattle.kb_script.specs.Script.{told_of, bare}
+use Rattle.kb_script.specs.Script.{said_of, bare}
+use Rattle.kb_script.specs.Shelf.{Said, move, stand}
 use Rattle.kb_script.specs.declared.fault.ScriptFault.{ScriptFault}
 use Rattle.kb_script.specs.declared.fault.ScriptFault.TheVariants as script
-use Rattle.kb_bindings.specs.Load.{Files, held_by}
-use Rattle.kb_session.specs.Session.{loaded, marks_by}
-use Rattle.kb_session.specs.State.{State, Told, next}
+use Rattle.kb_bindings.specs.Load.{Files}
+use Rattle.kb_session.specs.Session.{loaded, load_held, marks_by}
+use Rattle.kb_session.specs.State.{State}
 use Rattle.kb_stream.specs.Fold.{Traced}
 use Rattle.kb_stream.specs.FoldWriting.{text_of}
 
--- the model's text of what a script tells, in a session that is loaded with these files, for the marks that
--- the patterns of their rules, and of those of reloads, have
-pub record IsTranscript (files : Files) (text out : List ℕ) : Type 0 where
+-- the model's text of what a script says, in a session that is loaded with these files and with closures for
+-- these natives, beside a shelf of closures for more, for the marks that the patterns of their rules, and of
+-- those of reloads, have
+pub record IsTranscript (files : Files) (natives shelf : List Native) (text out : List ℕ) : Type 0 where
   pub session : Traced State
-  pub loaded_is : loaded (marks_by files session) files ≡ Ok session
-  pub told : List Told
-  pub tells : map bare told ≡ told_of text
-  pub out_is : out ≡ text_of next told session.state
+  pub loaded_is : loaded (marks_by files session) files natives ≡ Ok session
+  pub said : List Said
+  pub tells : map bare said ≡ said_of text
+  pub out_is : out ≡ text_of move said (stand session.state shelf)
 
 -- a script over memory, in a session that was loaded for it: no such session is stopped before
 abbrev pub FailsToRun : ScriptFault → List ℕ → Type 0
@@ -30,7 +33,7 @@ FailsToRun script.ReadFailed text = ⊤
 FailsToRun script.WriteFailed text = ⊤
 
 -- the load failed, or the script did, or memory was refused
-abbrev pub FailsToGive : Files → List ℕ → Failure TranscriptFault → Type 0
-FailsToGive files text NoMemory = ⊤
-FailsToGive files text (Fault (Load fault)) = held_by files ≡ Err fault
-FailsToGive files text (Fault (Script fault)) = FailsToRun fault text
+abbrev pub FailsToGive : Files → List Native → List ℕ → Failure TranscriptFault → Type 0
+FailsToGive files natives text NoMemory = ⊤
+FailsToGive files natives text (Fault (Load fault)) = load_held files natives ≡ Err fault
+FailsToGive files natives text (Fault (Script fault)) = FailsToRun fault text

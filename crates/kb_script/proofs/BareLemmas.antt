@@ -1,72 +1,98 @@
--- What a script tells has no marks.
+-- What a script says has no marks.
 use Rattle.std.proofs.Common.{◌≡◌, ℕ, ◌+◌, Bool, true, false, List, [], ◌∷◌, ◌++◌, map, refl, ap, ◌∙◌, cond}
 use Rattle.std.specs.Prelude.{Option, Some, None, option_map, option_to_list, ◌==◌, codes}
 use Rattle.std.specs.Str.{bytes_eq, is_utf8}
 use Rattle.std.proofs.lemmas.List.{map-append}
 use Rattle.kb_rules.specs.declared.unread.UnreadAt.{UnreadAt}
-use Rattle.kb_script.specs.Script.{bare, word_told, said_told, or_unread, line_told, told_from}
-use Rattle.kb_script.specs.Script.{split_word, event_told}
-use Rattle.kb_script.specs.ScriptRun.{marked}
-use Rattle.kb_session.specs.State.{Told, happens, reload}
+use Rattle.kb_core.specs.declared.native.Native.{Native}
+use Rattle.kb_core.specs.Native.{named}
+use Rattle.kb_script.specs.Script.{bare, bare_told, word_said, words_said, text_said, or_unread, line_said}
+use Rattle.kb_script.specs.Script.{said_from, split_word, event_told, event_said, registration, disposal}
+use Rattle.kb_script.specs.Script.{number_of}
+use Rattle.kb_script.specs.ScriptRun.{marked, marked_told}
+use Rattle.kb_script.specs.Shelf.{Said, tells, takes}
+use Rattle.kb_session.specs.State.{Told, happens, reload, register, dispose}
 use Rattle.kb_trace.specs.declared.event.Event.{Event}
 
--- what may be told has no marks
-abbrev IsBare : Option Told → Type 0
-IsBare told = option_map bare told ≡ told
+-- what may be said has no marks
+abbrev IsBare : Option Said → Type 0
+IsBare said = option_map bare said ≡ said
 
-either_bare : (b : Bool) (x y : Option Told) → IsBare x → IsBare y → IsBare (cond b x y)
+either_bare : (b : Bool) (x y : Option Said) → IsBare x → IsBare y → IsBare (cond b x y)
 either_bare true x y p q = p
 either_bare false x y p q = q
 
-event_bare : (e : Option Event) → IsBare (option_map happens e)
+event_bare : (e : Option Event) → IsBare (event_said e)
 event_bare None = refl
 event_bare (Some e) = refl
 
-word_bare : (text : List ℕ) (parts : Option (List ℕ × List ℕ)) → IsBare (word_told text parts)
-word_bare text None = either_bare (bytes_eq text (codes "reload")) (Some (reload [] [])) None refl refl
-word_bare text (Some parts) =
-    either_bare (bytes_eq parts.0 (codes "reload")) (Some (reload parts.1 []))
-    (option_map happens (event_told parts.0 parts.1)) refl (event_bare (event_told parts.0 parts.1))
+registration_bare : (native : Option Native) → IsBare (option_map takes native)
+registration_bare None = refl
+registration_bare (Some native) = refl
 
-said_bare : (line : List ℕ) → IsBare (said_told line)
-said_bare line = either_bare (is_utf8 line) (word_told line (split_word line)) None
-    (word_bare line (split_word line)) refl
+disposal_bare : (number : Option ℕ) → IsBare (option_map (λ n. tells (dispose n)) number)
+disposal_bare None = refl
+disposal_bare (Some number) = refl
 
-or_unread_bare : (number : ℕ) (told : Option Told) → IsBare told
-    → IsBare (Some (or_unread number told))
+word_bare : (word rest : List ℕ) → IsBare (word_said word rest)
+word_bare word rest =
+    let event = event_said (event_told word rest) in
+    let other = cond (bytes_eq word (codes "dispose")) (disposal rest) event in
+    either_bare (bytes_eq word (codes "reload")) (Some (tells (reload rest [])))
+    (cond (bytes_eq word (codes "register")) (registration rest) other) refl
+    (either_bare (bytes_eq word (codes "register")) (registration rest) other (registration_bare (named rest))
+    (either_bare (bytes_eq word (codes "dispose")) (disposal rest) event (disposal_bare (number_of rest))
+    (event_bare (event_told word rest))))
+
+words_bare : (text : List ℕ) (parts : Option (List ℕ × List ℕ)) → IsBare (words_said text parts)
+words_bare text None = either_bare (bytes_eq text (codes "reload")) (Some (tells (reload [] []))) None refl refl
+words_bare text (Some parts) = word_bare parts.0 parts.1
+
+text_bare : (line : List ℕ) → IsBare (text_said line)
+text_bare line = either_bare (is_utf8 line) (words_said line (split_word line)) None
+    (words_bare line (split_word line)) refl
+
+or_unread_bare : (number : ℕ) (said : Option Said) → IsBare said
+    → IsBare (Some (or_unread number said))
 or_unread_bare number None p = refl
-or_unread_bare number (Some told) p = p
+or_unread_bare number (Some said) p = p
 
-line_bare : (number : ℕ) (line : List ℕ) → IsBare (line_told number line)
+line_bare : (number : ℕ) (line : List ℕ) → IsBare (line_said number line)
 line_bare number [] = refl
 line_bare number (b ∷ bs) =
-    either_bare (b == 35) None (Some (or_unread number (said_told (b ∷ bs)))) refl
-    (or_unread_bare number (said_told (b ∷ bs)) (said_bare (b ∷ bs)))
+    either_bare (b == 35) None (Some (or_unread number (text_said (b ∷ bs)))) refl
+    (or_unread_bare number (text_said (b ∷ bs)) (text_bare (b ∷ bs)))
 
-listed_bare : (told : Option Told) → map bare (option_to_list told) ≡ option_to_list (option_map bare told)
+listed_bare : (said : Option Said) → map bare (option_to_list said) ≡ option_to_list (option_map bare said)
 listed_bare None = refl
-listed_bare (Some told) = refl
+listed_bare (Some said) = refl
 
--- what a line tells has no marks
+-- what a line says has no marks
 pub bare_line : (number : ℕ) (line : List ℕ)
-    → map bare (option_to_list (line_told number line)) ≡ option_to_list (line_told number line)
-bare_line number line = listed_bare (line_told number line) ∙ ap option_to_list (line_bare number line)
+    → map bare (option_to_list (line_said number line)) ≡ option_to_list (line_said number line)
+bare_line number line = listed_bare (line_said number line) ∙ ap option_to_list (line_bare number line)
 
--- and so with what lines tell
-pub bare_from : (number : ℕ) (lines : List (List ℕ)) → map bare (told_from number lines) ≡ told_from number lines
+-- and so with what lines say
+pub bare_from : (number : ℕ) (lines : List (List ℕ)) → map bare (said_from number lines) ≡ said_from number lines
 bare_from number [] = refl
 bare_from number (line ∷ lines) =
-    let here = option_to_list (line_told number line) in
-    map-append bare here (told_from (number + 1) lines)
-    ∙ ap (λ (xs : List Told). xs ++ map bare (told_from (number + 1) lines)) (bare_line number line)
-    ∙ ap (λ (xs : List Told). here ++ xs) (bare_from (number + 1) lines)
+    let here = option_to_list (line_said number line) in
+    map-append bare here (said_from (number + 1) lines)
+    ∙ ap (λ (xs : List Said). xs ++ map bare (said_from (number + 1) lines)) (bare_line number line)
+    ∙ ap (λ (xs : List Said). here ++ xs) (bare_from (number + 1) lines)
 
-marked_bare : (marks : List UnreadAt) (told : Told) → bare (marked marks told) ≡ bare told
-marked_bare marks (happens e) = refl
-marked_bare marks (reload bytes none) = refl
+marked_told_bare : (marks : List UnreadAt) (told : Told) → bare_told (marked_told marks told) ≡ bare_told told
+marked_told_bare marks (happens e) = refl
+marked_told_bare marks (reload bytes none) = refl
+marked_told_bare marks (register native) = refl
+marked_told_bare marks (dispose number) = refl
+
+marked_bare : (marks : List UnreadAt) (said : Said) → bare (marked marks said) ≡ bare said
+marked_bare marks (tells told) = ap tells (marked_told_bare marks told)
+marked_bare marks (takes native) = refl
 
 -- marks are forgotten
-pub bare_marked : (marks : List UnreadAt) (told : Option Told)
-    → map bare (option_to_list (option_map (marked marks) told)) ≡ map bare (option_to_list told)
+pub bare_marked : (marks : List UnreadAt) (said : Option Said)
+    → map bare (option_to_list (option_map (marked marks) said)) ≡ map bare (option_to_list said)
 bare_marked marks None = refl
-bare_marked marks (Some told) = ap (λ (one : Told). one ∷ []) (marked_bare marks told)
+bare_marked marks (Some said) = ap (λ (one : Said). one ∷ []) (marked_bare marks said)

@@ -1,3 +1,4 @@
 pub mod BareLemmas
 pub mod LineLemmas
 pub mod ScriptRuns
+pub mod ShelfLemmas

@@ -1,18 +1,22 @@
--- What the bytes of a script tell a session. They tell no marks of patterns: a reload has none here.
-use Rattle.std.specs.Prelude.{ℕ, ◌+◌, ◌-◌, Bool, false, not, ◌&&◌, List, [], ◌∷◌, ◌++◌, codes, ◌==◌}
+-- What the bytes of a script say. They tell no marks of patterns: a reload has none here.
+use Rattle.std.specs.Prelude.{ℕ, ◌+◌, ◌-◌, ◌^◌, Bool, false, not, ◌&&◌, List, [], ◌∷◌, ◌++◌, codes, ◌==◌}
 use Rattle.std.specs.Prelude.{Option, Some, None, option_map, option_to_list, Result, Ok, Err}
 use Rattle.std.specs.Prelude.{nat_eq, nat_lt, length, take, slice_get, if◌then◌else◌}
 use Rattle.std.specs.List.{slice_split, before_first, after_first, position_or_len, list_any, list_all}
+use Rattle.std.specs.Char.{is_ascii_digit}
 use Rattle.std.specs.Str.{bytes_eq, is_utf8}
+use Rattle.std.specs.Str.Parse.{digits_value}
 use Rattle.kb_context.specs.Blank.{is_blank}
 use Rattle.kb_context.specs.declared.value.ContextValue.{ContextValue}
+use Rattle.kb_core.specs.Native.{named}
 use Rattle.kb_files.specs.Context.{context_in}
 use Rattle.kb_keys.specs.declared.key_fault.KeyFault.{KeyFault}
 use Rattle.kb_keys.specs.declared.keystroke.Keystroke.{Keystroke}
 use Rattle.kb_keys.specs.Keystroke.{keystroke_of}
 use Rattle.kb_trace.specs.declared.event.Event.{Event}
 use Rattle.kb_trace.specs.declared.event.Event.TheVariants as event
-use Rattle.kb_session.specs.State.{Told, happens, reload}
+use Rattle.kb_script.specs.Shelf.{Said, tells, takes}
+use Rattle.kb_session.specs.State.{Told, happens, reload, dispose}
 
 abbrev pub is_space : ℕ → Bool
 is_space b = b == 32
@@ -99,40 +103,67 @@ event_told word rest =
     else (if bytes_eq word (codes "set") then set_event (split_word rest)
     else (if bytes_eq word (codes "unset") then unset_event (split_word rest) else None)))
 
+-- register NATIVE, by one of the nine identifiers
+abbrev pub registration : List ℕ → Option Said
+registration name = option_map takes (named name)
+
+-- a number of decimal digits alone, of which there is one at least, below 2 ^ 64
+abbrev pub number_of : List ℕ → Option ℕ
+number_of digits =
+    if list_all is_ascii_digit digits
+    && (not (nat_eq (length digits) 0) && nat_lt (digits_value 10 digits) (2 ^ 64))
+    then Some (digits_value 10 digits) else None
+
+-- dispose N
+abbrev pub disposal : List ℕ → Option Said
+disposal digits = option_map (λ number. tells (dispose number)) (number_of digits)
+
+abbrev pub event_said : Option Event → Option Said
+event_said event = option_map (λ e. tells (happens e)) event
+
 -- a line of one word: reload alone is told the empty text
-abbrev pub lone_told : List ℕ → Option Told
-lone_told word = if bytes_eq word (codes "reload") then Some (reload [] []) else None
+abbrev pub lone_said : List ℕ → Option Said
+lone_said word = if bytes_eq word (codes "reload") then Some (tells (reload [] [])) else None
 
 -- a line by its first word and what follows the space behind it
-abbrev pub word_told : List ℕ → Option (List ℕ × List ℕ) → Option Told
-word_told text None = lone_told text
-word_told text (Some parts) =
-    if bytes_eq parts.0 (codes "reload") then Some (reload parts.1 [])
-    else option_map happens (event_told parts.0 parts.1)
+abbrev pub word_said : List ℕ → List ℕ → Option Said
+word_said word rest =
+    if bytes_eq word (codes "reload") then Some (tells (reload rest []))
+    else (if bytes_eq word (codes "register") then registration rest
+    else (if bytes_eq word (codes "dispose") then disposal rest else event_said (event_told word rest)))
 
--- what a line tells, where it can be read
-abbrev pub said_told : List ℕ → Option Told
-said_told line = if is_utf8 line then word_told line (split_word line) else None
+abbrev pub words_said : List ℕ → Option (List ℕ × List ℕ) → Option Said
+words_said text None = lone_said text
+words_said text (Some parts) = word_said parts.0 parts.1
 
-abbrev pub or_unread : ℕ → Option Told → Told
-or_unread number None = happens (event.Unread number)
-or_unread number (Some told) = told
+-- what a line says, where it can be read
+abbrev pub text_said : List ℕ → Option Said
+text_said line = if is_utf8 line then words_said line (split_word line) else None
 
--- an empty line and one that begins with # tell nothing
-abbrev pub line_told : ℕ → List ℕ → Option Told
-line_told number [] = None
-line_told number (b ∷ bs) = if b == 35 then None else Some (or_unread number (said_told (b ∷ bs)))
+abbrev pub or_unread : ℕ → Option Said → Said
+or_unread number None = tells (happens (event.Unread number))
+or_unread number (Some said) = said
 
--- what lines tell, of which the first has this number
-abbrev pub told_from : ℕ → List (List ℕ) → List Told
-told_from number [] = []
-told_from number (line ∷ lines) = option_to_list (line_told number line) ++ told_from (number + 1) lines
+-- an empty line and one that begins with # say nothing
+abbrev pub line_said : ℕ → List ℕ → Option Said
+line_said number [] = None
+line_said number (b ∷ bs) = if b == 35 then None else Some (or_unread number (text_said (b ∷ bs)))
 
--- what a script tells
-abbrev pub told_of : List ℕ → List Told
-told_of bytes = told_from 1 (lines_of bytes)
+-- what lines say, of which the first has this number
+abbrev pub said_from : ℕ → List (List ℕ) → List Said
+said_from number [] = []
+said_from number (line ∷ lines) = option_to_list (line_said number line) ++ said_from (number + 1) lines
+
+-- what a script says
+abbrev pub said_of : List ℕ → List Said
+said_of bytes = said_from 1 (lines_of bytes)
 
 -- what a session is told, without the marks of a reload's patterns
-abbrev pub bare : Told → Told
-bare (happens e) = happens e
-bare (reload bytes marks) = reload bytes []
+abbrev pub bare_told : Told → Told
+bare_told (reload bytes marks) = reload bytes []
+bare_told told = told
+
+-- what is said, without them
+abbrev pub bare : Said → Said
+bare (tells told) = tells (bare_told told)
+bare (takes native) = takes native

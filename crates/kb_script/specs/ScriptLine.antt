@@ -1,14 +1,17 @@
--- What a line of a script tells, as the model has it.
+-- What a line of a script says, as the model has it.
 use Rattle.std.specs.Prelude.{◌≡◌, ⊤, [], Option, Some, None, Result, Ok, Err, MatchResult}
 use Rattle.kb_context.specs.declared.failure.Failure.{Failure}
 use Rattle.kb_context.specs.declared.failure.Failure.TheVariants.{NoMemory, Fault}
 use Rattle.kb_script.specs.declared.script.ScriptLine.{ScriptLine}
 use Rattle.kb_script.specs.declared.script.ScriptLine.TheVariants as line
-use Rattle.kb_session.specs.State.{Told, happens, reload}
+use Rattle.kb_script.specs.Shelf.{Said, tells, takes}
+use Rattle.kb_session.specs.State.{happens, reload, dispose}
 
-abbrev pub told_by : ScriptLine → Told
-told_by (line.Event event) = happens event
-told_by (line.Reload text) = reload text.now []
+abbrev pub said_by : ScriptLine → Said
+said_by (line.Event event) = tells (happens event)
+said_by (line.Reload text) = tells (reload text.now [])
+said_by (line.Register native) = takes native
+said_by (line.Dispose ticket) = tells (dispose ticket.0)
 
 -- what a reading gives: a fault is no value, and nothing but refused memory is that
 abbrev pub TakesAs : {X F E : Type 0} → Result X (Failure F) → Result (Option X) E → Type 0

@@ -1,29 +1,37 @@
-//! The lines of a script, and what each one tells a session.
+//! The lines of a script, and what each one says.
 ghost use Rattle.std.specs.Prelude.{◌≡◌, ◌<◌, ◌∷◌, false, true, None, Ok};
 ghost use Rattle.std.specs.Prelude.{IfOk, IfSome, MatchOption, option_map, position, length};
-ghost use Rattle.std.specs.List.{list_any};
+ghost use Rattle.std.specs.Char.{is_ascii_digit};
+ghost use Rattle.std.specs.List.{list_any, list_all};
 ghost use Rattle.std.specs.Str.{is_utf8};
+ghost use Rattle.kb_core.specs.Native.{named};
 ghost use Rattle.kb_script.specs.Script as script;
-ghost use Rattle.kb_script.specs.ScriptLine.{told_by, TakesAs};
+ghost use Rattle.kb_script.specs.ScriptLine.{said_by, TakesAs};
 ghost use Rattle.kb_trace.specs.declared.event.Event.TheVariants as event;
 
 use kb_context::{ContextValue, Failure, NoMemory, Refusal, Text, is_blank_text};
+use kb_core::Native;
 use kb_files::read_context_text;
 use kb_keys::Keystroke;
+use kb_registry::Ticket;
 use kb_trace::Event;
 use std::alloc::{AllocError, Global};
 use std::str;
 
-/// What a line of a script tells a session.
+/// What a line of a script says.
 #[derive(Drop)]
 pub enum ScriptLine<'a> {
     /// An event.
     Event(Event),
     /// The bytes of the user's rules, to be read anew.
     Reload(&'a str),
+    /// The first closure for a native is taken off the shelf and registered.
+    Register(Native),
+    /// The closure of a ticket is given back to the shelf.
+    Dispose(Ticket),
 }
 
-/// What a line tells, if it tells something: an empty line and one that begins with `#` tell
+/// What a line says, if it says something: an empty line and one that begins with `#` say
 /// nothing, and one that can't be read is the event `Unread` with its number. `NoMemory` where
 /// memory for what an event names was refused.
 pub fn read_line<'a>(
@@ -31,11 +39,11 @@ pub fn read_line<'a>(
     number: u64,
     line: &'a [u8],
 ) -> Result<Option<ScriptLine<'a>>, NoMemory>
-    ensures { IfOk result (λ said. option_map told_by said ≡ script.line_told number line.now) }
+    ensures { IfOk result (λ said. option_map said_by said ≡ script.line_said number line.now) }
 {
     match line {
         [] | [b'#', ..] => Ok(None),
-        _ => match read_said(alloc, line)? {
+        _ => match read_text(alloc, line)? {
             Some(said) => Ok(Some(said)),
             None => Ok(Some(ScriptLine::Event(Event::Unread(number)))),
         },
@@ -71,8 +79,8 @@ fn without_return(line: &[u8]) -> &[u8]
     }
 }
 
-fn read_said<'a>(alloc: Global, line: &'a [u8]) -> Result<Option<ScriptLine<'a>>, NoMemory>
-    ensures { IfOk result (λ said. option_map told_by said ≡ script.said_told line.now) }
+fn read_text<'a>(alloc: Global, line: &'a [u8]) -> Result<Option<ScriptLine<'a>>, NoMemory>
+    ensures { IfOk result (λ said. option_map said_by said ≡ script.text_said line.now) }
 {
     match text_of(line) {
         Some(text) => read_words(alloc, text),
@@ -92,16 +100,29 @@ fn text_of(line: &[u8]) -> Option<&str>
     }
 }
 
-/// What a line tells by its first word.
+/// What a line says by its first word, if it has several.
 fn read_words<'a>(alloc: Global, text: &'a str) -> Result<Option<ScriptLine<'a>>, NoMemory>
-    ensures { IfOk result (λ said. option_map told_by said
-        ≡ script.word_told text.now (script.split_word text.now)) }
+    ensures { IfOk result (λ said. option_map said_by said
+        ≡ script.words_said text.now (script.split_word text.now)) }
 {
-    let Some((word, rest)) = split_word(text) else {
-        return Ok(read_lone(text));
-    };
+    match split_word(text) {
+        Some((word, rest)) => read_word(alloc, word, rest),
+        None => Ok(read_lone(text)),
+    }
+}
+
+/// What a line of several words says, by its first word.
+fn read_word<'a>(
+    alloc: Global,
+    word: &str,
+    rest: &'a str,
+) -> Result<Option<ScriptLine<'a>>, NoMemory>
+    ensures { IfOk result (λ said. option_map said_by said ≡ script.word_said word.now rest.now) }
+{
     match word {
         "reload" => Ok(Some(ScriptLine::Reload(rest))),
+        "register" => Ok(read_register(rest)),
+        "dispose" => Ok(read_dispose(rest)),
         _ => match read_event(alloc, word, rest)? {
             Some(event) => Ok(Some(ScriptLine::Event(event))),
             None => Ok(None),
@@ -130,12 +151,53 @@ fn split_word(text: &str) -> Option<(&str, &str)>
 }
 
 fn read_lone(word: &str) -> Option<ScriptLine<'_>>
-    ensures { option_map told_by result ≡ script.lone_told word.now }
+    ensures { option_map said_by result ≡ script.lone_said word.now }
 {
     match word {
         "reload" => Some(ScriptLine::Reload("")),
         _ => None,
     }
+}
+
+fn read_register(name: &str) -> Option<ScriptLine<'_>>
+    ensures { option_map said_by result ≡ script.registration name.now }
+{
+    match Native::named(name) {
+        Some(native) => Some(ScriptLine::Register(native)),
+        None => None,
+    }
+}
+
+fn read_dispose(digits: &str) -> Option<ScriptLine<'_>>
+    ensures { option_map said_by result ≡ script.disposal digits.now }
+{
+    match read_number(digits) {
+        Some(number) => Some(ScriptLine::Dispose(Ticket(number))),
+        None => None,
+    }
+}
+
+/// The number that a text of decimal digits alone is, if there is one and it fits: `parse` takes a sign, too.
+#[tactic(auto, using(crate::proofs::LineLemmas::numbers))]
+fn read_number(digits: &str) -> Option<u64>
+    ensures { result ≡ script.number_of digits.now }
+{
+    if !is_digits(digits) {
+        return None;
+    }
+    digits.parse::<u64>().ok()
+}
+
+fn is_digits(text: &str) -> bool
+    ensures { result ≡ list_all is_ascii_digit text.now }
+{
+    text.as_bytes().iter().all(|byte| is_digit(*byte))
+}
+
+fn is_digit(byte: u8) -> bool
+    ensures { result ≡ is_ascii_digit byte }
+{
+    byte.is_ascii_digit()
 }
 
 fn read_key(key: &str) -> Option<Event>

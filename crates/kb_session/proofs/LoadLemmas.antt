@@ -1,15 +1,84 @@
--- A session is what its files load.
-use Rattle.std.proofs.Common.{◌≡◌, ap}
-use Rattle.std.specs.Prelude.{Ok}
+-- A session is what its files load, with the closures that are registered.
+use Rattle.std.proofs.Common.{◌≡◌, List, ◌∷◌, Some, None, ap, ◌∙◌, sym}
+use Rattle.std.specs.Prelude.{Result, Ok, Err}
+use Rattle.kb_bindings.specs.Fault.{refused_by}
 use Rattle.kb_bindings.specs.Load as load
-use Rattle.kb_bindings.specs.Load.{Files, marks_told}
+use Rattle.kb_bindings.specs.Load.{Files, Held, LoadsFiles, held_by, marks_told, sources_by, LoadMarks}
 use Rattle.kb_bindings.specs.Unread.{unread_of}
+use Rattle.kb_bindings.specs.declared.fault.LoadFault.{LoadFault}
+use Rattle.kb_bindings.specs.declared.fault.LoadFile.TheVariants as file
 use Rattle.kb_bindings.specs.declared.load.Loaded.{Loaded}
-use Rattle.kb_context.specs.Reading.{seen}
-use Rattle.kb_session.specs.Session.{Seen, loaded, loaded_session, marks_by}
+use Rattle.kb_context.specs.Failure.{Fails, IsRefusalOrMemory}
+use Rattle.kb_context.specs.Reading.{◌>>=◌, seen}
+use Rattle.kb_context.specs.Refusal.{numbered}
+use Rattle.kb_context.specs.declared.failure.Failure.{Failure}
+use Rattle.kb_context.specs.declared.failure.Failure.TheVariants as failure
+use Rattle.kb_core.specs.declared.native.Native.{Native}
+use Rattle.kb_registry.specs.Fault as registry
+use Rattle.kb_registry.specs.Live.{Live, fresh, registration_fault, all_registered, unless_fault, registered}
+use Rattle.kb_registry.specs.declared.fault.RegistryFault.{RegistryFault}
+use Rattle.kb_session.specs.Session.{Seen, loaded, loaded_session, marks_by, natives_held, load_held}
+use Rattle.kb_session.specs.Session.{load_failure}
 
-pub session_loaded : (files : Files) (l : Loaded) (session : Seen)
+-- what is loaded, with the natives that are live
+pub session_loaded : (files : Files) (natives : List Native) (l : Loaded) (live : Live) (session : Seen)
+    → load.loaded (marks_told files (unread_of l.bindings)) files ≡ Ok l → natives_held natives ≡ Ok live
+    → session ≡ loaded_session l.scopes l.bindings live
+    → loaded (marks_by files session) files natives ≡ Ok session
+session_loaded files natives l live session h g is =
+    rw is
+    (ap (λ r. r >>= λ (l : Loaded). seen (loaded_session l.scopes l.bindings) (natives_held natives)) h
+    ∙ ap (seen (loaded_session l.scopes l.bindings)) g)
+
+-- a fault of the files is the load's
+pub files_fail : (files : Files) (natives : List Native) (failure : Failure LoadFault)
+    → Fails failure (held_by files) → Fails failure (load_held files natives)
+files_fail files natives failure.NoMemory fails = tt
+files_fail files natives (failure.Fault fault) fails =
+    ap (λ (r : Result Held LoadFault). r >>= λ (_ : Held). natives_held natives) fails
+
+fails_behind : (held : Result Held LoadFault) (view : Held → Loaded) (l : Loaded) (natives : List Native)
+    (failure : Failure LoadFault) → seen view held ≡ Ok l → Fails failure (natives_held natives)
+    → Fails failure (held >>= λ (_ : Held). natives_held natives)
+fails_behind (Ok held) view l natives failure h fails = fails
+fails_behind (Err fault) view l natives failure h fails = cc
+
+-- and so is a fault of the closures behind files that are taken
+pub natives_fail : (files : Files) (natives : List Native) (l : Loaded) (failure : Failure LoadFault)
     → load.loaded (marks_told files (unread_of l.bindings)) files ≡ Ok l
-    → session ≡ loaded_session l.scopes l.bindings → loaded (marks_by files session) files ≡ Ok session
-session_loaded files l session h is =
-    rw is (ap (seen (λ (l : Loaded). loaded_session l.scopes l.bindings)) h)
+    → Fails failure (natives_held natives) → Fails failure (load_held files natives)
+natives_fail files natives l failure h fails = fails_behind (held_by files) _ l natives failure h fails
+
+pub ruleset loading = (session_loaded, files_fail, natives_fail)
+
+-- one closure more is registered
+pub one_registered : (native : Native) (rest : List Native) (live : Live)
+    → registration_fault native live ≡ None
+    → all_registered (native ∷ rest) live ≡ all_registered rest (registered native live)
+one_registered native rest live free =
+    ap (λ fault. unless_fault fault (all_registered rest (registered native live))) free
+
+-- or it is refused
+one_refused : (native : Native) (natives rest : List Native) (live : Live) (fault : RegistryFault)
+    → all_registered (native ∷ rest) live ≡ all_registered natives (fresh 1000000)
+    → registration_fault native live ≡ Some fault → all_registered natives (fresh 1000000) ≡ Err fault
+one_refused native natives rest live fault goes refused =
+    sym goes ∙ ap (λ fault. unless_fault fault (all_registered rest (registered native live))) refused
+
+pub refused_fails : (native : Native) (natives rest : List Native) (live : Live)
+    (failure : Failure RegistryFault)
+    → all_registered (native ∷ rest) live ≡ all_registered natives (fresh 1000000)
+    → IsRefusalOrMemory (registration_fault native live) failure
+    → Fails (load_failure failure) (natives_held natives)
+refused_fails native natives rest live failure.NoMemory goes why = tt
+refused_fails native natives rest live (failure.Fault fault) goes why =
+    ap (λ (r : Result Live RegistryFault). refused_by file.Natives (numbered registry.number_of r))
+    (one_refused native natives rest live fault goes why)
+
+-- all are registered
+pub all_held : (natives : List Native) (live : Live) → Ok live ≡ all_registered natives (fresh 1000000)
+    → natives_held natives ≡ Ok live
+all_held natives live is =
+    ap (λ (r : Result Live RegistryFault). refused_by file.Natives (numbered registry.number_of r)) (sym is)
+
+pub ruleset registering = (one_registered, refused_fails, all_held)

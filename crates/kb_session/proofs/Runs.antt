@@ -3,7 +3,7 @@ use Rattle.std.proofs.Common.{◌≡◌, true, false, List, [], ◌∷◌, refl,
 use Rattle.kb_session.specs.declared.fault.SessionFault.{SessionFault}
 use Rattle.kb_session.specs.declared.fault.SessionFault.TheVariants as fault
 use Rattle.kb_session.specs.Session.{took, halt, half_done, Halts, HaltsAt, FailsAt, FailsAmong}
-use Rattle.kb_session.specs.State.{State, Told, happens, reload, step_unless, next, out_of}
+use Rattle.kb_session.specs.State.{State, Told, happens, reload, register, dispose, step_unless, next, out_of}
 use Rattle.kb_stream.specs.Fold.{Traced, nothing, fold, after_all}
 use Rattle.kb_stream.proofs.FoldLemmas.{fold-still, RunsUpTo, run_start, run_step, run_end}
 use Rattle.kb_stream.proofs.FoldLemmas.{run_stop}
@@ -44,13 +44,17 @@ halts_at (happens (event.Key key)) old new h = h
 halts_at (happens (event.Focus name)) old new h = halt_halts old new h
 halts_at (happens (event.SetKey name key value)) old new h = halt_halts old new h
 halts_at (happens (event.UnsetKey name key)) old new h = halt_halts old new h
+halts_at (happens event.NoClosure) old new h = halt_halts old new h
 halts_at (happens (event.Unread number)) old new h = halt_halts old new h
 halts_at (reload bytes marks) old new h = halt_halts old new h
+halts_at (register native) old new h = halt_halts old new h
+halts_at (dispose number) old new h = halt_halts old new h
 
 -- the fault of an event is the fault of the run
 pub runs_fail : (old now new : Traced State) (events rest : List Told) (event : Told) (f : SessionFault)
     → RunsUpTo next old events now rest
     → old.state.stopped ≡ false → FailsAt f event now new → FailsAmong f events old new
+runs_fail old now new events rest event (fault.Refused refusal) runs running fails = fails
 runs_fail old now new events rest event fault.NoMemory runs running fails =
     let h = halts_at event now new fails.1 in
     (running, run_stop next Halts old now new events rest runs h.0 h.1)

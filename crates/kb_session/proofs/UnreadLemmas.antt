@@ -1,5 +1,5 @@
 -- The lists of unread patterns that a session tells: one more for each reload that is taken, and none changes.
-use Rattle.std.proofs.Common.{◌≡◌, Bool, true, false, List, [], ◌∷◌, ◌++◌, refl, sym, ap, ◌∙◌, append-nil}
+use Rattle.std.proofs.Common.{◌≡◌, ℕ, Bool, true, false, List, [], ◌∷◌, ◌++◌, refl, sym, ap, ◌∙◌, append-nil}
 use Rattle.std.proofs.Common.{append_assoc}
 use Rattle.std.specs.Prelude.{Option, Some, None, Result, Ok, Err}
 use Rattle.kb_context.specs.declared.refusal.Refusal.{Refusal}
@@ -7,8 +7,11 @@ use Rattle.kb_files.specs.RuleFile.{rules_in}
 use Rattle.kb_rules.specs.RuleList.{Listed}
 use Rattle.kb_rules.specs.declared.origin.Origin.TheVariants.{User}
 use Rattle.kb_session.specs.Session.{Halts}
-use Rattle.kb_session.specs.State.{State, Told, happens, reload, step, step_on, step_unless, next}
-use Rattle.kb_session.specs.State.{taken_unless, reloaded, refusal_of}
+use Rattle.kb_core.specs.declared.native.Native.{Native}
+use Rattle.kb_registry.specs.Live.{registration_fault, holder}
+use Rattle.kb_registry.specs.declared.fault.RegistryFault.{RegistryFault}
+use Rattle.kb_session.specs.State.{State, Told, happens, reload, register, dispose, step, step_on, step_unless}
+use Rattle.kb_session.specs.State.{next, taken_unless, reloaded, refusal_of, registering, disposing}
 use Rattle.kb_bindings.specs.Unread.{in_rules}
 use Rattle.kb_bindings.specs.declared.unread.UnreadIn.{UnreadIn}
 use Rattle.kb_stream.specs.Fold.{fold}
@@ -22,6 +25,7 @@ event_lists None (event.Key key) s = refl
 event_lists None (event.Focus name) s = refl
 event_lists None (event.SetKey name key value) s = refl
 event_lists None (event.UnsetKey name key) s = refl
+event_lists None event.NoClosure s = refl
 event_lists None (event.Unread number) s = refl
 
 -- what lists there are, and then more
@@ -36,9 +40,25 @@ reload_grows : (rules : Result Listed Refusal) (s : State) → Grows s.unread (r
 reload_grows (Ok user) s = record { more = in_rules User user.unread ∷ []; is = refl }
 reload_grows (Err refusal) s = same_grows s.unread s.unread refl
 
+register_lists : (fault : Option RegistryFault) (native : Native) (s : State)
+    → (registering fault native s).state.unread ≡ s.unread
+register_lists None native s = refl
+register_lists (Some fault) native s = refl
+
+dispose_lists : (native : Option Native) (number : ℕ) (s : State)
+    → (disposing native number s).state.unread ≡ s.unread
+dispose_lists None number s = refl
+dispose_lists (Some native) number s = refl
+
 on_grows : (told : Told) (s : State) → Grows s.unread (step_on told s).state.unread
 on_grows (happens e) s = same_grows s.unread (step_on (happens e) s).state.unread (event_lists (refusal_of e s) e s)
 on_grows (reload bytes marks) s = reload_grows (rules_in marks User bytes) s
+on_grows (register native) s =
+    same_grows s.unread (step_on (register native) s).state.unread
+    (register_lists (registration_fault native s.live) native s)
+on_grows (dispose number) s =
+    same_grows s.unread (step_on (dispose number) s).state.unread
+    (dispose_lists (holder number s.live) number s)
 
 unless_grows : (stopped : Bool) (told : Told) (s : State) → Grows s.unread (step_unless stopped told s).state.unread
 unless_grows true told s = same_grows s.unread s.unread refl

@@ -12,5 +12,6 @@ fault_in NoMemory = Err alloc_error
 fault_in (Fault fault) = Ok fault
 
 abbrev pub session_number : SessionFault → ℕ
+session_number (session.Refused refusal) = refusal.number
 session_number session.NoMemory = 5
 session_number session.Stopped = 97

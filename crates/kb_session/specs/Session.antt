@@ -1,9 +1,12 @@
 -- What the calls of a session do to it.
 use Rattle.std.specs.Prelude.{◌≡◌, ℕ, true, false, List, [], ◌∷◌, length, take, Result, Ok, Err}
 use Rattle.kb_context.specs.Failure.{Fails}
-use Rattle.kb_context.specs.Reading.{seen}
+use Rattle.kb_context.specs.Reading.{◌>>=◌, seen}
+use Rattle.kb_context.specs.Refusal.{numbered, refused_for}
 use Rattle.kb_context.specs.Scopes.{ScopesData}
 use Rattle.kb_context.specs.declared.failure.Failure.{Failure}
+use Rattle.kb_context.specs.declared.failure.Failure.TheVariants as failure
+use Rattle.kb_core.specs.declared.native.Native.{Native}
 use Rattle.kb_core.specs.declared.run.Core.{Core}
 use Rattle.kb_keys.specs.declared.keystroke.Keystroke.{Keystroke}
 use Rattle.kb_bindings.specs.Load as load
@@ -11,9 +14,14 @@ use Rattle.kb_bindings.specs.Load.{Files, LoadMarks, held_by, marks_told}
 use Rattle.kb_bindings.specs.Sources.{Sources}
 use Rattle.kb_session.specs.State.{State, Told, happens, Answered, did, refused, step, step_on, out_of, next}
 use Rattle.kb_session.specs.State.{loaded_state}
+use Rattle.kb_bindings.specs.Fault.{refused_by, refused_file}
 use Rattle.kb_bindings.specs.declared.fault.LoadFault.{LoadFault}
+use Rattle.kb_bindings.specs.declared.fault.LoadFile.TheVariants as file
+use Rattle.kb_registry.specs.Fault as registry
+use Rattle.kb_registry.specs.Live.{Live, fresh, all_registered}
+use Rattle.kb_registry.specs.declared.fault.RegistryFault.{RegistryFault}
 use Rattle.kb_session.specs.declared.fault.SessionFault.{SessionFault}
-use Rattle.kb_session.specs.declared.fault.SessionFault.TheVariants.{NoMemory, Stopped}
+use Rattle.kb_session.specs.declared.fault.SessionFault.TheVariants.{Refused, NoMemory, Stopped}
 use Rattle.kb_bindings.specs.declared.unread.UnreadIn.{UnreadIn}
 use Rattle.kb_stream.specs.Fold.{Traced, after, after_all, StopsAmong}
 use Rattle.kb_trace.specs.declared.event.Answer.{Answer}
@@ -24,12 +32,23 @@ use Rattle.kb_trace.specs.declared.event.Event.TheVariants as event
 abbrev pub Seen : Type 0
 Seen = Traced State
 
-abbrev pub loaded_session : ScopesData → Sources → Seen
-loaded_session scopes sources = record { state = loaded_state scopes sources; trace = [] }
+-- closures for these natives are registered in order, at most 1,000,000 in a session's life, behind all files
+abbrev pub natives_held : List Native → Result Live LoadFault
+natives_held natives =
+    refused_by file.Natives (numbered registry.number_of (all_registered natives (fresh 1000000)))
 
--- what files load, for the marks of their patterns: a session, or the first file's fault
-abbrev pub loaded : LoadMarks → Files → Result Seen LoadFault
-loaded marks files = seen (λ l. loaded_session l.scopes l.bindings) (load.loaded marks files)
+abbrev pub loaded_session : ScopesData → Sources → Live → Seen
+loaded_session scopes sources live = record { state = loaded_state scopes sources live; trace = [] }
+
+-- what files load, for the marks of their patterns, with closures for these natives: a session, or the first
+-- fault
+abbrev pub loaded : LoadMarks → Files → List Native → Result Seen LoadFault
+loaded marks files natives =
+    load.loaded marks files >>= λ l. seen (loaded_session l.scopes l.bindings) (natives_held natives)
+
+-- the same without what is loaded: no fault hangs on marks
+abbrev pub load_held : Files → List Native → Result Live LoadFault
+load_held files natives = held_by files >>= λ held. natives_held natives
 
 -- the first list of unread patterns that a session tells, that of its load
 abbrev pub first_list : List (List UnreadIn) → List UnreadIn
@@ -42,9 +61,9 @@ marks_by files session = marks_told files (first_list session.state.unread)
 
 -- a load answered what its files load for the marks that its session tells, or their fault, which is one for
 -- all marks, or was refused memory
-abbrev pub Loads : Files → Result Seen (Failure LoadFault) → Type 0
-Loads files (Ok session) = loaded (marks_by files session) files ≡ Ok session
-Loads files (Err failure) = Fails failure (held_by files)
+abbrev pub Loads : Files → List Native → Result Seen (Failure LoadFault) → Type 0
+Loads files natives (Ok session) = loaded (marks_by files session) files natives ≡ Ok session
+Loads files natives (Err failure) = Fails failure (load_held files natives)
 
 abbrev pub answered : Answer → Answered
 answered answer.Did = did
@@ -55,9 +74,13 @@ abbrev pub took : Told → Seen → Seen
 took told old = after (next told old.state) old
 
 -- a session that was running took what it was told, and this is its answer
+abbrev pub Answers : Told → Seen → Answered → Seen → Type 0
+Answers told old a new =
+    (old.state.stopped ≡ false) × ((step told old.state).answer ≡ a) × (new ≡ took told old)
+
+-- the same of a call that gives a refusal as an answer
 abbrev pub Takes : Told → Seen → Answer → Seen → Type 0
-Takes told old a new =
-    (old.state.stopped ≡ false) × ((step told old.state).answer ≡ answered a) × (new ≡ took told old)
+Takes told old a new = Answers told old (answered a) new
 
 -- memory was refused: the session is stopped, and all else is as it was
 abbrev pub halt : Seen → Seen
@@ -75,18 +98,32 @@ abbrev pub HaltsAt : Told → Seen → Seen → Type 0
 HaltsAt (happens (event.Key key)) old new = Halts old.state new.state × (new.trace ≡ old.trace)
 HaltsAt told old new = new ≡ halt old
 
--- the fault of one call: memory was refused and the session stops, or it was stopped before and stays as
--- it was
+-- the fault of a call that gives a refusal as an answer: memory was refused and the session stops, or it was
+-- stopped before and stays as it was
 abbrev pub FailsAt : SessionFault → Told → Seen → Seen → Type 0
+FailsAt (Refused refusal) told old new = ⊥
 FailsAt NoMemory told old new = (old.state.stopped ≡ false) × HaltsAt told old new
 FailsAt Stopped told old new = (old.state.stopped ≡ true) × (new ≡ old)
 
+-- the fault of a call that gives a refusal as a fault
+abbrev pub RefusesAt : SessionFault → Told → Seen → Seen → Type 0
+RefusesAt (Refused refusal) told old new = Answers told old (refused refusal) new
+RefusesAt NoMemory told old new = FailsAt NoMemory told old new
+RefusesAt Stopped told old new = FailsAt Stopped told old new
+
 -- the fault of a run: memory was refused in one of the events, or the session was stopped, and takes nothing
 abbrev pub FailsAmong : SessionFault → List Told → Seen → Seen → Type 0
+FailsAmong (Refused refusal) told old new = ⊥
 FailsAmong NoMemory told old new = (old.state.stopped ≡ false) × StopsAmong next Halts told old new
 FailsAmong Stopped told old new = (new.state.stopped ≡ true) × (new ≡ after_all next told old)
 
 -- ---- for private functions
+
+-- why a load failed whose closures could not all be registered
+abbrev pub load_failure : Failure RegistryFault → Failure LoadFault
+load_failure failure.NoMemory = failure.NoMemory
+load_failure (failure.Fault fault) =
+    failure.Fault (refused_file file.Natives (refused_for (registry.number_of fault)))
 
 -- a session that is running took what it was told, and this is its answer
 abbrev pub Does : Told → Seen → Answer → Seen → Type 0

@@ -1,6 +1,6 @@
 -- The plain model of a session: its state, and what each thing that it is told does to it, with the lines and
 -- the answer.
-use Rattle.std.specs.Prelude.{ℕ, Bool, true, false, List, [], ◌∷◌, ◌++◌, Option, Some, None, option_map}
+use Rattle.std.specs.Prelude.{ℕ, ◌+◌, Bool, true, false, List, [], ◌∷◌, ◌++◌, Option, Some, None, option_map}
 use Rattle.std.specs.Prelude.{Result, Ok, Err}
 use Rattle.kb_context.specs.Refusal.{refused_for}
 use Rattle.kb_context.specs.ScopeFault.{number_of}
@@ -10,9 +10,14 @@ use Rattle.kb_context.specs.declared.fault.ScopeFault.{ScopeFault}
 use Rattle.kb_context.specs.declared.fault.ScopeFault.TheVariants.{UnknownScope}
 use Rattle.kb_context.specs.declared.refusal.Refusal.{Refusal}
 use Rattle.kb_core.specs.Core.{new_core, with_scopes}
+use Rattle.kb_core.specs.Native.{name_of}
+use Rattle.kb_core.specs.declared.native.Native.{Native}
 use Rattle.kb_core.specs.declared.run.Core.{Core}
 use Rattle.kb_files.specs.RuleFile.{rules_in}
 use Rattle.kb_keys.specs.declared.keystroke.Keystroke.{Keystroke}
+use Rattle.kb_registry.specs.Fault as registry
+use Rattle.kb_registry.specs.Live.{Live, registration_fault, registered, holder, disposed}
+use Rattle.kb_registry.specs.declared.fault.RegistryFault.{RegistryFault}
 use Rattle.kb_rules.specs.RuleList.{Listed}
 use Rattle.kb_rules.specs.declared.origin.Origin.TheVariants.{User}
 use Rattle.kb_rules.specs.declared.unread.UnreadAt.{UnreadAt}
@@ -29,19 +34,25 @@ use Rattle.kb_trace.specs.declared.event.Event.TheVariants as event
 pub record State : Type 0 where
   pub core : Core
   pub sources : Sources
+  pub live : Live
   pub pressed : List Keystroke
   pub stopped : Bool
   pub unread : List (List UnreadIn)
 
--- what a session is told: an event, or the bytes of the user's rules, to be read anew, with the marks of
--- their patterns that aren't read
+-- what a session is told: an event, the bytes of the user's rules, to be read anew, with the marks of
+-- their patterns that aren't read, a closure for a native, to be registered, or a ticket, to be disposed of
 pub data Told : Type 0 where
   happens : Event → Told
   reload : List ℕ → List UnreadAt → Told
+  register : Native → Told
+  dispose : ℕ → Told
 
--- what it answers; a session that was stopped is halted
+-- what it answers: it is done, or with the ticket of a closure that was registered, or with the closure back
+-- that was disposed of; a session that was stopped is halted
 pub data Answered : Type 0 where
   did : Answered
+  ticket : ℕ → Answered
+  gave : Native → Answered
   refused : Refusal → Answered
   halted : Answered
 
@@ -82,10 +93,10 @@ begun p pressed s = stepped (record s { core = p.core; pressed = pressed }) p.li
 abbrev pub press : Keystroke → State → Stepped
 press key s =
     let does = pressed s.pressed key s.core.scopes s.sources in
-    begun (press_started (line.key_text s.pressed key) does s.core)
+    begun (press_started (line.key_text s.pressed key) does s.live s.core)
     (still_pressed s.pressed key s.core.scopes s.sources) s
 
--- why an event is refused, if it is
+-- why the scopes refuse an event, if they do
 abbrev pub unless_known : Option ℕ → Option ScopeFault
 unless_known None = Some UnknownScope
 unless_known (Some place) = None
@@ -95,12 +106,14 @@ fault_of (event.Key key) s = None
 fault_of (event.Focus name) s = unless_known (place_of name s.core.scopes.scopes)
 fault_of (event.SetKey name key value) s = set_fault s.core.scopes name key
 fault_of (event.UnsetKey name key) s = unless_known (place_of name s.core.scopes.scopes)
+fault_of event.NoClosure s = None
 fault_of (event.Unread number) s = None
 
 abbrev pub refusal_of : Event → State → Option Refusal
 refusal_of e s = option_map (λ fault. refused_for (number_of fault)) (fault_of e s)
 
--- what an event does that is taken; the focus leaves a chord, and keys don't
+-- what an event does that the scopes take; the focus leaves a chord, and keys don't; there is nothing to be
+-- registered where the host has no closure
 abbrev pub taken : Event → State → Stepped
 taken (event.Key key) s = press key s
 taken (event.Focus name) s = leave (line.focus_line name) (in_scopes (with_focus s.core.scopes name) s)
@@ -108,6 +121,7 @@ taken (event.SetKey name key value) s =
     stepped (in_scopes (with_value s.core.scopes name key value) s) (line.set_line name key ∷ []) did
 taken (event.UnsetKey name key) s =
     stepped (in_scopes (without_value s.core.scopes name key) s) (line.unset_line name key ∷ []) did
+taken event.NoClosure s = refuse (refused_for 98) s
 taken (event.Unread number) s = stepped s (line.unread_line number ∷ []) did
 
 abbrev pub taken_unless : Option Refusal → Event → State → Stepped
@@ -126,10 +140,30 @@ abbrev pub reloaded : Result Listed Refusal → State → Stepped
 reloaded (Ok user) s = leave line.reloaded_line (with_user user s)
 reloaded (Err r) s = refuse r s
 
+-- other closures are live
+abbrev pub with_live : Live → State → State
+with_live live s = record s { live = live }
+
+-- a closure for a native is live from then on, unless it is refused; an open chord stays
+abbrev pub registering : Option RegistryFault → Native → State → Stepped
+registering None native s =
+    stepped (with_live (registered native s.live) s)
+    (line.registered_line (name_of native) (s.live.made + 1) ∷ []) (ticket (s.live.made + 1))
+registering (Some fault) native s = refuse (refused_for (registry.number_of fault)) s
+
+-- the closure of a ticket is live no more, if the ticket has one; an open chord stays
+abbrev pub disposing : Option Native → ℕ → State → Stepped
+disposing (Some native) number s =
+    stepped (with_live (disposed number s.live) s) (line.disposed_line (name_of native) number ∷ [])
+    (gave native)
+disposing None number s = refuse (refused_for 72) s
+
 -- what a session does that is running
 abbrev pub step_on : Told → State → Stepped
 step_on (happens e) s = taken_unless (refusal_of e s) e s
 step_on (reload bytes marks) s = reloaded (rules_in marks User bytes) s
+step_on (register native) s = registering (registration_fault native s.live) native s
+step_on (dispose number) s = disposing (holder number s.live) number s
 
 abbrev pub step_unless : Bool → Told → State → Stepped
 step_unless true told s = stepped s [] halted
@@ -143,10 +177,11 @@ abbrev pub next : Told → State → Out State
 next told s = out_of (step told s)
 
 -- what a session is loaded as
-abbrev pub loaded_state : ScopesData → Sources → State
-loaded_state scopes sources = record {
+abbrev pub loaded_state : ScopesData → Sources → Live → State
+loaded_state scopes sources live = record {
   core = new_core scopes;
   sources = sources;
+  live = live;
   pressed = [];
   stopped = false;
   unread = unread_of sources ∷ [];

@@ -2,13 +2,16 @@
 ghost use Rattle.std.specs.Prelude.{◌≡◌};
 ghost use Rattle.kb_session.specs.Fault as fault;
 
-use kb_context::{Failure, NoMemory};
+use kb_context::{Failure, NoMemory, Refusal};
 use std::alloc::AllocError;
 use thiserror::Error;
 
 /// Why a call of a session did nothing more.
-#[derive(Clone, Copy, Debug, PartialEq, Eq, Error)]
+#[derive(Debug, Drop, Error)]
 pub enum SessionFault {
+    /// What was asked is refused: nothing changed but the trace, which has the line of the refusal.
+    #[error("the call is refused")]
+    Refused(Refusal),
     /// Memory was refused. From then on the session is stopped.
     #[error("out of memory")]
     NoMemory,
@@ -28,11 +31,12 @@ pub(crate) fn fault_in<F>(failure: Failure<F>) -> Result<F, NoMemory>
 }
 
 impl SessionFault {
-    /// The number under which the engine lists the fault.
-    pub fn number(self) -> u32
-        ensures { result ≡ fault.session_number self }
+    /// The number under which the engine lists the fault. It takes no memory.
+    pub fn number(&self) -> u32
+        ensures { result ≡ fault.session_number self.now }
     {
         match self {
+            SessionFault::Refused(refusal) => refusal.number,
             SessionFault::NoMemory => 5,
             SessionFault::Stopped => 97,
         }

@@ -3,6 +3,7 @@
 
 pub mod fault;
 mod press;
+mod run_commands;
 pub mod session;
 pub mod start;
 

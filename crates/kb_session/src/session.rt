@@ -1,11 +1,12 @@
 //! A session: its state, what it is told and does, and the trace of that.
-ghost use Rattle.std.specs.Prelude.{◌≡◌, true, false, [], ◌∷◌, ◌++◌, take, map};
+ghost use Rattle.std.specs.Prelude.{◌≡◌, false, [], ◌∷◌, ◌++◌, take, map};
 ghost use Rattle.std.specs.Prelude.{OnOk, OnErr, IfOk, IfErr};
+ghost use Rattle.kb_context.specs.Failure.{Gives};
 ghost use Rattle.kb_context.specs.Refusal.{refused_for};
 ghost use Rattle.kb_context.specs.ScopeFault.{number_of};
 ghost use Rattle.kb_rules.specs.RuleList.{AreRightlyMarked};
 ghost use Rattle.kb_bindings.specs.Load.{files_of, MarksAreRight};
-ghost use Rattle.kb_session.specs.Session.{Loads, Takes, Does, halt, Undone, HalfDone};
+ghost use Rattle.kb_session.specs.Session.{Loads, Takes, Does, halt, Undone, HalfDone, natives_held};
 ghost use Rattle.kb_session.specs.Session.{FailsAt, FailsAmong};
 ghost use Rattle.kb_bindings.specs.Sources.{source_of};
 ghost use Rattle.kb_session.specs.State.{happens, reload, next, left_lines, with_user};
@@ -17,13 +18,15 @@ ghost use Rattle.kb_trace.specs.Lines as line;
 
 use crate::fault::{SessionFault, fault_in};
 use crate::press::press_key;
+use crate::session::closures::register_all;
 use kb_bindings::{
     Bindings, Inputs, LoadFault, Loaded, UnreadIn, Warning, load_files, unread_rules,
 };
 use kb_context::{ContextValue, Failure, NoMemory, Refusal, ScopeFault, Seq};
-use kb_core::{Core, HeldCore};
+use kb_core::Core;
 use kb_files::read_rules;
 use kb_keys::Keystroke;
+use kb_registry::{HeldCore, HostCommand, Registry};
 use kb_resolve::ChordState;
 use kb_rules::{Origin, RuleList};
 use kb_stream::Lines;
@@ -32,15 +35,19 @@ use std::alloc::Global;
 use std::collections::VecDeque;
 use std::marker::Model;
 
-/// A session of the engine. Contracts see its state (the core with its text and scopes, what binds keys, the
+mod closures;
+
+/// A session of the engine, over the host's closures for native commands. Contracts see its state (the core
+/// with its text and scopes, what binds keys, which natives have a closure that is live, the
 /// keystrokes of the chord that is open, whether it is stopped, and which patterns weren't read in the
 /// load and in each reload), and the trace that led to it. Once
 /// memory was refused it is stopped for good: each later call answers `Stopped`, and `trace` gives the lines
 /// up to the one call that was refused memory.
 #[derive(Drop)]
-pub struct Session {
+pub struct Session<C: HostCommand> {
     core: HeldCore,
     bindings: Bindings,
+    registry: Registry<C>,
     chord: ChordState,
     stopped: bool,
     unread: Seq<Seq<UnreadIn>>,
@@ -48,7 +55,7 @@ pub struct Session {
     alloc: Global,
 }
 
-impl Model for Session {
+impl<C: HostCommand> Model for Session<C> {
     ghost use Rattle.std.specs.Coded.{codes};
     ghost use Rattle.kb_core.specs.contracts.run.Core as whole;
     ghost use Rattle.kb_files.specs.contracts.extension_file.Extension as extension;
@@ -77,6 +84,7 @@ impl Model for Session {
       state = record {
         core = s.core;
         sources = s.bindings;
+        live = s.registry;
         pressed = s.chord;
         stopped = s.stopped;
         unread = s.unread;
@@ -85,25 +93,33 @@ impl Model for Session {
     } };
 }
 
-impl Session {
-    /// A session of these files, without text and trace. All extensions are enabled.
+impl<C: HostCommand> Session<C> {
+    /// A session of these files, without text and trace, in which these closures are registered in order,
+    /// with the tickets from 1 on. All extensions are enabled. At most 1,000,000 closures are registered in a
+    /// session's life (our decision).
     ///
     /// Errors: the first file that is refused, and why, in this order (our decision): the layout (1 to 4, 40,
     /// 41, 21, 22), the default rules, the user's rules (1 to 4, 41 each), more than 100 extensions (44), the
     /// manifests in load order (1 to 4, 40, 41), an extension that repeats the identifier of an earlier one
-    /// (91), one that depends on an extension that isn't before it (90); or refused memory.
-    #[tactic(auto, using(crate::proofs::LoadLemmas::session_loaded))]
-    pub fn load(alloc: Global, inputs: Inputs<'_>) -> Result<Session, Failure<LoadFault>>
-        ensures read { Loads (files_of inputs.entry) result }
+    /// (91), one that depends on an extension that isn't before it (90), two closures for one native (70); or
+    /// refused memory. The closures are then dropped.
+    #[tactic(auto, using(crate::proofs::LoadLemmas::loading))]
+    pub fn load(
+        alloc: Global,
+        inputs: Inputs<'_>,
+        natives: Vec<C>,
+    ) -> Result<Session<C>, Failure<LoadFault>>
+        ensures read { Loads (files_of inputs.entry) (map C.stands_for natives.items) result }
 
         // A pattern is told as unread only where `regex` doesn't read it, and isn't told only where it does.
         ensures right { IfOk result (λ session. MarksAreRight (files_of inputs.entry) session.state.sources) }
     {
         let Loaded { scopes, bindings } = load_files(alloc, inputs)?;
-        let unread = first_list(alloc, &bindings)?;
+        let (registry, unread) = prepare(alloc, &bindings, natives)?;
         Ok(Session {
             core: HeldCore::new(Core::new(alloc, scopes)),
             bindings,
+            registry,
             chord: ChordState::new(alloc),
             stopped: false,
             unread,
@@ -178,6 +194,7 @@ impl Session {
             Event::Focus(scope) => self.focus(scope.as_str()),
             Event::SetKey(scope, key, value) => self.set_key(scope.as_str(), key.as_str(), value),
             Event::UnsetKey(scope, key) => self.unset_key(scope.as_str(), key.as_str()),
+            Event::NoClosure => self.note_no_closure(),
             Event::Unread(number) => self.note_unread(number),
         };
         match done {
@@ -236,6 +253,14 @@ impl Session {
         ensures fault { result ≡ NoMemory }
     {
         self.trace.truncate(mark);
+        self.halted()
+    }
+
+    /// Stops the session, since memory was refused.
+    fn halted(&mut self) -> SessionFault
+        ensures session { self.new ≡ halt self.old }
+        ensures fault { result ≡ NoMemory }
+    {
         self.stop();
         SessionFault::NoMemory
     }
@@ -247,6 +272,7 @@ impl Session {
         press_key(
             self.alloc,
             key,
+            &self.registry,
             &mut self.core,
             &mut self.chord,
             &self.bindings,
@@ -304,6 +330,15 @@ impl Session {
             Ok(()) => Ok(Answer::Did),
             Err(_) => self.refuse_instead(mark, ScopeFault::UnknownScope),
         }
+    }
+
+    /// Notes that the host has no closure to be registered (98).
+    #[tactic(auto, using(crate::proofs::Undoing::undoing))]
+    fn note_no_closure(&mut self) -> Result<Answer, NoMemory>
+        ensures ok { IfOk result (λ answer. Does (happens Event.NoClosure) self.old answer self.new) }
+        ensures err { OnErr result (Undone self.old self.new) }
+    {
+        self.refuse(Refusal::of(98))
     }
 
     #[tactic(auto, using(crate::proofs::Undoing::undoing))]
@@ -397,6 +432,21 @@ impl Session {
         self.bindings.renew(renewed);
         Ok(())
     }
+}
+
+/// What a session has at first beside its files: the closures that are live, and the lists of unread
+/// patterns. One call makes both, so that little stands to be dropped where one is refused.
+fn prepare<C: HostCommand>(
+    alloc: Global,
+    bindings: &Bindings,
+    natives: Vec<C>,
+) -> Result<(Registry<C>, Seq<Seq<UnreadIn>>), Failure<LoadFault>>
+    ensures live { Gives (λ made. made.0) result (natives_held (map C.stands_for natives.items)) }
+    ensures unread { IfOk result (λ made. made.1 ≡ unread_of bindings.now ∷ []) }
+{
+    let registry = register_all(alloc, natives)?;
+    let unread = first_list(alloc, bindings)?;
+    Ok((registry, unread))
 }
 
 /// The lists of unread patterns that a session has at first: that of its load.

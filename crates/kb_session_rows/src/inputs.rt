@@ -1,6 +1,8 @@
 //! The files of a session, from the lines that state them: `layout TEXT`, `defaults TEXT`, `user TEXT`, each
 //! extension's manifest as `extension TEXT`, and `platform NAME` (`linux` where there is none). More than
-//! one line of a file are parted by line feeds, and manifests, which may share a line, by ` ;; `.
+//! one line of a file are parted by line feeds, and manifests, which may share a line, by ` ;; `. The host's
+//! closures are those of `natives NAME ..` and `shelf NAME ..`, each one for every native where there is no line.
+use crate::host::{Command, all_commands, commands_named};
 use kb_context::NoMemory;
 use kb_keys::Platform;
 use kb_row_text::bytes_of;
@@ -28,6 +30,7 @@ pub(crate) fn is_of_file(line: &str) -> bool {
     let (word, _) = line.split_once(' ').unwrap_or((line, ""));
     match word {
         "layout" | "defaults" | "user" | "extension" | "platform" => true,
+        "natives" | "shelf" => true,
         _ => false,
     }
 }
@@ -57,14 +60,34 @@ fn file_in(
     }
 }
 
-// The platform that the lines name.
-fn platform_in(lines: &str) -> Platform {
+// What the first line of a kind states.
+fn stated<'a>(lines: &'a str, kind: &str) -> Option<&'a str> {
     for line in lines.lines() {
-        if let Some(name) = text_of(line, "platform") {
-            return Platform::named(name).unwrap_or(Platform::Linux);
+        if let Some(text) = text_of(line, kind) {
+            return Some(text);
         }
     }
-    Platform::Linux
+    None
+}
+
+// The platform that the lines name.
+fn platform_in(lines: &str) -> Platform {
+    match stated(lines, "platform") {
+        Some(name) => Platform::named(name).unwrap_or(Platform::Linux),
+        None => Platform::Linux,
+    }
+}
+
+/// The host's closures of a kind, `natives` or `shelf`.
+pub(crate) fn commands_in(
+    alloc: Global,
+    lines: &str,
+    kind: &str,
+) -> Result<Vec<Command>, NoMemory> {
+    match stated(lines, kind) {
+        Some(words) => commands_named(alloc, words),
+        None => all_commands(alloc),
+    }
 }
 
 /// The files that lines state.

@@ -2,6 +2,7 @@
 #![tactic(auto)]
 
 mod blocks;
+mod host;
 mod inputs;
 mod sessions;
 mod streams;

@@ -2,12 +2,15 @@
 //!
 //! Its lines are those of the files (`inputs`), then those of the script, and below each what it writes,
 //! behind `> `. A line that begins with `? ` is none of the script's: it asks something else of the session.
-use crate::inputs::{files_in, is_of_file, manifests_in};
+use crate::host::Command;
+use crate::inputs::{commands_in, files_in, is_of_file, manifests_in};
 use crate::streams::{Broken, Narrow};
 use kb_bindings::{Inputs, UnreadIn};
 use kb_context::{NoMemory, fault_name};
+use kb_core::Native;
 use kb_ending::{Stop, WarningLine, lent, script_stop};
 use kb_keys::Keystroke;
+use kb_registry::Ticket;
 use kb_row_text::{bytes_of, shown};
 use kb_script::run_script;
 use kb_session::{Session, SessionFault};
@@ -31,7 +34,7 @@ fn add_lines(lines: &str, told: &mut String) -> Result<(), NoMemory> {
     Ok(())
 }
 
-fn add_warnings(session: &Session, told: &mut String) -> Result<(), NoMemory> {
+fn add_warnings(session: &Session<Command>, told: &mut String) -> Result<(), NoMemory> {
     for warning in session.warnings() {
         let line = WarningLine {
             source: session.source(warning.origin),
@@ -43,7 +46,7 @@ fn add_warnings(session: &Session, told: &mut String) -> Result<(), NoMemory> {
 }
 
 fn add_unread_list(
-    session: &Session,
+    session: &Session<Command>,
     list: usize,
     unread: &[UnreadIn],
     told: &mut String,
@@ -61,14 +64,14 @@ fn add_unread_list(
 }
 
 // The patterns that aren't read, each behind the number of its list.
-fn add_unread(session: &Session, told: &mut String) -> Result<(), NoMemory> {
+fn add_unread(session: &Session<Command>, told: &mut String) -> Result<(), NoMemory> {
     for (list, unread) in session.unread().iter().enumerate() {
         add_unread_list(session, list, unread.as_slice(), told)?;
     }
     Ok(())
 }
 
-fn add_trace(session: &Session, told: &mut String) -> Result<(), NoMemory> {
+fn add_trace(session: &Session<Command>, told: &mut String) -> Result<(), NoMemory> {
     let trace = session.trace().text_from(0);
     add_lines(str::from_utf8(trace).unwrap_or("no text"), told)
 }
@@ -82,22 +85,24 @@ fn add_end(end: &Result<(), Stop<'_>>, told: &mut String) -> Result<(), NoMemory
 
 fn run<R: Read, W: Write>(
     alloc: Global,
-    session: &mut Session,
+    session: &mut Session<Command>,
+    shelf: &mut Vec<Command>,
     reader: &mut R,
     writer: &mut W,
 ) -> Result<(), Stop<'static>> {
-    script_stop(run_script(alloc, reader, writer, session), true)
+    script_stop(run_script(alloc, reader, writer, session, shelf), true)
 }
 
 fn run_line(
     alloc: Global,
-    session: &mut Session,
+    session: &mut Session<Command>,
+    shelf: &mut Vec<Command>,
     script: &[u8],
     told: &mut String,
 ) -> Result<(), NoMemory> {
     let mut out = Vec::new(alloc);
     let mut reader = script;
-    let end = run(alloc, session, &mut reader, &mut out);
+    let end = run(alloc, session, shelf, &mut reader, &mut out);
     add_lines(str::from_utf8(out.as_slice()).unwrap_or("no text"), told)?;
     add_end(&end, told)
 }
@@ -110,27 +115,29 @@ fn add_taken(alloc: Global, taken: &[u8], told: &mut String) -> Result<(), NoMem
 
 fn run_read(
     alloc: Global,
-    session: &mut Session,
+    session: &mut Session<Command>,
+    shelf: &mut Vec<Command>,
     left: &[u8],
     told: &mut String,
 ) -> Result<(), NoMemory> {
     let mut out = Vec::new(alloc);
     let mut reader = Broken { left };
-    let end = run(alloc, session, &mut reader, &mut out);
+    let end = run(alloc, session, shelf, &mut reader, &mut out);
     add_taken(alloc, out.as_slice(), told)?;
     add_end(&end, told)
 }
 
 fn run_written(
     alloc: Global,
-    session: &mut Session,
+    session: &mut Session<Command>,
+    shelf: &mut Vec<Command>,
     script: &[u8],
     writer: Narrow,
     told: &mut String,
 ) -> Result<(), NoMemory> {
     let mut writer = writer;
     let mut reader = script;
-    let end = run(alloc, session, &mut reader, &mut writer);
+    let end = run(alloc, session, shelf, &mut reader, &mut writer);
     let Narrow {
         taken,
         room: _,
@@ -143,7 +150,8 @@ fn run_written(
 // Runs a script whose reader or writer fails after so many bytes.
 fn run_stream(
     alloc: Global,
-    session: &mut Session,
+    session: &mut Session<Command>,
+    shelf: &mut Vec<Command>,
     word: &str,
     rest: &str,
     told: &mut String,
@@ -153,13 +161,14 @@ fn run_stream(
     let script = bytes_of(alloc, &[], script)?;
     if word == "read" {
         let left = &script.as_slice()[..room.min(script.len())];
-        return run_read(alloc, session, left, told);
+        return run_read(alloc, session, shelf, left, told);
     }
     let taken = Vec::new(alloc);
     let fails = word == "write";
     run_written(
         alloc,
         session,
+        shelf,
         script.as_slice(),
         Narrow { taken, room, fails },
         told,
@@ -188,7 +197,7 @@ fn add_fault(fault: SessionFault, told: &mut String) -> Result<(), NoMemory> {
     write!(told, "> {number} {name}\n")
 }
 
-fn handle(session: &mut Session, word: &str, told: &mut String) -> Result<(), NoMemory> {
+fn handle(session: &mut Session<Command>, word: &str, told: &mut String) -> Result<(), NoMemory> {
     match session.handle(event_of(word)) {
         Ok(_) => Ok(()),
         Err(fault) => add_fault(fault, told),
@@ -197,7 +206,7 @@ fn handle(session: &mut Session, word: &str, told: &mut String) -> Result<(), No
 
 fn run_all(
     alloc: Global,
-    session: &mut Session,
+    session: &mut Session<Command>,
     words: &str,
     told: &mut String,
 ) -> Result<(), NoMemory> {
@@ -207,7 +216,71 @@ fn run_all(
     }
 }
 
-fn stop(session: &mut Session, told: &mut String) -> Result<(), NoMemory> {
+// Registers a closure of the host, and says what comes of it.
+fn register(
+    session: &mut Session<Command>,
+    name: &str,
+    is_refused: bool,
+    told: &mut String,
+) -> Result<(), NoMemory> {
+    let Some(native) = Native::named(name) else {
+        return add_answer("no native", told);
+    };
+    match session.register(Command { native, is_refused }) {
+        Ok(ticket) => {
+            let number = ticket.0;
+            write!(told, "> ticket {number}\n")
+        }
+        Err((back, fault)) => {
+            add_fault(fault, told)?;
+            let name = back.native.name();
+            write!(told, "> back {name}\n")
+        }
+    }
+}
+
+fn ticket_of(number: &str) -> Ticket {
+    Ticket(number.parse::<u64>().unwrap_or(0))
+}
+
+fn dispose(
+    session: &mut Session<Command>,
+    number: &str,
+    told: &mut String,
+) -> Result<(), NoMemory> {
+    match session.dispose(ticket_of(number)) {
+        Ok(command) => {
+            let name = command.native.name();
+            write!(told, "> back {name}\n")
+        }
+        Err(fault) => add_fault(fault, told),
+    }
+}
+
+// Takes the closure of a ticket back, and registers it anew.
+fn turn(session: &mut Session<Command>, ticket: Ticket) -> Result<Ticket, SessionFault> {
+    let command = session.dispose(ticket)?;
+    match session.register(command) {
+        Ok(ticket) => Ok(ticket),
+        Err((_, fault)) => Err(fault),
+    }
+}
+
+// The same so many times, from a ticket on, and the last ticket.
+fn turns(session: &mut Session<Command>, rest: &str, told: &mut String) -> Result<(), NoMemory> {
+    let (number, count) = rest.split_once(' ').unwrap_or((rest, ""));
+    let mut ticket = ticket_of(number);
+    for _ in 0..count.parse::<u32>().unwrap_or(0) {
+        match turn(session, ticket) {
+            Ok(next) => ticket = next,
+            Err(fault) => return add_fault(fault, told),
+        }
+    }
+    let number = ticket.0;
+    write!(told, "> ticket {number}\n")
+}
+
+fn stop(session: &mut Session<Command>, told: &mut String) -> Result<(), NoMemory> {
     let was_stopped = session.is_stopped();
     session.stop();
     let is_stopped = session.is_stopped();
@@ -217,11 +290,13 @@ fn stop(session: &mut Session, told: &mut String) -> Result<(), NoMemory> {
 // `warnings` are those of the files as they stand, `unread` are the patterns that weren't read, and `trace`
 // is all that was written so far. `read N SCRIPT` runs a script whose reader fails behind so many bytes,
 // `write N SCRIPT` one whose writer does, and `fill N SCRIPT` one whose writer then takes no more. `handle
-// KEY` and `run KEY ..` are calls with presses, and `stop` stops the session, and says whether it was
-// stopped, and is.
+// KEY` and `run KEY ..` are calls with presses, `register NATIVE` and `dispose N` are a host's calls, `lacking
+// NATIVE` registers a closure that is refused memory, and `turns N COUNT` takes the closure of a ticket back and
+// registers it anew, so many times. `stop` stops the session, and says whether it was stopped, and is.
 fn ask(
     alloc: Global,
-    session: &mut Session,
+    session: &mut Session<Command>,
+    shelf: &mut Vec<Command>,
     question: &str,
     told: &mut String,
 ) -> Result<(), NoMemory> {
@@ -232,8 +307,12 @@ fn ask(
         "trace" => add_trace(session, told),
         "handle" => handle(session, rest, told),
         "run" => run_all(alloc, session, rest, told),
+        "register" => register(session, rest, false, told),
+        "lacking" => register(session, rest, true, told),
+        "dispose" => dispose(session, rest, told),
+        "turns" => turns(session, rest, told),
         "stop" => stop(session, told),
-        "read" | "write" | "fill" => run_stream(alloc, session, word, rest, told),
+        "read" | "write" | "fill" => run_stream(alloc, session, shelf, word, rest, told),
         _ => add_answer("no question", told),
     }
 }
@@ -251,7 +330,8 @@ fn add_file_lines(lines: &str, told: &mut String) -> Result<(), NoMemory> {
 // has its number.
 fn play(
     alloc: Global,
-    session: &mut Session,
+    session: &mut Session<Command>,
+    shelf: &mut Vec<Command>,
     lines: &str,
     told: &mut String,
 ) -> Result<(), NoMemory> {
@@ -262,10 +342,10 @@ fn play(
         }
         write!(told, "{line}\n")?;
         if let Some(question) = line.strip_prefix("? ") {
-            ask(alloc, session, question, told)?;
+            ask(alloc, session, shelf, question, told)?;
         } else {
             let script = bytes_of(alloc, feeds.as_slice(), line)?;
-            run_line(alloc, session, script.as_slice(), told)?;
+            run_line(alloc, session, shelf, script.as_slice(), told)?;
             feeds.push(b'\n').map_err(NoMemory::from)?;
         }
     }
@@ -274,12 +354,13 @@ fn play(
 
 fn tell_lines(
     alloc: Global,
-    session: &mut Session,
+    session: &mut Session<Command>,
+    shelf: &mut Vec<Command>,
     lines: &str,
     told: &mut String,
 ) -> Result<(), NoMemory> {
     add_warnings(session, told)?;
-    play(alloc, session, lines, told)
+    play(alloc, session, shelf, lines, told)
 }
 
 fn tell_loaded(
@@ -288,9 +369,10 @@ fn tell_loaded(
     lines: &str,
     told: &mut String,
 ) -> Result<(), NoMemory> {
-    match Session::load(alloc, inputs) {
+    let mut shelf = commands_in(alloc, lines, "shelf")?;
+    match Session::load(alloc, inputs, commands_in(alloc, lines, "natives")?) {
         Ok(mut session) => {
-            let end = tell_lines(alloc, &mut session, lines, told);
+            let end = tell_lines(alloc, &mut session, &mut shelf, lines, told);
             drop(session);
             end
         }

@@ -1,4 +1,5 @@
 //! Transcripts of scripts over memory.
+use crate::host::all_commands;
 use kb_bindings::{Inputs, LoadFault};
 use kb_context::{Failure, NoMemory};
 use kb_keys::Platform;
@@ -35,11 +36,14 @@ fn rules_alone<'a>(layout: Option<&'a [u8]>, user: &'a [u8]) -> Inputs<'a> {
     }
 }
 
-/// The transcript of a script behind the user's rules, without a layout, or why there is none.
+/// The transcript of a script behind the user's rules, without a layout, or why there is none. A closure is
+/// live for each native, and there is one more on the shelf.
 pub(crate) fn text(alloc: Global, row: &str) -> Result<String, NoMemory> {
     let (user, script) = row.split_once(" ;; ").unwrap_or((row, ""));
     let inputs = rules_alone(None, user.as_bytes());
-    match transcript(alloc, inputs, script.as_bytes()) {
+    let natives = all_commands(alloc)?;
+    let shelf = all_commands(alloc)?;
+    match transcript(alloc, inputs, natives, shelf, script.as_bytes()) {
         Ok(out) => String::from_str(alloc, str::from_utf8(out.as_slice()).unwrap_or("no text")),
         Err(Failure::Fault(fault)) => shown(alloc, &fault),
         Err(Failure::NoMemory) => Err(AllocError),

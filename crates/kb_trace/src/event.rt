@@ -15,6 +15,9 @@ pub enum Event {
     UnsetKey(Text, Text),
     /// A line of a script that can't be read, by its number, counted from 1.
     Unread(u64),
+    /// A script names a native command of which the host has no closure left. Its step is the refusal 98,
+    /// and nothing changes (our decision).
+    NoClosure,
 }
 
 /// What a session answers.

@@ -3,7 +3,7 @@ use Rattle.kb_session.proofs.Runs.{runs_fail}
 use Rattle.kb_session.proofs.session.Session.run.Goals as goal
 
 pub returns-in_err-handle-clause-err : goal.returns-in_err-handle-clause-err
-returns-in_err-handle-clause-err c =
+returns-in_err-handle-clause-err g c =
     let p = err_from_is_err_and c.from_residual.result c.from_residual.ensures.1 in
     rw (p.1, p.2)
     (runs_fail _ _ _ _ _ _ _ c.loop-event.invariant.0 c.loop-event.invariant.1 c.in_err-handle.ensures.err)

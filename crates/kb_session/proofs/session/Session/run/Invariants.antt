@@ -4,9 +4,9 @@ use Rattle.kb_session.proofs.session.Session.run.Given as goal
 use Rattle.kb_stream.proofs.FoldLemmas.{RunsUpTo}
 
 abbrev pub invariant-loop-event : goal.invariant-loop-event
-invariant-loop-event l =
+invariant-loop-event g l =
     RunsUpTo next l.fn.self (map happens l.fn.events.items) l.self (map happens l.rest.items)
     × (l.fn.self.state.stopped ≡ false)
 
 abbrev pub decreases-loop-event : goal.decreases-loop-event
-decreases-loop-event l = length l.rest.items
+decreases-loop-event g l = length l.rest.items

@@ -1,13 +1,11 @@
 //! A core that stays in its place while native commands run on it.
-ghost use Rattle.std.specs.Prelude.{◌≡◌, IsTrue, OnOk, OnErr, IfOk};
+ghost use Rattle.std.specs.Prelude.{◌≡◌, ◌≤◌, OnOk, OnErr, IfOk};
 ghost use Rattle.kb_core.specs.Core.{core_after};
-ghost use Rattle.kb_core.specs.Native.{parameters_of, MayLackMemory};
-ghost use Rattle.kb_core.specs.Signature.{fits};
+ghost use Rattle.kb_core.specs.Native.{Fits, budget_of};
 
-use crate::args::Args;
-use crate::native::Native;
-use crate::run::{Core, Ran, plain};
+use crate::command::HostCommand;
 use kb_context::{NoMemory, Scopes};
+use kb_core::{Args, Core, Ran};
 use std::marker::Model;
 
 /// A core that native commands run on where it is held. A command takes the core and gives it back,
@@ -22,7 +20,7 @@ impl Model for HeldCore {
     ghost use Rattle.std.specs.Prelude.{IsSome};
     ghost use Rattle.kb_core.specs.declared.run.Core.{Core};
     ghost use Rattle.kb_core.specs.contracts.run.Core as whole;
-    ghost use Rattle.kb_core.specs.HeldCore.{held};
+    ghost use Rattle.kb_registry.specs.HeldCore.{held};
 
     ghost Value = { Core };
 
@@ -35,7 +33,7 @@ impl Model for HeldCore {
 
 impl HeldCore {
     ghost use Rattle.std.specs.Borrow.{sem};
-    ghost use Rattle.kb_core.specs.HeldCoreLoan.{LendsScopes};
+    ghost use Rattle.kb_registry.specs.HeldCoreLoan.{LendsScopes};
 
     /// Holds a core. It takes no memory.
     pub fn new(core: Core) -> HeldCore
@@ -51,16 +49,15 @@ impl HeldCore {
         self.core.as_ref().unwrap()
     }
 
-    /// Runs a native command with arguments that fit it, as `plain` does. It costs 1, or the core stays
-    /// as it was with `NoMemory`.
-    pub fn run(&mut self, native: Native, args: Args) -> Result<u32, NoMemory>
-        requires { IsTrue (fits (parameters_of native) args) }
-        ensures ok { OnOk result (self.new ≡ core_after native args self.old) }
+    /// Runs a host's command with arguments that fit its native. It costs at most the native's budget, in
+    /// instructions, or the core stays as it was with `NoMemory`.
+    pub fn run<C: HostCommand>(&mut self, command: &C, args: Args) -> Result<u32, NoMemory>
+        requires fits { Fits (C.stands_for command.now) args }
+        ensures ok { OnOk result (self.new ≡ core_after (C.stands_for command.now) args self.old) }
         ensures err { OnErr result (self.new ≡ self.old) }
-        ensures refused { OnErr result (MayLackMemory native args self.old.scopes) }
-        ensures cost { IfOk result (λ cost. cost ≡ 1) }
+        ensures cost { IfOk result (λ cost. cost ≤ budget_of (C.stands_for command.now)) }
     {
-        let Ran { core, cost } = plain(native, self.core.take().unwrap(), args);
+        let Ran { core, cost } = command.call(self.core.take().unwrap(), args);
         self.core = Some(core);
         cost
     }

@@ -1,0 +1,101 @@
+//! What a host does with a session, over any commands: all but the closures themselves.
+use kb_bindings::{Inputs, LoadFault};
+use kb_context::{Failure, NoMemory};
+use kb_keys::Keystroke;
+use kb_registry::{HostCommand, Ticket};
+use kb_session::{Session, SessionFault};
+use kb_stream::write_whole;
+use kb_trace::Event;
+use std::alloc::Global;
+use std::io;
+
+/// Why the host stopped.
+#[derive(Debug, Drop)]
+pub enum HostFault {
+    /// The rules weren't loaded.
+    Load(LoadFault),
+    /// The session refused a closure, or was stopped.
+    Session(SessionFault),
+    /// Standard output took no more.
+    Write,
+    /// Memory was refused.
+    NoMemory,
+}
+
+impl From<NoMemory> for HostFault {
+    fn from(_: NoMemory) -> HostFault {
+        HostFault::NoMemory
+    }
+}
+
+impl From<io::Error> for HostFault {
+    fn from(_: io::Error) -> HostFault {
+        HostFault::Write
+    }
+}
+
+impl From<SessionFault> for HostFault {
+    fn from(fault: SessionFault) -> HostFault {
+        HostFault::Session(fault)
+    }
+}
+
+impl From<Failure<LoadFault>> for HostFault {
+    fn from(failure: Failure<LoadFault>) -> HostFault {
+        match failure {
+            Failure::Fault(fault) => HostFault::Load(fault),
+            Failure::NoMemory => HostFault::NoMemory,
+        }
+    }
+}
+
+/// Loads a session of these files and closures, uses it and prints its trace.
+pub fn run_session<R: Print, C: HostCommand>(
+    rt: &R,
+    alloc: Global,
+    inputs: Inputs<'_>,
+    natives: Vec<C>,
+) -> Result<(), HostFault> {
+    let mut session = Session::load(alloc, inputs, natives)?;
+    let used = use_and_print(rt, &mut session);
+    drop(session);
+    used
+}
+
+/// Uses a session and prints its trace.
+fn use_and_print<R: Print, C: HostCommand>(
+    rt: &R,
+    session: &mut Session<C>,
+) -> Result<(), HostFault> {
+    use_session(session)?;
+    match write_whole(&mut io::writer(rt), session.trace().text_from(0)) {
+        Ok(()) => Ok(()),
+        Err(_) => Err(HostFault::Write),
+    }
+}
+
+/// Presses keys, takes the closure of `type` back and gives it again.
+fn use_session<C: HostCommand>(session: &mut Session<C>) -> Result<(), SessionFault> {
+    press(session, "ctrl+h")?;
+    press(session, "ctrl+b")?;
+    let closure = session.dispose(Ticket(1))?;
+    press(session, "ctrl+h")?;
+    give(session, closure)?;
+    press(session, "ctrl+h")
+}
+
+/// Presses a key, where the text is one.
+fn press<C: HostCommand>(session: &mut Session<C>, key: &str) -> Result<(), SessionFault> {
+    if let Ok(key) = Keystroke::parse(key) {
+        session.handle(Event::Key(key))?;
+    }
+    Ok(())
+}
+
+/// Gives the session a closure. One that it refuses comes back, and is dropped here.
+fn give<C: HostCommand>(session: &mut Session<C>, closure: C) -> Result<(), SessionFault> {
+    match session.register(closure) {
+        Ok(_) => Ok(()),
+        Err((_, fault)) => Err(fault),
+    }
+}

@@ -1,0 +1,6 @@
+pub mod Fault
+pub mod Live
+pub mod Sound
+pub mod Place
+pub mod HeldCore
+pub mod HeldCoreLoan

@@ -1,0 +1,90 @@
+-- What contracts see of a registry: which natives are live and under which tickets, with no closure in it.
+use Rattle.std.specs.Prelude.{◌≡◌, ℕ, ◌+◌, ◌≤◌, Bool, List, [], ◌∷◌, ◌++◌, map, find, Option, Some, None}
+use Rattle.std.specs.Prelude.{option_map, Result, Ok, Err, if◌then◌else◌, nat_eq}
+use Rattle.std.specs.List.{list_any}
+use Rattle.kb_core.specs.declared.native.Native.{Native}
+use Rattle.kb_core.specs.contracts.native.NativePartialEq.TheImpl as equality
+use Rattle.kb_core.specs.Native.{named}
+use Rattle.kb_registry.specs.declared.fault.RegistryFault.{RegistryFault}
+use Rattle.kb_registry.specs.declared.fault.RegistryFault.TheVariants.{AlreadyExists, Exhausted}
+
+-- whether two natives are one, as `==` finds it
+abbrev pub same_native : Native → Native → Bool
+same_native = (equality.ghosts).eq
+
+-- a live closure: the native that it stands for, and its ticket, which is the number of its registration
+pub record Registered : Type 0 where
+  pub native : Native
+  pub ticket : ℕ
+
+-- how many registrations may be made, how many were made, and what is live, in the order of registration
+pub record Live : Type 0 where
+  pub limit : ℕ
+  pub made : ℕ
+  pub commands : List Registered
+
+-- a registry in which nothing was registered yet
+abbrev pub fresh : ℕ → Live
+fresh limit = record { limit = limit; made = 0; commands = [] }
+
+abbrev pub natives_of : List Registered → List Native
+natives_of commands = map (λ c. c.native) commands
+
+-- whether a closure is live for the native
+abbrev pub is_live : Native → Live → Bool
+is_live native live = list_any (same_native native) (natives_of live.commands)
+
+-- the native, where there is one and it is live
+abbrev pub where_live : Option Native → Live → Option Native
+where_live None live = None
+where_live (Some native) live = if is_live native live then Some native else None
+
+-- the native that has this identifier, where it is live
+abbrev pub live_native : List ℕ → Live → Option Native
+live_native identifier live = where_live (named identifier) live
+
+-- why no closure can be registered for the native
+abbrev pub registration_fault : Native → Live → Option RegistryFault
+registration_fault native live =
+    if is_live native live then Some AlreadyExists
+    else if nat_eq live.made live.limit then Some Exhausted else None
+
+-- with one registration more, whose ticket is its number
+abbrev pub registered : Native → Live → Live
+registered native live = record {
+  limit = live.limit;
+  made = live.made + 1;
+  commands = live.commands ++ record { native = native; ticket = live.made + 1 } ∷ [];
+}
+
+-- the native of the live closure that has the ticket
+abbrev pub holder_in : ℕ → List Registered → Option Native
+holder_in ticket commands = option_map (λ c. c.native) (find (λ c. nat_eq c.ticket ticket) commands)
+
+abbrev pub holder : ℕ → Live → Option Native
+holder ticket live = holder_in ticket live.commands
+
+-- each ticket stands once, and none is above the count of registrations
+abbrev pub AreNumbered : ℕ → List Registered → Type 0
+AreNumbered made [] = Unit {0}
+AreNumbered made (c ∷ cs) = (c.ticket ≤ made) × (holder_in c.ticket cs ≡ None) × AreNumbered made cs
+
+-- all but the one with the ticket
+abbrev pub without : ℕ → List Registered → List Registered
+without ticket [] = []
+without ticket (c ∷ cs) = if nat_eq c.ticket ticket then cs else c ∷ without ticket cs
+
+-- with the closure taken away that has the ticket; what was registered before still counts
+abbrev pub disposed : ℕ → Live → Live
+disposed ticket live = record live { commands = without ticket live.commands }
+
+-- what comes next, unless there is a fault
+abbrev pub unless_fault : Option RegistryFault → Result Live RegistryFault → Result Live RegistryFault
+unless_fault None next = next
+unless_fault (Some fault) next = Err fault
+
+-- with a registration for each of the natives in order, or the fault of the first that is refused
+abbrev pub all_registered : List Native → Live → Result Live RegistryFault
+all_registered [] live = Ok live
+all_registered (native ∷ natives) live =
+    unless_fault (registration_fault native live) (all_registered natives (registered native live))

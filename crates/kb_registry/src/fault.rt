@@ -1,0 +1,28 @@
+//! Why calls on a registry are refused.
+ghost use Rattle.std.specs.Prelude.{◌≡◌};
+ghost use Rattle.kb_registry.specs.Fault.{number_of};
+
+use thiserror::Error;
+
+/// Why a call on a registry was refused. The numbers are our decision.
+#[derive(Clone, Copy, Debug, PartialEq, Eq, Error)]
+pub enum RegistryFault {
+    /// A closure is live for the native already.
+    #[error("a closure is live for this native command already")]
+    AlreadyExists = 70,
+    /// As many registrations were made as may be.
+    #[error("no more registrations may be made")]
+    Exhausted = 71,
+    /// No live closure has the ticket.
+    #[error("no live closure has this ticket")]
+    StaleTicket = 72,
+}
+
+impl RegistryFault {
+    /// The fault's number, by which traces and messages name it.
+    pub fn number(self) -> u32
+        ensures { result ≡ number_of self }
+    {
+        self as u32
+    }
+}

@@ -1,0 +1,140 @@
+//! Closures in boxes that are registered, disposed and registered again.
+ghost use Rattle.kb_core.specs.Native.{Fits};
+ghost use Rattle.kb_core.specs.Ran.{Does};
+ghost use Rattle.kb_core.specs.declared.native.Native.TheVariants.{TypeText};
+
+use crate::command::{HostCommand, NativeCommand, Run};
+use crate::held_core::HeldCore;
+use crate::registry::{Registry, Ticket};
+use kb_context::{Failure, Layout, LayoutScope, NoMemory, Scopes, Seq, Text, TextMap};
+use kb_core::{Args, Core, Native, Ran, plain};
+use std::alloc::{AllocError, Global};
+use std::test::Fail;
+
+/// A core without text, over the one scope `window`.
+fn window(alloc: Global) -> Result<HeldCore, NoMemory> {
+    let mut scopes = Seq::new(alloc);
+    scopes.push(LayoutScope {
+        name: Text::from_str(alloc, "window")?,
+        parent: None,
+        keys: TextMap::new(alloc),
+    })?;
+    let focus = Text::from_str(alloc, "window")?;
+    match Scopes::new(alloc, Layout { scopes, focus }) {
+        Ok(scopes) => Ok(HeldCore::new(Core::new(alloc, scopes))),
+        Err(_) => Err(AllocError),
+    }
+}
+
+/// The ticket of the first closure on the shelf, 98 without one, or the number of the fault, and then it is
+/// put back at the end.
+fn register<C: HostCommand>(
+    registry: &mut Registry<C>,
+    shelf: &mut Vec<C>,
+) -> Result<u64, NoMemory> {
+    if shelf.is_empty() {
+        return Ok(98);
+    }
+    let (command, failure) = match registry.register(shelf.remove(0)) {
+        Ok(ticket) => return Ok(ticket.0),
+        Err(refused) => refused,
+    };
+    shelf.push(command)?;
+    match failure {
+        Failure::Fault(fault) => Ok(u64::from(fault.number())),
+        Failure::NoMemory => Ok(5),
+    }
+}
+
+/// 0 where the closure with the ticket is put back on the shelf, or the number of the fault.
+fn dispose<C: HostCommand>(
+    registry: &mut Registry<C>,
+    shelf: &mut Vec<C>,
+    ticket: u64,
+) -> Result<u64, NoMemory> {
+    match registry.dispose(Ticket(ticket)) {
+        Ok(command) => {
+            shelf.push(command)?;
+            Ok(0)
+        }
+        Err(fault) => Ok(u64::from(fault.number())),
+    }
+}
+
+/// What a start of `type` costs, 0 where it isn't live, and 5 where the closure answers `NoMemory`.
+fn start<C: HostCommand>(
+    alloc: Global,
+    registry: &Registry<C>,
+    core: &mut HeldCore,
+) -> Result<u64, NoMemory> {
+    let Some(command) = registry.live_command("type") else {
+        return Ok(0);
+    };
+    let Some(args) = command.native().read_args(alloc, None)? else {
+        return Ok(0);
+    };
+    match core.run(command, args) {
+        Ok(cost) => Ok(u64::from(cost)),
+        Err(_) => Ok(5),
+    }
+}
+
+/// What each step answers, where three registrations may be made: `+` registers, `t` starts `type`, and a
+/// digit disposes of its ticket.
+fn told<C: HostCommand>(alloc: Global, mut shelf: Vec<C>, steps: &str) -> Result<String, NoMemory> {
+    let mut core = window(alloc)?;
+    let mut registry = Registry::new(alloc, 3)?;
+    let mut said = String::new(alloc);
+    for step in steps.bytes() {
+        let answer = match step {
+            b'+' => register(&mut registry, &mut shelf)?,
+            b't' => start(alloc, &registry, &mut core)?,
+            b'1' => dispose(&mut registry, &mut shelf, 1)?,
+            b'2' => dispose(&mut registry, &mut shelf, 2)?,
+            _ => dispose(&mut registry, &mut shelf, 3)?,
+        };
+        write!(said, " {answer}")?;
+    }
+    Ok(said)
+}
+
+#[test]
+fn closures_come_back_as_they_were(rt: HostRuntime) -> Result<(), Fail> {
+    let alloc = rt.alloc();
+    let whole: Run = Box::new(
+        alloc,
+        |core: Core, args: Args| -> Ran
+            requires { Fits TypeText args }
+            ensures { Does TypeText core args result }
+        {
+            let Ran { core, cost } = plain(Native::TypeText, core, args);
+            let cost = match cost {
+                Ok(_) => Ok(1_001),
+                Err(refused) => Err(refused),
+            };
+            Ran { core, cost }
+        },
+    )?;
+    let refused: Run = Box::new(
+        alloc,
+        |core: Core, args: Args| -> Ran
+            requires { Fits TypeText args }
+            ensures { Does TypeText core args result }
+        {
+            drop(args);
+            Ran {
+                core,
+                cost: Err(AllocError),
+            }
+        },
+    )?;
+    let mut shelf: Vec<NativeCommand> = Vec::new(alloc);
+    shelf.push(NativeCommand::new(Native::TypeText, whole))?;
+    shelf.push(NativeCommand::new(Native::TypeText, refused))?;
+    let said = told(alloc, shelf, "t+t+11+t+12+t3+t")?;
+    assert_eq!(rt;
+        said.as_str(),
+        " 0 1 1001 70 0 72 2 5 70 72 0 3 1001 0 71 0"
+    );
+    Ok(())
+}

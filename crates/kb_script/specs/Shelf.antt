@@ -1,0 +1,74 @@
+-- A session beside a shelf, which is the closures that the host has left, in order, seen as the natives that
+-- they stand for, and what a line of a script does to both.
+use Rattle.std.specs.Prelude.{◌≡◌, Bool, true, false, List, [], ◌∷◌, ◌++◌, if◌then◌else◌}
+use Rattle.std.specs.List.{list_any}
+use Rattle.std.specs.List.Sorted.{IsPermutation}
+use Rattle.kb_core.specs.declared.native.Native.{Native}
+use Rattle.kb_registry.specs.Live.{same_native}
+use Rattle.kb_session.specs.Session as session
+use Rattle.kb_session.specs.State.{State, Told, happens, register, dispose, Answered, ticket, gave, refused}
+use Rattle.kb_session.specs.State.{Stepped, step}
+use Rattle.kb_stream.specs.Fold.{Out, Traced, after, nothing}
+use Rattle.kb_trace.specs.declared.event.Event.TheVariants as event
+
+pub record Stand : Type 0 where
+  pub state : State
+  pub shelf : List Native
+
+abbrev pub stand : State → List Native → Stand
+stand state shelf = record { state = state; shelf = shelf }
+
+-- a session's state and trace, beside a shelf
+abbrev pub beside : Traced State → List Native → Traced Stand
+beside seen shelf = record { state = stand seen.state shelf; trace = seen.trace }
+
+-- what a line says: what the session is told, or that the first closure for a native is taken off the shelf
+-- and registered
+pub data Said : Type 0 where
+  tells : Told → Said
+  takes : Native → Said
+
+abbrev pub on_shelf : Native → List Native → Bool
+on_shelf native shelf = list_any (same_native native) shelf
+
+-- the shelf without its first closure for a native
+abbrev pub without_first : Native → List Native → List Native
+without_first native [] = []
+without_first native (first ∷ rest) =
+    if same_native native first then rest else first ∷ without_first native rest
+
+-- what the session is told: a native for which no closure is left is told as that
+abbrev pub told_by : Said → List Native → Told
+told_by (tells told) shelf = told
+told_by (takes native) shelf = if on_shelf native shelf then register native else happens event.NoClosure
+
+-- the shelf by what the session was told and answered: a closure that is refused and one that is given back
+-- go to its end
+abbrev pub shelf_after : Told → Answered → List Native → List Native
+shelf_after (register native) (ticket number) shelf = without_first native shelf
+shelf_after (register native) (refused r) shelf = without_first native shelf ++ native ∷ []
+shelf_after (dispose number) (gave native) shelf = shelf ++ native ∷ []
+shelf_after told answer shelf = shelf
+
+abbrev pub moved : Told → Stepped → List Native → Out Stand
+moved told p shelf = record { state = stand p.state (shelf_after told p.answer shelf); lines = p.lines }
+
+abbrev pub move_unless : Bool → Said → Stand → Out Stand
+move_unless true said s = nothing s
+move_unless false said s =
+    moved (told_by said s.shelf) (step (told_by said s.shelf) s.state) s.shelf
+
+-- the step of a script; a session that was stopped stays as it is, and so does the shelf
+abbrev pub move : Said → Stand → Out Stand
+move said s = move_unless s.state.stopped said s
+
+-- memory was refused: the session is as it says then, and no closure of the shelf is lost
+pub record Halts (old new : Stand) : Type 0 where
+  pub session : session.Halts old.state new.state
+  pub shelf : IsPermutation old.shelf new.shelf
+
+-- ---- for private functions
+
+-- a session that was running and the shelf did what a line says
+abbrev pub Obeys : Said → Traced Stand → Traced Stand → Type 0
+Obeys said old new = new ≡ after (move said old.state) old

@@ -1,0 +1,159 @@
+//! `runCommands`, the command that runs a list of commands. VS Code documents a command of this name, which
+//! takes `commands`; how long the list may be, and what a list with another element does, is our decision.
+ghost use Rattle.std.specs.Prelude.{◌≡◌, IfOk, OnErr, map, option_map};
+ghost use Rattle.serde_json.specs.View.{view, items_view};
+ghost use Rattle.kb_manifest.specs.Parts.{each, listed};
+ghost use Rattle.kb_session.specs.RunCommands.{planned, planned_for, planned_in, few, elements_given};
+ghost use Rattle.kb_session.specs.RunCommands.{plan_of};
+ghost use Rattle.kb_session.specs.Session.{Begins};
+ghost use Rattle.kb_session.specs.Start.{started, behind, run_one, run_all, run_plan};
+
+use crate::start::{Finish, start_native};
+use kb_context::NoMemory;
+use kb_registry::{HeldCore, HostCommand, Registry};
+use kb_stream::Lines;
+use kb_trace::lines;
+use serde_json::Value;
+use std::alloc::Global;
+
+/// The most elements of a list (our decision).
+const ELEMENT_LIMIT: usize = 32;
+
+/// A command of a list, with what is given with it, lent from the JSON that they stand in.
+#[derive(Clone, Copy, Debug)]
+pub struct Step<'j> {
+    pub command: &'j str,
+    pub given: Option<&'j Value>,
+}
+
+/// Starts the commands of the list that `runCommands` is given, in order, up to the first that isn't found or
+/// whose arguments don't fit, and adds their lines. The list is read before any of them starts: where it has
+/// another shape, none does. Where memory is refused, the old lines still come first.
+#[tactic(auto, using(crate::proofs::Undoing::undoing))]
+pub(crate) fn start_list<C: HostCommand>(
+    alloc: Global,
+    given: Option<&Value>,
+    registry: &Registry<C>,
+    core: &mut HeldCore,
+    trace: &mut Lines,
+) -> Result<Finish, NoMemory>
+    ensures ok { let given = option_map (λ v. view v.now) given.entry in
+        IfOk result (λ finish. started core.new trace.new finish
+        ≡ behind trace.old (run_plan (plan_of given) registry.now core.old)) }
+    ensures err { OnErr result (Begins trace.old trace.new) }
+{
+    let Some(steps) = read_steps(alloc, given)? else {
+        lines::bad_arguments_line(trace, "runCommands")?;
+        return Ok(Finish::BadArguments);
+    };
+    start_steps(alloc, steps.as_slice(), registry, core, trace)
+}
+
+/// Starts the commands in order, up to the first that doesn't run.
+#[tactic(auto, using(crate::proofs::Undoing::undoing_all))]
+fn start_steps<C: HostCommand>(
+    alloc: Global,
+    steps: &[Step<'_>],
+    registry: &Registry<C>,
+    core: &mut HeldCore,
+    trace: &mut Lines,
+) -> Result<Finish, NoMemory>
+    ensures ok { IfOk result (λ finish. started core.new trace.new finish
+        ≡ behind trace.old (run_all (map planned steps.now) registry.now core.old)) }
+    ensures err { OnErr result (Begins trace.old trace.new) }
+{
+    for step in steps {
+        match start_step(alloc, step, registry, core, trace)? {
+            Finish::Done => {}
+            broken => return Ok(broken),
+        }
+    }
+    Ok(Finish::Done)
+}
+
+/// Starts one command of a list, behind a line of its own.
+#[tactic(auto, using(crate::proofs::Undoing::undoing))]
+fn start_step<C: HostCommand>(
+    alloc: Global,
+    step: &Step<'_>,
+    registry: &Registry<C>,
+    core: &mut HeldCore,
+    trace: &mut Lines,
+) -> Result<Finish, NoMemory>
+    ensures ok { IfOk result (λ finish. started core.new trace.new finish
+        ≡ behind trace.old (run_one (planned step.now) registry.now core.old)) }
+    ensures err { OnErr result (Begins trace.old trace.new) }
+{
+    lines::run_line(trace, step.command)?;
+    start_native(alloc, step.command, step.given, registry, core, trace)
+}
+
+/// The commands of the list that is given, or `None` where that is no object with a list `commands` of at
+/// most 32 elements, or an element is neither a command's name nor an object with a text `command`, or names
+/// `runCommands` (our decisions).
+fn read_steps(alloc: Global, given: Option<&Value>) -> Result<Option<Vec<Step<'_>>>, NoMemory>
+    ensures { let given = option_map (λ v. view v.now) given.entry in
+        IfOk result (λ steps. option_map (λ steps. map planned steps.items) steps ≡ plan_of given) }
+{
+    match elements_in(given) {
+        Some(elements) => read_elements(alloc, elements),
+        None => Ok(None),
+    }
+}
+
+/// The elements of the list that is given, if it is short enough. It takes no memory.
+fn elements_in(given: Option<&Value>) -> Option<&[Value]>
+    ensures { let given = option_map (λ v. view v.now) given.entry in
+        option_map (λ elements. listed (items_view elements.now)) result ≡ elements_given given }
+{
+    few(given?.get("commands")?.as_array()?)
+}
+
+/// These elements, if they are at most 32. It takes no memory.
+#[tactic(auto, using(crate::proofs::PlanLemmas::as_many))]
+fn few(elements: &[Value]) -> Option<&[Value]>
+    ensures { option_map (λ elements. listed (items_view elements.now)) result
+        ≡ few (listed (items_view elements.now)) }
+{
+    if elements.len() > ELEMENT_LIMIT {
+        return None;
+    }
+    Some(elements)
+}
+
+/// The commands that the elements are, if each is one.
+fn read_elements(alloc: Global, elements: &[Value]) -> Result<Option<Vec<Step<'_>>>, NoMemory>
+    ensures { IfOk result (λ steps. option_map (λ steps. map planned steps.items) steps
+        ≡ each planned_in (listed (items_view elements.now))) }
+{
+    let mut steps = Vec::with_capacity(alloc, elements.len())?;
+    for element in elements {
+        match read_step(element) {
+            Some(step) => steps.push(step)?,
+            None => return Ok(None),
+        }
+    }
+    Ok(Some(steps))
+}
+
+/// The command that an element is. It takes no memory.
+fn read_step(element: &Value) -> Option<Step<'_>>
+    ensures { option_map planned result ≡ planned_in (view element.now) }
+{
+    match element {
+        Value::String(command) => step_for(command.as_str(), None),
+        Value::Object(_) => step_for(element.get("command")?.as_str()?, element.get("args")),
+        _ => None,
+    }
+}
+
+/// A step of any command but `runCommands` itself. It takes no memory.
+fn step_for<'j>(command: &'j str, given: Option<&'j Value>) -> Option<Step<'j>>
+    ensures { option_map planned result
+        ≡ planned_for (option_map (λ v. view v.now) given.entry) command.now }
+{
+    if command == "runCommands" {
+        return None;
+    }
+    Some(Step { command, given })
+}

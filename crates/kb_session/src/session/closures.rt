@@ -1,0 +1,155 @@
+//! The host's closures: their registration at the load and while a session runs, and its end.
+ghost use Rattle.std.specs.Prelude.{◌≡◌, ◌<◌, false, [], ◌∷◌, ◌++◌, map, Some, None};
+ghost use Rattle.std.specs.Prelude.{IfOk, IfErr, OnOk, OnErr};
+ghost use Rattle.kb_context.specs.Failure.{Gives};
+ghost use Rattle.kb_context.specs.Refusal.{refused_for};
+ghost use Rattle.kb_registry.specs.Fault.{number_of};
+ghost use Rattle.kb_registry.specs.Live.{registration_fault, holder};
+ghost use Rattle.kb_session.specs.Session.{Answers, RefusesAt, natives_held, load_failure};
+ghost use Rattle.kb_session.specs.State.{register, dispose, ticket, gave};
+ghost use Rattle.kb_trace.specs.Lines as line;
+
+use crate::fault::SessionFault;
+use crate::session::Session;
+use kb_bindings::{LoadFault, LoadFile};
+use kb_context::{Failure, NoMemory, Refusal};
+use kb_core::Native;
+use kb_registry::{HostCommand, Registry, RegistryFault, Ticket};
+use kb_trace::lines;
+use std::alloc::Global;
+
+/// How many closures may be registered in a session's life (our decision).
+const REGISTRATION_LIMIT: u64 = 1_000_000;
+
+impl<C: HostCommand> Session<C> {
+    /// Registers a closure, which is live from then on, and gives its ticket. A chord that is open stays (our
+    /// decision).
+    ///
+    /// Errors, with the closure: `Refused` where a closure for its native is live (70), or 1,000,000 were
+    /// registered (71); `Stopped` where the session was stopped before; `NoMemory` where memory was refused:
+    /// the session is stopped and else as before.
+    pub fn register(&mut self, command: C) -> Result<Ticket, (C, SessionFault)>
+        ensures ok { IfOk result (λ made.
+            Answers (register (C.stands_for command)) self.old (ticket made.0) self.new) }
+        ensures err { IfErr result (λ e. RefusesAt e.1 (register (C.stands_for command)) self.old self.new) }
+        ensures back { IfErr result (λ e. e.0 ≡ command) }
+    {
+        if self.stopped {
+            return Err((command, SessionFault::Stopped));
+        }
+        match self.registry.registration_fault(command.native()) {
+            None => self.admit(command),
+            Some(fault) => match self.note_refusal(fault) {
+                Ok(refusal) => Err((command, SessionFault::Refused(refusal))),
+                Err(_) => Err((command, self.halted())),
+            },
+        }
+    }
+
+    /// Ends the registration that has a ticket, and gives its closure back. A chord that is open stays (our
+    /// decision).
+    ///
+    /// Errors: `Refused` where no closure that is live has the ticket (72); `Stopped` where the session was
+    /// stopped before; `NoMemory` where memory was refused: the session is stopped and else as before.
+    pub fn dispose(&mut self, ticket: Ticket) -> Result<C, SessionFault>
+        ensures ok { IfOk result (λ command.
+            Answers (dispose ticket.0) self.old (gave (C.stands_for command)) self.new) }
+        ensures err { IfErr result (λ fault. RefusesAt fault (dispose ticket.0) self.old self.new) }
+    {
+        if self.stopped {
+            return Err(SessionFault::Stopped);
+        }
+        match self.registry.holder(ticket) {
+            Some(native) => self.release(native, ticket),
+            None => match self.note_refusal(RegistryFault::StaleTicket) {
+                Ok(refusal) => Err(SessionFault::Refused(refusal)),
+                Err(_) => Err(self.halted()),
+            },
+        }
+    }
+
+    /// Registers a closure that nothing forbids. The line comes first, since it is taken back where the
+    /// closure can't be held.
+    #[tactic(auto, using(crate::proofs::Undoing::undoing))]
+    fn admit(&mut self, command: C) -> Result<Ticket, (C, SessionFault)>
+        requires running { self.old.state.stopped ≡ false }
+        requires allowed { registration_fault (C.stands_for command) self.old.state.live ≡ None }
+        requires room { self.old.state.live.made < self.old.state.live.limit }
+        ensures ok { IfOk result (λ made.
+            Answers (register (C.stands_for command)) self.old (ticket made.0) self.new) }
+        ensures err { IfErr result (λ e. RefusesAt e.1 (register (C.stands_for command)) self.old self.new) }
+        ensures back { IfErr result (λ e. e.0 ≡ command) }
+    {
+        let mark = self.trace.len();
+        let name = command.native().name();
+        let number = self.registry.next_ticket().0;
+        if lines::registered_line(&mut self.trace, name, number).is_err() {
+            return Err((command, self.halted()));
+        }
+        match self.registry.register(command) {
+            Ok(ticket) => Ok(ticket),
+            Err((command, _)) => Err((command, self.halted_at(mark))),
+        }
+    }
+
+    /// Takes the closure of a ticket out. The line comes first, since it takes memory and the rest doesn't.
+    fn release(&mut self, native: Native, ticket: Ticket) -> Result<C, SessionFault>
+        requires running { self.old.state.stopped ≡ false }
+        requires held { holder ticket.0 self.old.state.live ≡ Some native }
+        ensures ok { IfOk result (λ command.
+            Answers (dispose ticket.0) self.old (gave (C.stands_for command)) self.new) }
+        ensures err { IfErr result (λ fault. RefusesAt fault (dispose ticket.0) self.old self.new) }
+    {
+        if lines::disposed_line(&mut self.trace, native.name(), ticket.0).is_err() {
+            return Err(self.halted());
+        }
+        match self.registry.dispose(ticket) {
+            Ok(command) => Ok(command),
+            Err(_) => unreachable!(),
+        }
+    }
+
+    /// Notes the line of a refusal, and gives the refusal.
+    fn note_refusal(&mut self, fault: RegistryFault) -> Result<Refusal, NoMemory>
+        ensures refusal { IfOk result (λ refusal. refusal ≡ refused_for (number_of fault)) }
+        ensures ok { OnOk result (self.new ≡ record self.old {
+          trace = self.old.trace ++ line.refused_line (refused_for (number_of fault)) ∷ [];
+        }) }
+        ensures err { OnErr result (self.new ≡ self.old) }
+    {
+        let refusal = Refusal::of(fault.number());
+        lines::refused_line(&mut self.trace, &refusal)?;
+        Ok(refusal)
+    }
+}
+
+/// A registry in which these closures are registered in order. Where one is refused, all are dropped.
+#[tactic(auto, using(crate::proofs::LoadLemmas::registering))]
+pub(crate) fn register_all<C: HostCommand>(
+    alloc: Global,
+    natives: Vec<C>,
+) -> Result<Registry<C>, Failure<LoadFault>>
+    ensures { Gives (λ live. live) result (natives_held (map C.stands_for natives.items)) }
+{
+    let mut registry = Registry::new(alloc, REGISTRATION_LIMIT)?;
+    for command in natives {
+        match registry.register(command) {
+            Ok(_) => {}
+            Err((_, failure)) => return Err(load_failure(failure)),
+        }
+    }
+    Ok(registry)
+}
+
+/// Why a load failed whose closures could not all be registered. It takes no memory.
+fn load_failure(failure: Failure<RegistryFault>) -> Failure<LoadFault>
+    ensures { result ≡ load_failure failure }
+{
+    match failure {
+        Failure::NoMemory => Failure::NoMemory,
+        Failure::Fault(fault) => Failure::Fault(LoadFault {
+            file: LoadFile::Natives,
+            refusal: Refusal::of(fault.number()),
+        }),
+    }
+}
