@@ -1,0 +1,23 @@
+-- The callees of a handler: what the calls name that are at reachable places. Code only ever goes on at a later place, so
+-- one look at each instruction in order says which places are reached.
+use Rattle.std.specs.Prelude.{ℕ, suc, Bool, nat_lt, ◌==◌, ◌||◌, List, [], ◌∷◌, ◌++◌, length, if◌then◌else◌}
+use Rattle.kb_code.specs.declared.instr.Instr.{Instr}
+use Rattle.kb_code.specs.declared.instr.Instr.TheVariants as i
+use Rattle.kb_code.specs.Exits.{exits_of, is_exit}
+use Rattle.kb_code.specs.Handler.{HandlerData}
+
+-- the index that an instruction calls, if it is one of so many
+abbrev pub called : ℕ → Instr → List ℕ
+called calls (i.Call n) = if nat_lt n calls then n ∷ [] else []
+called calls _ = []
+
+-- the callees from a place on, by the places that are reached before it
+abbrev pub callees_from : ℕ → ℕ → (ℕ → Bool) → List Instr → List ℕ
+callees_from calls place reached [] = []
+callees_from calls place reached (instr ∷ code) =
+    if reached place then called calls instr ++ callees_from calls (suc place) (λ q. reached q || is_exit (exits_of (suc place) instr) q) code
+    else callees_from calls (suc place) reached code
+
+-- the indexes of all callees in order of place; the first place is reached
+unfoldable pub callees_of : HandlerData → List ℕ
+callees_of h = callees_from (length h.calls) 0 (λ q. q == 0) h.code

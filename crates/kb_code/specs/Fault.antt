@@ -1,0 +1,9 @@
+-- The number of each fault of code.
+use Rattle.std.specs.Prelude.{ℕ}
+use Rattle.kb_code.specs.declared.fault.CodeFault.{CodeFault}
+use Rattle.kb_code.specs.declared.fault.CodeFault.TheVariants.{BadLength, BadOpcode, BadOperand}
+
+abbrev pub number_of : CodeFault → ℕ
+number_of BadLength = 50
+number_of (BadOpcode place) = 51
+number_of (BadOperand place) = 52

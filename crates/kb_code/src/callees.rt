@@ -1,0 +1,80 @@
+//! The callees of code.
+ghost use Rattle.std.specs.Prelude.{◌≡◌, ◌==◌, ◌||◌, ◌<◌, ◌++◌, ℕ, false, length, get_or, IfOk, OnOk};
+ghost use Rattle.kb_code.specs.Callees.{called, callees_from};
+ghost use Rattle.kb_code.specs.Exits.{is_exit};
+
+use crate::exits::Exits;
+use crate::instr::Instr;
+use kb_context::{NoMemory, Seq};
+use std::alloc::Global;
+
+/// The indexes that calls at reachable places name, of so many calls, in order of place.
+pub(crate) fn callees_from(
+    alloc: Global,
+    calls: usize,
+    code: &[Instr],
+) -> Result<Seq<u16>, NoMemory>
+    ensures { IfOk result (λ callees. callees ≡ callees_from calls 0 (λ q. q == 0) code.now) }
+{
+    let mut reached = first_alone(alloc, code.len())?;
+    let mut callees = Vec::new(alloc);
+    for place in 0..code.len() {
+        if !reached[place] {
+            continue;
+        }
+        let instr = code[place];
+        add_called(calls, instr, &mut callees)?;
+        reach_exits(&mut reached, Exits::of(instr, place + 1));
+    }
+    Ok(Seq::from_vec(callees))
+}
+
+/// Adds the index that an instruction calls, if it is one of so many.
+fn add_called(calls: usize, instr: Instr, callees: &mut Vec<u16>) -> Result<(), NoMemory>
+    ensures { OnOk result (callees.new.items ≡ callees.old.items ++ called calls instr) }
+{
+    match instr {
+        Instr::Call(index) if usize::from(index) < calls => callees.push(index)?,
+        _ => {}
+    }
+    Ok(())
+}
+
+/// For each place of code whether it is reached, where the first one alone is.
+fn first_alone(alloc: Global, size: usize) -> Result<Vec<bool>, NoMemory>
+    ensures size { IfOk result (λ reached. length reached.items ≡ size) }
+    ensures first { IfOk result (λ reached. (q : ℕ) → q < size → get_or reached.items q false ≡ (q == 0)) }
+{
+    let mut reached = Vec::with_capacity(alloc, size)?;
+    for place in 0..size {
+        reached.push(place == 0)?;
+    }
+    Ok(reached)
+}
+
+/// The exits are reached too.
+fn reach_exits(reached: &mut Vec<bool>, exits: Exits)
+    ensures size { length reached.new.items ≡ length reached.old.items }
+    ensures reached { (q : ℕ) → q < length reached.old.items →
+        get_or reached.new.items q false ≡ (get_or reached.old.items q false || is_exit exits q) }
+{
+    match exits {
+        Exits::Stop => {}
+        Exits::One(next) => reach(reached, next),
+        Exits::Two(next, target) => {
+            reach(reached, next);
+            reach(reached, target);
+        }
+    }
+}
+
+/// The place is reached too, if it is one of the code.
+fn reach(reached: &mut Vec<bool>, place: usize)
+    ensures size { length reached.new.items ≡ length reached.old.items }
+    ensures reached { (q : ℕ) → q < length reached.old.items →
+        get_or reached.new.items q false ≡ (get_or reached.old.items q false || (q == place)) }
+{
+    if place < reached.len() {
+        reached[place] = true;
+    }
+}

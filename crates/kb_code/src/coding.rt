@@ -1,0 +1,96 @@
+//! Code as bytes.
+ghost use Rattle.std.specs.Prelude.{◌≡◌, ◌==◌, ◌%◌, ◌++◌, length, flat_map, IfOk, IfErr, Ok};
+ghost use Rattle.std.specs.Result.{result_err};
+ghost use Rattle.std.specs.Int.{w16, from_be_bytes};
+ghost use Rattle.kb_context.specs.Failure.{Gives, IsRefusalOrMemory};
+ghost use Rattle.kb_context.specs.Reading.{seen};
+ghost use Rattle.kb_code.specs.Coding.{bytes_of, code_from, code_of, failure_of, instr_at};
+
+use crate::fault::CodeFault;
+use crate::instr::Instr;
+use kb_context::{Failure, NoMemory, Seq};
+use std::alloc::Global;
+
+/// How many bytes an instruction has: its opcode, and its operand in two, the high one first.
+const INSTR_BYTES: usize = 3;
+
+/// The code that bytes say (our decision). `BadLength` (50) comes before all else; then the first place that
+/// says no instruction, with `BadOpcode` (51) or `BadOperand` (52). What is read of the bytes of code is
+/// that code, and has no other bytes. Refused memory is answered only where there is no fault.
+#[tactic(auto, unfolding(crate::specs::Coding::code_of))]
+pub fn decode(alloc: Global, bytes: &[u8]) -> Result<Seq<Instr>, Failure<CodeFault>>
+    ensures code { Gives (λ code. code) result (code_of bytes.now) }
+    ensures memory { IfErr result (IsRefusalOrMemory (result_err (code_of bytes.now))) }
+    ensures written_again { IfOk result (λ code. bytes.now ≡ flat_map bytes_of code) }
+{
+    if bytes.len() % INSTR_BYTES != 0 {
+        return Err(Failure::Fault(CodeFault::BadLength));
+    }
+    match code_from(alloc, bytes) {
+        Ok(code) => Ok(code),
+        Err(Failure::Fault(fault)) => Err(Failure::Fault(fault)),
+        Err(Failure::NoMemory) => Err(failure_in(bytes)),
+    }
+}
+
+/// Why there is no code where memory is refused: the first fault, or want of memory where there is none.
+fn failure_in(bytes: &[u8]) -> Failure<CodeFault>
+    ensures { result ≡ failure_of (code_from 0 bytes.now) }
+{
+    let mut place = 0;
+    let mut left = bytes;
+    while let [opcode, high, low, rest @ ..] = left {
+        let operand = u16::from_be_bytes([*high, *low]);
+        match instr_at(place, *opcode, operand) {
+            Ok(_instr) => place += 1,
+            Err(fault) => return Failure::Fault(fault),
+        }
+        left = rest;
+    }
+    Failure::NoMemory
+}
+
+/// The code that bytes say which are a whole number of instructions.
+fn code_from(alloc: Global, bytes: &[u8]) -> Result<Seq<Instr>, Failure<CodeFault>>
+    ensures { Gives (λ code. code) result (code_from 0 bytes.now) }
+{
+    let mut code = Vec::with_capacity(alloc, bytes.len() / INSTR_BYTES)?;
+    let mut left = bytes;
+    while let [opcode, high, low, rest @ ..] = left {
+        let operand = u16::from_be_bytes([*high, *low]);
+        match instr_at(code.len(), *opcode, operand) {
+            Ok(instr) => code.push(instr)?,
+            Err(fault) => return Err(Failure::Fault(fault)),
+        }
+        left = rest;
+    }
+    Ok(Seq::from_vec(code))
+}
+
+/// The instruction at a place.
+#[tactic(auto, unfolding(crate::specs::Coding::instr_at))]
+fn instr_at(place: usize, opcode: u8, operand: u16) -> Result<Instr, CodeFault>
+    ensures { result ≡ instr_at place opcode operand }
+{
+    let Some(instr) = Instr::of(opcode, operand) else {
+        return Err(CodeFault::BadOpcode(place));
+    };
+    if instr.operand() != operand {
+        return Err(CodeFault::BadOperand(place));
+    }
+    Ok(instr)
+}
+
+/// The bytes of code, which `decode` reads as that code.
+#[tactic(auto, using(crate::proofs::Laws::all_read_again))]
+pub fn encode(alloc: Global, code: &[Instr]) -> Result<Seq<u8>, NoMemory>
+    ensures bytes { IfOk result (λ bytes. bytes ≡ flat_map bytes_of code.now) }
+    ensures read_again { IfOk result (λ bytes. code_of bytes ≡ Ok code.now) }
+{
+    let mut bytes = Vec::new(alloc);
+    for instr in code {
+        let [high, low] = instr.operand().to_be_bytes();
+        bytes.extend_from_slice([instr.opcode(), high, low].as_slice())?;
+    }
+    Ok(Seq::from_vec(bytes))
+}

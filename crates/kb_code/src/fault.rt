@@ -1,0 +1,32 @@
+//! Why bytes are no code.
+ghost use Rattle.std.specs.Prelude.{◌≡◌};
+ghost use Rattle.kb_code.specs.Fault.{number_of};
+
+use thiserror::Error;
+
+/// Why bytes are no code. Places count instructions from 0. The numbers are our decision.
+#[derive(Clone, Copy, Debug, PartialEq, Eq, Error)]
+pub enum CodeFault {
+    /// The bytes are no whole number of instructions, of three bytes each.
+    #[error("the code is no whole number of instructions")]
+    BadLength,
+    /// No instruction has the opcode at this place.
+    #[error("no instruction has the opcode at place {0}")]
+    BadOpcode(usize),
+    /// The instruction at this place may not have its operand.
+    #[error("the instruction at place {0} may not have its operand")]
+    BadOperand(usize),
+}
+
+impl CodeFault {
+    /// The fault's number, by which messages name it.
+    pub fn number(self) -> u32
+        ensures { result ≡ number_of self }
+    {
+        match self {
+            CodeFault::BadLength => 50,
+            CodeFault::BadOpcode(_) => 51,
+            CodeFault::BadOperand(_) => 52,
+        }
+    }
+}
