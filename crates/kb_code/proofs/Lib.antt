@@ -2,3 +2,4 @@ pub mod Reading
 pub mod Laws
 pub mod CalleesLemmas
 pub mod CodeRows
+pub mod ReachableLemmas

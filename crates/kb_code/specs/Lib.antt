@@ -4,3 +4,4 @@ pub mod Coding
 pub mod Exits
 pub mod Handler
 pub mod Callees
+pub mod Reachable

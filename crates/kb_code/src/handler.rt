@@ -1,7 +1,8 @@
 //! Commands in code.
-ghost use Rattle.std.specs.Prelude.{◌≡◌, ◌≤◌, IfOk};
+ghost use Rattle.std.specs.Prelude.{◌≡◌, ◌≤◌, length, IfOk};
 ghost use Rattle.kb_code.specs.Handler.{HandlerData};
 ghost use Rattle.kb_code.specs.Callees.{callees_of};
+ghost use Rattle.kb_code.specs.Reachable.{CalleesBelow};
 
 use crate::callees::callees_from;
 use crate::instr::Instr;
@@ -104,9 +105,10 @@ impl Handler {
 
     /// The callees: the indexes in the list of calls that the code names by a call at a place that is reached,
     /// one for each such call, in order of place. A call of an index that isn't in the list names none.
-    #[tactic(auto, unfolding(crate::specs::Callees::callees_of))]
+    #[tactic(auto, using(crate::proofs::ReachableLemmas::all_called), unfolding(crate::specs::Callees::callees_of))]
     pub fn callees(&self, alloc: Global) -> Result<Seq<u16>, NoMemory>
-        ensures { IfOk result (λ callees. callees ≡ callees_of self.now) }
+        ensures callees { IfOk result (λ callees. callees ≡ callees_of self.now) }
+        ensures each { CalleesBelow self.now (length self.now.code) (callees_of self.now) }
     {
         callees_from(alloc, self.calls().len(), self.code())
     }

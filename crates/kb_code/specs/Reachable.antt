@@ -1,0 +1,31 @@
+-- Which places of code are reached, and what is called there.
+use Rattle.std.specs.Prelude.{◌≡◌, ◌<◌, ℕ, suc, true, List, [], ◌∷◌, ◌++◌, length, Some, slice_get}
+use Rattle.kb_code.specs.declared.instr.Instr.{Instr}
+use Rattle.kb_code.specs.declared.instr.Instr.TheVariants.{Call}
+use Rattle.kb_code.specs.Exits.{exits_of, is_exit}
+use Rattle.kb_code.specs.Handler.{HandlerData}
+
+-- the instruction at a place leads to a later place of the code
+pub record Follows (code : List Instr) (p q : ℕ) : Type 0 where
+  pub instr : Instr
+  pub at : slice_get code p ≡ Some instr
+  pub exit : is_exit (exits_of (suc p) instr) q ≡ true
+  pub later : p < q
+  pub within : q < length code
+
+-- the first place is reached, and what follows a place that is reached
+pub data Reachable (code : List Instr) : ℕ → Type 0 where
+  first : 0 < length code → Reachable code 0
+  onward : {p q : ℕ} → Reachable code p → Follows code p q → Reachable code q
+
+-- a call at a place that is reached, of an index in the list of calls
+pub record Calls (h : HandlerData) (p n : ℕ) : Type 0 where
+  pub reached : Reachable h.code p
+  pub at : slice_get h.code p ≡ Some (Call n)
+  pub named : n < length h.calls
+
+-- what is called below a place, one index for each such call, in order of place
+pub data CalleesBelow (h : HandlerData) : ℕ → List ℕ → Type 0 where
+  none : CalleesBelow h 0 []
+  called : {p n : ℕ} {ns : List ℕ} → CalleesBelow h p ns → Calls h p n → CalleesBelow h (suc p) (ns ++ n ∷ [])
+  passed : {p : ℕ} {ns : List ℕ} → CalleesBelow h p ns → ((n : ℕ) → Calls h p n → ⊥) → CalleesBelow h (suc p) ns
