@@ -17,22 +17,27 @@ same_from : (calls place : ℕ) (f g : ℕ → Bool) (code : List Instr) →
     callees_from calls place f code ≡ callees_from calls place g code
 same_from calls place f g [] same = refl
 same_from calls place f g (x ∷ code) same =
-    ap (λ b. if b then called calls x ++ callees_from calls (suc place) (λ q. f q || is_exit (exits_of (suc place) x) q) code
+    ap (λ b. if b then called calls x ++ callees_from calls (suc place) (λ q. f q || is_exit (exits_of (suc
+    place) x) q) code
     else callees_from calls (suc place) f code) (same place (omega arith) (omega arith))
     ∙ by (g place)
     (same_from calls (suc place) _ _ code
-    (λ q from to. ap (λ b. b || is_exit (exits_of (suc place) x) q) (same q (omega (arith, from)) (omega (arith, to)))))
-    (same_from calls (suc place) f g code (λ q from to. same q (omega (arith, from)) (omega (arith, to)))) where
-      by : (b : Bool) →
-          callees_from calls (suc place) (λ q. f q || is_exit (exits_of (suc place) x) q) code
-          ≡ callees_from calls (suc place) (λ q. g q || is_exit (exits_of (suc place) x) q) code →
-          callees_from calls (suc place) f code ≡ callees_from calls (suc place) g code →
-          (if b then called calls x ++ callees_from calls (suc place) (λ q. f q || is_exit (exits_of (suc place) x) q) code
-          else callees_from calls (suc place) f code)
-          ≡ (if b then called calls x ++ callees_from calls (suc place) (λ q. g q || is_exit (exits_of (suc place) x) q) code
-          else callees_from calls (suc place) g code)
-      by true there here = ap (λ ns. called calls x ++ ns) there
-      by false there here = here
+    (λ q from to. ap (λ b. b || is_exit (exits_of (suc place) x) q) (same q (omega (arith, from)) (omega
+    (arith, to)))))
+    (same_from calls (suc place) f g code (λ q from to. same q (omega (arith, from)) (omega (arith, to))))
+  where
+    by : (b : Bool) →
+        callees_from calls (suc place) (λ q. f q || is_exit (exits_of (suc place) x) q) code
+        ≡ callees_from calls (suc place) (λ q. g q || is_exit (exits_of (suc place) x) q) code →
+        callees_from calls (suc place) f code ≡ callees_from calls (suc place) g code →
+        (if b then called calls x ++ callees_from calls (suc place) (λ q. f q || is_exit (exits_of (suc
+        place) x) q) code
+        else callees_from calls (suc place) f code)
+        ≡ (if b then called calls x ++ callees_from calls (suc place) (λ q. g q || is_exit (exits_of (suc
+        place) x) q) code
+        else callees_from calls (suc place) g code)
+    by true there here = ap (λ ns. called calls x ++ ns) there
+    by false there here = here
 
 when : {b : Bool} (x y : List ℕ) → b ≡ true → (if b then x else y) ≡ x
 when x y is = ap (λ (b : Bool). if b then x else y) is
@@ -80,7 +85,8 @@ looked calls place bs cs code done made exits within size here exits_are marks m
     ∙ ap (λ ns. called calls (instr_in code place) ++ ns)
     (same_from calls (suc place) _ (marked cs) (drop (suc place) code)
     (λ q from to. sym (marks q (omega (arith, to, size, within, length-drop (suc place) code))
-    ∙ ap (λ e. marked bs q || is_exit e q) (exits_are ∙ ap (λ n. exits_of n (instr_in code place)) (next place))))))
+    ∙ ap (λ e. marked bs q || is_exit e q) (exits_are ∙ ap (λ n. exits_of n (instr_in code place)) (next
+    place))))))
     ∙ sym (append_assoc done (called calls (instr_in code place)) _)
     ∙ ap (λ ns. ns ++ callees_from calls (suc place) (marked cs) (drop (suc place) code)) (sym made_is)
     ∙ ap (λ n. made ++ callees_from calls n (marked cs) (drop n code)) (sym (next place))

@@ -38,7 +38,8 @@ found_passes test (x ∷ xs) = by (test x) refl (found_passes test xs) where
 abbrev Says : ℕ → ℕ → Instr → Type 0
 Says opcode operand instr = (opcode_of instr ≡ opcode) × (operand_of instr ≡ operand)
 
-says : (place opcode operand : ℕ) (found : Option Instr) → IfSome found (λ x. (opcode_of x == opcode) ≡ true) →
+says : (place opcode operand : ℕ) (found : Option Instr) → IfSome found (λ x. (opcode_of x == opcode) ≡
+    true) →
     IfOk (with_operand place operand found) (Says opcode operand)
 says place opcode operand None passes = tt
 says place opcode operand (Some x) passes = by (operand_of x == operand) refl where
@@ -84,7 +85,8 @@ written_from (suc k) place (a ∷ b ∷ c ∷ bytes) size are =
 
       by : (instr : Result Instr CodeFault) → IfOk instr (Says a operand) →
           (rest : Result (List Instr) CodeFault) → IfOk rest (λ code. bytes ≡ flat_map bytes_of code) →
-          IfOk (instr >>= (λ x. seen (λ code. x ∷ code) rest)) (λ code. a ∷ b ∷ c ∷ bytes ≡ flat_map bytes_of code)
+          IfOk (instr >>= (λ x. seen (λ code. x ∷ code) rest)) (λ code. a ∷ b ∷ c ∷ bytes ≡ flat_map
+          bytes_of code)
       by (Ok x) is (Ok code) rest_is = three a b c bytes x code (are 1) (are 2) is rest_is
       by (Ok x) is (Err fault) rest_is = tt
       by (Err fault) is rest rest_is = tt
@@ -136,7 +138,8 @@ read_from : (place : ℕ) (code : List Instr) → list_all has_room code ≡ tru
     code_from place (flat_map bytes_of code) ≡ Ok code
 read_from place [] room = refl
 read_from place (x ∷ code) room =
-    ap (λ operand. instr_at place (opcode_of x) operand >>= behind) (from_be_bytes-to_be_bytes_2 (operand_of x) here)
+    ap (λ operand. instr_at place (opcode_of x) operand >>= behind) (from_be_bytes-to_be_bytes_2
+    (operand_of x) here)
     ∙ ap (λ instr. instr >>= behind) (read_itself place x)
     ∙ ap (seen (λ more. x ∷ more)) (read_from (suc place) code (and_right _ _ room)) where
       behind : Instr → Result (List Instr) CodeFault

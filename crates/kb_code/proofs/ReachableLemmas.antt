@@ -63,12 +63,20 @@ module _ (h : HandlerData) where
 
   -- at a place that is reached
   true_beyond : (p : ℕ) (reached : ℕ → Bool) (x : Instr) → IsTold p reached → slice_get code p ≡ Some x →
-      Reachable code p → (q : ℕ) → suc p ≤ q → q < length code → beyond p reached x q ≡ true → Reachable code q
+      Reachable code p → (q : ℕ) → suc p ≤ q → q < length code → beyond p reached x q ≡ true → Reachable
+      code q
   true_beyond p reached x is at here q from within told = by (reached q) refl told where
     by : (b : Bool) → reached q ≡ b → (b || is_exit (exits_of (suc p) x) q) ≡ true → Reachable code q
     by true old e = is.true_of q (omega (arith, from)) within old
     by false old e =
-        reach.onward here (record { instr = x; at = at; exit = e; later = omega (arith, from); within = within })
+        reach.onward here (record {
+          instr = x;
+          at = at;
+          exit = e;
+          later = omega (arith, from);
+          within =
+              within;
+        })
 
   told_beyond : (p : ℕ) (reached : ℕ → Bool) (x : Instr) → IsTold p reached → slice_get code p ≡ Some x →
       (q : ℕ) → suc p ≤ q → q < length code → Came code (suc p) q → beyond p reached x q ≡ true
@@ -76,11 +84,13 @@ module _ (h : HandlerData) where
       or_left _ _ (is.told q (omega (arith, from)) within (at_first e))
   told_beyond p reached x is at q from within (behind r below there follows) = by (nat_lt r p) refl where
     by : (b : Bool) → nat_lt r p ≡ b → beyond p reached x q ≡ true
-    by true lt = or_left _ _ (is.told q (omega (arith, from)) within (behind r (ltb-true r p lt) there follows))
+    by true lt = or_left _ _ (is.told q (omega (arith, from)) within (behind r (ltb-true r p lt) there
+        follows))
     by false ge =
         let same : r ≡ p = omega (arith, below, ltb-false r p ge) in
         let same_instr : follows.instr ≡ x = some_inj _ _ (sym follows.at ∙ ap (slice_get code) same ∙ at) in
-        or_right _ _ (sym (ap (λ y. is_exit y q) (ap (λ n. exits_of (suc n) follows.instr) same ∙ ap (exits_of (suc p)) same_instr)) ∙ follows.exit)
+        or_right _ _ (sym (ap (λ y. is_exit y q) (ap (λ n. exits_of (suc n) follows.instr) same ∙ ap
+        (exits_of (suc p)) same_instr)) ∙ follows.exit)
 
   -- at a place that isn't reached
   told_past : (p : ℕ) (reached : ℕ → Bool) → IsTold p reached → ¬ (Reachable code p) →
@@ -113,7 +123,11 @@ module _ (h : HandlerData) where
   looked_at p reached ns (x ∷ left) size at is below =
       by (reached p) refl
       (λ here. looked_at (suc p) (beyond p reached x) (ns ++ called calls x) left (omega (arith, size)) next
-      (record { true_of = true_beyond p reached x is instr_is here; told = told_beyond p reached x is instr_is })
+      (record {
+        true_of = true_beyond p reached x is instr_is here;
+        told = told_beyond p reached x is
+            instr_is;
+      })
       (here_called p ns x instr_is here below))
       (λ none. looked_at (suc p) reached ns left (omega (arith, size)) next
       (record { true_of = λ q from. is.true_of q (omega (arith, from)); told = told_past p reached is none })
@@ -125,9 +139,12 @@ module _ (h : HandlerData) where
         next i = ap (slice_get code) (omega arith) ∙ at (suc i)
 
         by : (b : Bool) → reached p ≡ b →
-            (Reachable code p → CalleesBelow h (length code) ((ns ++ called calls x) ++ callees_from calls (suc p) (beyond p reached x) left)) →
-            (¬ (Reachable code p) → CalleesBelow h (length code) (ns ++ callees_from calls (suc p) reached left)) →
-            CalleesBelow h (length code) (ns ++ (if b then called calls x ++ callees_from calls (suc p) (beyond p reached x) left
+            (Reachable code p → CalleesBelow h (length code) ((ns ++ called calls x) ++ callees_from calls
+            (suc p) (beyond p reached x) left)) →
+            (¬ (Reachable code p) → CalleesBelow h (length code) (ns ++ callees_from calls (suc p) reached
+            left)) →
+            CalleesBelow h (length code) (ns ++ (if b then called calls x ++ callees_from calls (suc p)
+            (beyond p reached x) left
             else callees_from calls (suc p) reached left))
         by true e there past =
             subst (CalleesBelow h (length code)) (append_assoc ns (called calls x) _)

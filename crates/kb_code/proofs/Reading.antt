@@ -9,7 +9,8 @@ use Rattle.kb_code.specs.Coding.{code_from, failure_of, instr_at}
 
 -- what is read behind one more is read behind it
 seen_behind : (done : List Instr) (instr : Instr) (read : Result (List Instr) CodeFault) →
-    seen (λ more. done ++ more) (seen (λ more. instr ∷ more) read) ≡ seen (λ more. (done ++ instr ∷ []) ++ more) read
+    seen (λ more. done ++ more) (seen (λ more. instr ∷ more) read) ≡ seen (λ more. (done ++ instr ∷ []) ++
+    more) read
 seen_behind done instr (Ok more) = ap (λ xs. Ok xs) (sym (append_assoc done (instr ∷ []) more))
 seen_behind done instr (Err fault) = refl
 
@@ -33,20 +34,31 @@ same_failure instr (Err fault) = refl
 pub passed_over : (place : ℕ) (instr : Instr) (left : List ℕ) {operand : ℕ} → 3 ≤ length left →
     operand ≡ from_be_bytes w16 (slice_index_or left 1 0 ∷ slice_index_or left 2 0 ∷ []) →
     instr_at place (slice_index_or left 0 0) operand ≡ Ok instr →
-    failure_of (code_from place left) ≡ failure_of (code_from (place + 1) (take (length left - 3) (drop 3 left)))
+    failure_of (code_from place left) ≡ failure_of (code_from (place + 1) (take (length left - 3) (drop 3
+    left)))
 passed_over place instr left few operand_is e =
     let next : place + 1 ≡ suc place = omega arith in
     rw (take_rest left 3, next)
     (ap failure_of (behind place instr left few (rw (sym operand_is) e))
     ∙ same_failure instr (code_from (suc place) (drop 3 left)))
 
-pub read_next : (done made : List Instr) (instr : Instr) (left : List ℕ) {place operand : ℕ} → 3 ≤ length left →
-    place ≡ length done → operand ≡ from_be_bytes w16 (slice_index_or left 1 0 ∷ slice_index_or left 2 0 ∷ []) →
+pub read_next : (done made : List Instr) (instr : Instr) (left : List ℕ) {place operand : ℕ} → 3 ≤ length
+    left →
+    place ≡ length done → operand ≡ from_be_bytes w16 (slice_index_or left 1 0 ∷ slice_index_or left 2 0 ∷
+    []) →
     instr_at place (slice_index_or left 0 0) operand ≡ Ok instr → made ≡ done ++ instr ∷ [] →
     seen (λ more. done ++ more) (code_from (length done) left)
     ≡ seen (λ more. made ++ more) (code_from (length made) (take (length left - 3) (drop 3 left)))
 read_next done made instr left few place_is operand_is e made_is =
-    let size : length (done ++ instr ∷ []) ≡ suc (length done) = omega (arith, length-append done (instr ∷ [])) in
+    let size : length (done ++ instr ∷ []) ≡ suc (length done) = omega (
+      arith,
+      length-append done (instr ∷
+          []),
+    ) in
     rw (made_is, take_rest left 3, size)
-    (ap (seen (λ more. done ++ more)) (behind (length done) instr left few (rw (sym place_is, sym operand_is) e))
+    (ap (seen (λ more. done ++ more)) (behind (length done) instr left few (rw (
+      sym place_is,
+      sym
+          operand_is,
+    ) e))
     ∙ seen_behind done instr (code_from (suc (length done)) (drop 3 left)))

@@ -103,8 +103,8 @@ impl Handler {
         self.code.as_slice()
     }
 
-    /// The callees: the indexes in the list of calls that the code names by a call at a place that is reached,
-    /// one for each such call, in order of place. A call of an index that isn't in the list names none.
+    /// The callees: the indexes in the list of calls that are called at places which are reached, one for
+    /// each such call, in order of place. A call of an index that isn't in the list names none.
     #[tactic(auto, using(crate::proofs::ReachableLemmas::all_called), unfolding(crate::specs::Callees::callees_of))]
     pub fn callees(&self, alloc: Global) -> Result<Seq<u16>, NoMemory>
         ensures callees { IfOk result (λ callees. callees ≡ callees_of self.now) }

@@ -7,4 +7,5 @@ abbrev pub invariant-loop-place : goal.invariant-loop-place
 invariant-loop-place l =
     (length l.reached.items ≡ length l.fn.code)
     × (callees_from l.fn.calls 0 (λ q. q == 0) l.fn.code
-    ≡ l.callees.items ++ callees_from l.fn.calls l.place (λ q. get_or l.reached.items q false) (drop l.place l.fn.code))
+    ≡ l.callees.items ++ callees_from l.fn.calls l.place (λ q. get_or l.reached.items q false) (drop
+    l.place l.fn.code))

@@ -5,7 +5,8 @@ use Rattle.kb_code.proofs.coding.code_from.Given as goal
 
 -- what is read so far, and then what is left, is the whole
 abbrev pub invariant-loop-left : goal.invariant-loop-left
-invariant-loop-left l = code_from 0 l.fn.bytes ≡ seen (λ more. l.code.items ++ more) (code_from (length l.code.items) l.left)
+invariant-loop-left l = code_from 0 l.fn.bytes ≡ seen (λ more. l.code.items ++ more) (code_from (length
+    l.code.items) l.left)
 
 abbrev pub decreases-loop-left : goal.decreases-loop-left
 decreases-loop-left l = length l.left
