@@ -1,6 +1,5 @@
 -- The callees of a handler: what the calls name that are at reachable places. Code only ever goes on at a
--- later place, so
--- one look at each instruction in order says which places are reached.
+-- later place, so one look at each instruction in order says which places are reached.
 use Rattle.std.specs.Prelude.{ℕ, suc, Bool, nat_lt, ◌==◌, ◌||◌, List, [], ◌∷◌, ◌++◌, length, if◌then◌else◌}
 use Rattle.kb_code.specs.declared.instr.Instr.{Instr}
 use Rattle.kb_code.specs.declared.instr.Instr.TheVariants as i
@@ -16,8 +15,8 @@ called calls _ = []
 abbrev pub callees_from : ℕ → ℕ → (ℕ → Bool) → List Instr → List ℕ
 callees_from calls place reached [] = []
 callees_from calls place reached (instr ∷ code) =
-    if reached place then called calls instr ++ callees_from calls (suc place) (λ q. reached q || is_exit
-    (exits_of (suc place) instr) q) code
+    if reached place then called calls instr ++ callees_from calls (suc place)
+    (λ q. reached q || is_exit (exits_of (suc place) instr) q) code
     else callees_from calls (suc place) reached code
 
 -- the indexes of all callees in order of place; the first place is reached

@@ -16,13 +16,13 @@ bytes_of instr = opcode_of instr ∷ to_be_bytes w16 (operand_of instr)
 -- what is found for an opcode, if it may have the operand
 abbrev pub with_operand : ℕ → ℕ → Option Instr → Result Instr CodeFault
 with_operand place operand None = Err (BadOpcode place)
-with_operand place operand (Some instr) = if operand_of instr == operand then Ok instr else Err (BadOperand
-    place)
+with_operand place operand (Some instr) =
+    if operand_of instr == operand then Ok instr else Err (BadOperand place)
 
 -- the instruction at a place, by its opcode and operand
 unfoldable pub instr_at : ℕ → ℕ → ℕ → Result Instr CodeFault
-instr_at place opcode operand = with_operand place operand (find (λ instr. opcode_of instr == opcode)
-    (instructions operand))
+instr_at place opcode operand =
+    with_operand place operand (find (λ instr. opcode_of instr == opcode) (instructions operand))
 
 -- the code from a place on, or its first fault
 abbrev pub code_from : ℕ → List ℕ → Result (List Instr) CodeFault

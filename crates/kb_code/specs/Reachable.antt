@@ -28,5 +28,5 @@ pub record Calls (h : HandlerData) (p n : ℕ) : Type 0 where
 pub data CalleesBelow (h : HandlerData) : ℕ → List ℕ → Type 0 where
   none : CalleesBelow h 0 []
   called : {p n : ℕ} {ns : List ℕ} → CalleesBelow h p ns → Calls h p n → CalleesBelow h (suc p) (ns ++ n ∷ [])
-  passed : {p : ℕ} {ns : List ℕ} → CalleesBelow h p ns → ((n : ℕ) → Calls h p n → ⊥) → CalleesBelow h (suc
-      p) ns
+  passed : {p : ℕ} {ns : List ℕ} → CalleesBelow h p ns → ((n : ℕ) → Calls h p n → ⊥) →
+      CalleesBelow h (suc p) ns
