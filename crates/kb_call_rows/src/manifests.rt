@@ -2,7 +2,8 @@
 use crate::answers::fault;
 use kb_context::{Failure, NoMemory};
 use kb_jsonc::read;
-use kb_manifest::{Command, FileFault, Manifest, Notes, PaletteItem};
+use kb_json::FileFault;
+use kb_manifest::{Command, Manifest, Notes, PaletteItem};
 use kb_when::{Clause, SharedClause};
 use serde_json::Value;
 use std::alloc::{AllocError, Global};

@@ -21,7 +21,7 @@ use crate::rule::Rule;
 use crate::whole::has_whole_numbers;
 use kb_context::{Failure, NoMemory, Text, is_blank_text};
 use kb_keys::{Chord, Platform};
-use kb_manifest::{FileFault, members_in, take_member, text_in};
+use kb_json::{FileFault, members_in, take_member, text_in};
 use kb_when::{Clause, WhenFault};
 use serde_json::{Map, Value};
 use std::alloc::Global;

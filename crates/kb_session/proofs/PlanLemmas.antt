@@ -2,7 +2,7 @@
 use Rattle.std.proofs.Common.{◌≡◌, List, [], ◌∷◌, length, suc, refl, ap}
 use Rattle.serde_json.specs.View.{items_view}
 use Rattle.serde_json.specs.declared.value.Value.{Value}
-use Rattle.kb_manifest.specs.Parts.{listed}
+use Rattle.kb_json.specs.Parts.{listed}
 
 -- a list has as many elements as its data
 pub as_many : (vs : List Value) → length (listed (items_view vs)) ≡ length vs

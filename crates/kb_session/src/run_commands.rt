@@ -2,7 +2,7 @@
 //! takes `commands`; how long the list may be, and what a list with another element does, is our decision.
 ghost use Rattle.std.specs.Prelude.{◌≡◌, IfOk, OnErr, map, option_map};
 ghost use Rattle.serde_json.specs.View.{view, items_view};
-ghost use Rattle.kb_manifest.specs.Parts.{each, listed};
+ghost use Rattle.kb_json.specs.Parts.{each, listed};
 ghost use Rattle.kb_session.specs.RunCommands.{planned, planned_for, planned_in, few, elements_given};
 ghost use Rattle.kb_session.specs.RunCommands.{plan_of};
 ghost use Rattle.kb_session.specs.Session.{Begins};

@@ -1,7 +1,7 @@
 -- The numbers of what is wrong with a JSON value.
 use Rattle.std.specs.Prelude.{ℕ}
-use Rattle.kb_manifest.specs.declared.fault.FileFault.{FileFault}
-use Rattle.kb_manifest.specs.declared.fault.FileFault.TheVariants.{MissingMember, WrongShape}
+use Rattle.kb_json.specs.declared.fault.FileFault.{FileFault}
+use Rattle.kb_json.specs.declared.fault.FileFault.TheVariants.{MissingMember, WrongShape}
 
 abbrev pub number_of : FileFault → ℕ
 number_of MissingMember = 40

@@ -1,7 +1,7 @@
 //! The texts that the members of an entry are.
 ghost use Rattle.std.specs.Prelude.{◌≡◌, option_map};
 ghost use Rattle.serde_json.specs.View.{view};
-ghost use Rattle.kb_manifest.specs.Member.{text_of, required_text, optional_text};
+ghost use Rattle.kb_json.specs.Member.{text_of, required_text, optional_text};
 
 use crate::fault::FileFault;
 use crate::parts::text_in;
@@ -16,7 +16,7 @@ fn text_of(value: Value) -> Result<Text, FileFault>
 }
 
 /// The text of a member that must be there. It takes no memory.
-pub(crate) fn required_text(member: Option<Value>) -> Result<Text, FileFault>
+pub fn required_text(member: Option<Value>) -> Result<Text, FileFault>
     ensures { result ≡ required_text (option_map view member) }
 {
     match member {
@@ -26,7 +26,7 @@ pub(crate) fn required_text(member: Option<Value>) -> Result<Text, FileFault>
 }
 
 /// The text of a member that may be absent. It takes no memory.
-pub(crate) fn optional_text(member: Option<Value>) -> Result<Option<Text>, FileFault>
+pub fn optional_text(member: Option<Value>) -> Result<Option<Text>, FileFault>
     ensures { result ≡ optional_text (option_map view member) }
 {
     match member {

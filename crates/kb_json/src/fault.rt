@@ -1,4 +1,4 @@
-//! What is wrong with a JSON value that is no layout or no context value.
+//! What is wrong with a JSON value that is not what a file should hold.
 use kb_context::Failure;
 use thiserror::Error;
 
@@ -15,7 +15,7 @@ pub enum FileFault {
 
 impl FileFault {
     ghost use Rattle.std.specs.Prelude.{◌≡◌};
-    ghost use Rattle.kb_manifest.specs.FileFault.{number_of};
+    ghost use Rattle.kb_json.specs.FileFault.{number_of};
 
     /// The fault's number, by which traces and messages name it.
     pub fn number(self) -> u32

@@ -2,8 +2,8 @@ use Rattle.std.proofs.Common.{option_map, ap, ◌∙◌}
 use Rattle.serde_json.specs.Find.{get_member}
 use Rattle.serde_json.specs.View.{view, members_view}
 use Rattle.serde_json.proofs.Views.{view-lookup}
-use Rattle.kb_manifest.proofs.PartsLemmas.{others_stay, rest_left}
-use Rattle.kb_manifest.proofs.parts.take_member.Goals as goal
+use Rattle.kb_json.proofs.PartsLemmas.{others_stay, rest_left}
+use Rattle.kb_json.proofs.parts.take_member.Goals as goal
 
 pub returns-clause-member : goal.returns-clause-member
 returns-clause-member c =

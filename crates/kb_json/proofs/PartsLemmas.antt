@@ -11,7 +11,7 @@ use Rattle.serde_json.proofs.Views.{Entry, member_later}
 use Rattle.serde_json.specs.Data.{Members, member}
 use Rattle.serde_json.specs.Find.{get_member}
 use Rattle.serde_json.specs.View.{view, members_view}
-use Rattle.kb_manifest.specs.Parts.{names_of, without_member}
+use Rattle.kb_json.specs.Parts.{names_of, without_member}
 
 pub names_seen : (es : List Entry) → names_of (members_view es) ≡ map string_bytes (keys_of es)
 names_seen [] = refl

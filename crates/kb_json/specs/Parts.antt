@@ -2,7 +2,7 @@
 use Rattle.std.specs.Prelude.{ℕ, List, [], ◌∷◌, map, Option, Some, None, option_map, option_and_then}
 use Rattle.std.specs.Prelude.{bytes_eq, if◌then◌else◌}
 use Rattle.serde_json.specs.Data.{Data, Items, no_items, item, Members, no_members, member}
-use Rattle.serde_json.specs.Find.{as_array}
+use Rattle.serde_json.specs.Find.{as_array, as_str}
 
 infixl 10 ◌>>=◌
 abbrev pub ◌>>=◌ : {A B : Type 0} → Option A → (A → Option B) → Option B
@@ -26,6 +26,18 @@ listed (item d ds) = d ∷ listed ds
 -- the elements of the list that a value is
 abbrev pub elements_of : Data → Option (List Data)
 elements_of d = option_map listed (as_array d)
+
+-- the texts that the elements of a list are
+abbrev pub texts_of : Data → Option (List (List ℕ))
+texts_of d = elements_of d >>= each as_str
+
+abbrev pub if_filled : List ℕ → Option (List ℕ)
+if_filled [] = None
+if_filled (b ∷ bs) = Some (b ∷ bs)
+
+-- the text that a value is, if it isn't empty
+abbrev pub word_of : Data → Option (List ℕ)
+word_of d = as_str d >>= if_filled
 
 -- the names and the values of members, in order
 abbrev pub pairs_of : Members → List (List ℕ × Data)

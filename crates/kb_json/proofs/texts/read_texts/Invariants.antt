@@ -2,8 +2,8 @@ use Rattle.std.proofs.Common.{◌≡◌, ◌++◌, option_map}
 use Rattle.std.specs.Vec.Iter.{into_iter_items}
 use Rattle.serde_json.specs.Find.{as_str}
 use Rattle.serde_json.specs.View.{items_view}
-use Rattle.kb_manifest.specs.Parts.{each, listed}
-use Rattle.kb_manifest.proofs.context.read_texts.Given as goal
+use Rattle.kb_json.specs.Parts.{each, listed}
+use Rattle.kb_json.proofs.texts.read_texts.Given as goal
 
 -- the texts so far, and then those that are left
 abbrev pub invariant-loop-element : goal.invariant-loop-element

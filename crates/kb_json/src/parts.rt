@@ -2,7 +2,7 @@
 ghost use Rattle.std.specs.Prelude.{◌≡◌, ℕ, List, false, bytes_eq, option_map};
 ghost use Rattle.serde_json.specs.Find.{get_member, as_str, as_object};
 ghost use Rattle.serde_json.specs.View.{view, items_view, members_view};
-ghost use Rattle.kb_manifest.specs.Parts.{listed, elements_of, without_member};
+ghost use Rattle.kb_json.specs.Parts.{listed, elements_of, without_member, word_of};
 
 use kb_context::Text;
 use serde_json::{Map, Value};
@@ -15,6 +15,18 @@ pub fn text_in(value: Value) -> Option<Text>
         Value::String(text) => Some(Text::from_string(text)),
         _ => None,
     }
+}
+
+/// The text that a value is, moved out of it, or `None` where it is something else or empty. It takes no
+/// memory.
+pub fn word_in(value: Value) -> Option<Text>
+    ensures { result ≡ word_of (view value) }
+{
+    let text = text_in(value)?;
+    if text.as_str().is_empty() {
+        return None;
+    }
+    Some(text)
 }
 
 /// The elements of the list that a value is, moved out of it in order, or `None` where it is something
