@@ -1,5 +1,5 @@
 -- The parts of a JSON value, as its data has them.
-use Rattle.std.proofs.Common.{◌≡◌, ℕ, List, [], ◌∷◌, map, Bool, true, false, Some, cond, is_eq, bytes_eq}
+use Rattle.std.proofs.Common.{◌≡◌, ℕ, suc, List, [], ◌∷◌, length, map, Bool, true, false, Some, cond, is_eq, bytes_eq}
 use Rattle.std.proofs.Common.{string_bytes, refl, sym, ap, ◌∙◌, true≢false}
 use Rattle.std.proofs.lemmas.Map.Text.{is_eq-slice_cmp}
 use Rattle.std.proofs.lemmas.Slice.Eq.{bytes_eq-Decides}
@@ -10,12 +10,18 @@ use Rattle.std.specs.Ordering.{nat_cmp, match_ordering}
 use Rattle.serde_json.proofs.Views.{Entry, member_later}
 use Rattle.serde_json.specs.Data.{Members, member}
 use Rattle.serde_json.specs.Find.{get_member}
-use Rattle.serde_json.specs.View.{view, members_view}
-use Rattle.kb_json.specs.Parts.{names_of, without_member}
+use Rattle.serde_json.specs.View.{view, items_view, members_view}
+use Rattle.serde_json.specs.declared.value.Value.{Value}
+use Rattle.kb_json.specs.Parts.{listed, names_of, without_member}
 
 pub names_seen : (es : List Entry) → names_of (members_view es) ≡ map string_bytes (keys_of es)
 names_seen [] = refl
 names_seen (e ∷ es) = ap (λ (rest : List (List ℕ)). string_bytes e.0 ∷ rest) (names_seen es)
+
+-- a list has as many elements as its data
+pub as_many : (vs : List Value) → length (listed (items_view vs)) ≡ length vs
+as_many [] = refl
+as_many (v ∷ vs) = ap suc (as_many vs)
 
 -- the entries without the first one of a name
 abbrev without : List ℕ → List Entry → List Entry

@@ -110,7 +110,7 @@ fn elements_in(given: Option<&Value>) -> Option<&[Value]>
 }
 
 /// These elements, if they are at most 32. It takes no memory.
-#[tactic(auto, using(crate::proofs::PlanLemmas::as_many))]
+#[tactic(auto, using(kb_json::proofs::PartsLemmas::as_many))]
 fn few(elements: &[Value]) -> Option<&[Value]>
     ensures { option_map (λ elements. listed (items_view elements.now)) result
         ≡ few (listed (items_view elements.now)) }
