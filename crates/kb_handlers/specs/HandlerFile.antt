@@ -1,5 +1,5 @@
 -- The handlers that a file says, as JSON data, or its first fault.
-use Rattle.std.specs.Prelude.{ℕ, ℤ, pos, negsuc, ◌==◌, Bool, false, List, [], ◌∷◌, map, codes}
+use Rattle.std.specs.Prelude.{ℤ, pos, negsuc, ◌==◌, Bool, false, List, [], ◌∷◌, map, codes}
 use Rattle.std.specs.Prelude.{Result, Ok, Err, if◌then◌else◌}
 use Rattle.serde_json.specs.Data.{Data}
 use Rattle.serde_json.specs.Find.{get, as_object}
