@@ -6,8 +6,8 @@ ghost use Rattle.kb_json.specs.FileFault as shape;
 ghost use Rattle.kb_files.specs.Value.{numbered_failure};
 
 use kb_context::{Failure, Refusal, ScopeFault};
-use kb_jsonc::JsoncFault;
 use kb_json::FileFault;
+use kb_jsonc::JsoncFault;
 
 /// Why a text gave no JSON value.
 pub(crate) fn text_failure(failure: Failure<JsoncFault>) -> Failure<Refusal>
