@@ -1,5 +1,6 @@
 -- Names that are looked at in turn, beside those that were seen.
-use Rattle.std.proofs.Common.{◌≡◌, ◌<◌, ◌+◌, ℕ, suc, List, [], ◌∷◌, ◌++◌, length, map, drop, get_or, drop-cons}
+use Rattle.std.proofs.Common.{◌≡◌, ◌<◌, ◌+◌, ℕ, suc, List, [], ◌∷◌, ◌++◌, length, map, drop, get_or}
+use Rattle.std.proofs.Common.{drop-cons}
 use Rattle.std.proofs.Common.{Bool, true, false, ◌||◌, not, cond, bytes_eq, arith}
 use Rattle.std.proofs.Common.{refl, sym, ap, ◌∙◌, true≢false}
 use Rattle.std.specs.List.{list_any}
@@ -90,8 +91,8 @@ unseen true e = absurd (true≢false (sym e))
 unseen false e = refl
 
 -- one more is looked at, which the set took
-pub passed : {X : Type 0} (named : X → List ℕ) (above : List Name) (k : Name) (items : List X) (i : ℕ) (item : X)
-    → i < length items → item ≡ get_or items i item → k.now ≡ named item → not (is_seen above k.now) ≡ true
+pub passed : {X : Type 0} (named : X → List ℕ) (above : List Name) (k : Name) (items : List X) (i : ℕ)
+    (item : X) → i < length items → item ≡ get_or items i item → k.now ≡ named item → not (is_seen above k.now) ≡ true
     → repeats_behind (insert_key same_name above k) (map named (drop (i + 1) items))
     ≡ repeats_behind above (map named (drop i items))
 passed named above k items i item within is same new =

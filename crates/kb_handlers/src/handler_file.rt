@@ -5,7 +5,8 @@ ghost use Rattle.kb_context.specs.declared.failure.Failure.TheVariants.{NoMemory
 ghost use Rattle.kb_context.specs.Failure.{Gives};
 ghost use Rattle.kb_context.specs.Reading.{seen};
 ghost use Rattle.kb_json.specs.Parts.{listed};
-ghost use Rattle.kb_handlers.specs.HandlerFile.{each_read, handler_in, handler_of, handlers_of, head_of, list_of};
+ghost use Rattle.kb_handlers.specs.HandlerFile.{head_of, list_of, handlers_of};
+ghost use Rattle.kb_handlers.specs.HandlerFile.{each_read, handler_in, handler_of};
 
 use crate::code::read_code;
 use crate::entry::{Entry, read_entry, required_whole};
@@ -26,7 +27,19 @@ const HANDLER_LIMIT: usize = 1_000;
 pub struct HandlerFile;
 
 impl HandlerFile {
-    /// The handlers that a JSON value is, in order.
+    /// The handlers that a JSON value is, in order, as in
+    /// `{"version":1,"handlers":[{"command":"x.hi","params":[{"name":"t","kind":"text"}],"budget":1004,`
+    /// `"depth":1,"texts":["hi"],"calls":["type"],"code":"010000300000000000"}]}`. The format is our
+    /// decision. `params`, `texts` and `calls` are empty where they are absent; the code is hexadecimal
+    /// text. Other members are ignored. Texts are moved out of the value.
+    ///
+    /// Errors: first those of the head, which takes no memory. `Shape` (40 where a member is absent, else
+    /// 41) where the value is no object, `version` not the whole number 1 or `handlers` no list; then
+    /// `TooLarge` (44) for more than 1,000 handlers. Then that of the first handler that has one: `Shape`,
+    /// 41 where it is no object, 40 and 41 by member in the order above; `TooLarge` for more than 8
+    /// parameters, 1,000 texts or 1,000 calls, a budget that isn't from 1 to 1,000,000,000 or a depth that
+    /// isn't from 1 to 64; `BadHex` (42); `Code` (50); `TooLarge` for more than 10,000 instructions; `Code`
+    /// (51, 52). Last `DuplicateHandler` (43) where a command is named twice. Or `NoMemory`.
     pub fn read(alloc: Global, value: Value) -> Result<Seq<Handler>, Failure<HandlersFault>>
         ensures handlers { Gives (λ handlers. handlers) result (handlers_of (view value)) }
         ensures memory { IfErr result (λ failure. failure ≡ NoMemory → IsOk (head_of (view value))) }
