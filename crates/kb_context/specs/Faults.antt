@@ -21,6 +21,8 @@ fault_name n =
     else if n == 33 then codes "BadNumber"
     else if n == 40 then codes "MissingMember"
     else if n == 41 then codes "WrongShape"
+    else if n == 42 then codes "BadHex"
+    else if n == 43 then codes "DuplicateHandler"
     else if n == 44 then codes "TooLarge"
     else if n == 50 then codes "BadLength"
     else if n == 51 then codes "BadOpcode"

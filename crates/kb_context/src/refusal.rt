@@ -58,6 +58,8 @@ pub fn fault_name(number: u32) -> &'static str
         33 => "BadNumber",
         40 => "MissingMember",
         41 => "WrongShape",
+        42 => "BadHex",
+        43 => "DuplicateHandler",
         44 => "TooLarge",
         50 => "BadLength",
         51 => "BadOpcode",
