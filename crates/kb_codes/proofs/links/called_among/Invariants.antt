@@ -1,0 +1,11 @@
+use Rattle.std.proofs.Common.{◌≡◌, None, take, get_or}
+use Rattle.std.specs.List.{list_any}
+use Rattle.kb_core.specs.declared.native.Native.{Native}
+use Rattle.kb_codes.specs.Live.{same_native, is_it}
+use Rattle.kb_codes.proofs.links.called_among.Given as goal
+
+-- what was called so far is there
+abbrev pub invariant-loop-callee : goal.invariant-loop-callee
+invariant-loop-callee l =
+    (native : Native) → list_any (λ n. same_native n native) l.called.items
+    ≡ list_any (λ n. is_it native (get_or l.natives n None)) (take l.callee-index l.callees)

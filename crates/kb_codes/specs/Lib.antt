@@ -1,0 +1,6 @@
+pub mod Fault
+pub mod Live
+pub mod Links
+pub mod Names
+pub mod Group
+pub mod Place

@@ -1,0 +1,77 @@
+-- Which handlers are live, as contracts see them.
+use Rattle.std.specs.Prelude.{ℕ, Bool, false, List, [], ◌∷◌, ◌++◌, map, find, Option, Some, None, is_some}
+use Rattle.std.specs.Prelude.{if◌then◌else◌, nat_eq, nat_lt, bytes_eq, codes, ◌||◌, get_or, option_map}
+use Rattle.std.specs.List.{list_any, flat_map}
+use Rattle.kb_core.specs.declared.native.Native.{Native}
+use Rattle.kb_core.specs.contracts.native.NativePartialEq.TheImpl as equality
+use Rattle.kb_core.specs.Native.{named}
+use Rattle.kb_code.specs.Handler.{HandlerData}
+use Rattle.kb_code.specs.Callees.{callees_of}
+use Rattle.kb_codes.specs.declared.fault.CodesFault.{CodesFault}
+use Rattle.kb_codes.specs.declared.fault.CodesFault.TheVariants.{AlreadyExists}
+
+-- the live handlers of an extension, in file order; extensions are numbered in load order, from 0
+pub record Group : Type 0 where
+  pub extension : ℕ
+  pub handlers : List HandlerData
+
+-- all live handlers, in load and file order
+abbrev pub handlers_in : List Group → List HandlerData
+handlers_in groups = flat_map (λ g. g.handlers) groups
+
+-- the first handler of a name
+abbrev pub handler_named : List ℕ → List HandlerData → Option HandlerData
+handler_named name handlers = find (λ h. bytes_eq name h.command) handlers
+
+-- names that no handler may have: those of the native commands, and `runCommands`
+abbrev pub is_reserved : List ℕ → Bool
+is_reserved name = is_some (named name) || bytes_eq name (codes "runCommands")
+
+-- a handler may not have a name that is reserved, nor that of one of these
+abbrev pub is_taken : List HandlerData → HandlerData → Bool
+is_taken others h = is_reserved h.command || is_some (handler_named h.command others)
+
+-- going through handlers in order, one has a name that it may not have, by what is live or by one above it
+abbrev pub has_taken : List HandlerData → List HandlerData → Bool
+has_taken above [] = false
+has_taken above (h ∷ hs) = is_taken above h || has_taken (above ++ h ∷ []) hs
+
+-- why handlers can't be live beside the groups, if they can't
+abbrev pub codes_fault : List HandlerData → List Group → Option CodesFault
+codes_fault handlers groups =
+    if has_taken (handlers_in groups) handlers then Some AlreadyExists else None
+
+-- the handlers of an extension, where it holds a group
+abbrev pub group_of : ℕ → List Group → Option (List HandlerData)
+group_of extension groups = option_map (λ g. g.handlers) (find (λ g. nat_eq g.extension extension) groups)
+
+-- with a group more, in load order
+abbrev pub with_group : Group → List Group → List Group
+with_group new [] = new ∷ []
+with_group new (g ∷ gs) = if nat_lt new.extension g.extension then new ∷ g ∷ gs else g ∷ with_group new gs
+
+-- without the group of an extension
+abbrev pub without_group : ℕ → List Group → List Group
+without_group extension [] = []
+without_group extension (g ∷ gs) = if nat_eq g.extension extension then gs else g ∷ without_group extension gs
+
+-- whether two natives are one, as `==` finds it
+abbrev pub same_native : Native → Native → Bool
+same_native = (equality.ghosts).eq
+
+-- the natives that a handler's list of calls names
+abbrev pub natives_of : HandlerData → List (Option Native)
+natives_of h = map named h.calls
+
+-- whether it is the native
+abbrev pub is_it : Native → Option Native → Bool
+is_it native None = false
+is_it native (Some other) = same_native other native
+
+-- whether one of a handler's callees is the native
+abbrev pub calls_native : Native → HandlerData → Bool
+calls_native native h = list_any (λ n. is_it native (get_or (natives_of h) n None)) (callees_of h)
+
+-- the first live handler in load and file order that has the native as a callee
+abbrev pub caller_of : Native → List Group → Option HandlerData
+caller_of native groups = find (calls_native native) (handlers_in groups)

@@ -1,0 +1,12 @@
+-- Where the group of an extension stands.
+use Rattle.std.specs.Prelude.{◌≡◌, ℕ, ◌<◌, List, Option, None, MatchOption, length, option_map, remove}
+use Rattle.std.specs.Prelude.{slice_get}
+use Rattle.kb_codes.specs.Live.{Group, group_of, without_group}
+
+-- the place has the extension's group, and without it the others are left; without a place there is no group
+abbrev pub IsPlaceOf : ℕ → List Group → Option ℕ → Type 0
+IsPlaceOf extension groups place =
+    MatchOption place ((group_of extension groups ≡ None) × (without_group extension groups ≡ groups))
+    (λ i. (i < length groups)
+    × (group_of extension groups ≡ option_map (λ g. g.handlers) (slice_get groups i))
+    × (without_group extension groups ≡ remove groups i))

@@ -1,0 +1,243 @@
+//! Which handlers are live, by extension and by name.
+ghost use Rattle.std.specs.Prelude.{◌≡◌, ◌≤◌, ◌||◌, ◌++◌, ◌∷◌, ℕ, [], Some, None, OnOk, OnErr, IfOk, IfSome, IfErr};
+ghost use Rattle.std.specs.Prelude.{option_map, option_copied, is_some, length, take, drop, false, MatchResult};
+ghost use Rattle.std.specs.List.{AllZip};
+ghost use Rattle.kb_context.specs.Failure.{IsRefusal, IsRefusalOrMemory};
+ghost use Rattle.kb_codes.specs.Group.{IsGroup, FindsFirst, is_kept};
+ghost use Rattle.kb_codes.specs.Live.{handlers_in, handler_named, is_reserved, is_taken, has_taken, codes_fault};
+ghost use Rattle.kb_codes.specs.Live.{group_of, with_group, without_group, caller_of, natives_of};
+ghost use Rattle.kb_codes.specs.Live.{Group as GroupData};
+ghost use Rattle.kb_codes.specs.Place.{IsPlaceOf};
+ghost use Rattle.kb_context.specs.declared.failure.Failure.TheVariants as failure;
+
+use crate::codes::{Codes, Linked};
+use crate::fault::CodesFault;
+use crate::group::{Group, links_of};
+use crate::links::Links;
+use crate::names::Names;
+use kb_code::Handler;
+use kb_context::{Failure, NoMemory, Seq};
+use kb_core::Native;
+use std::alloc::Global;
+use std::marker::Model;
+
+/// The live handlers, by the extension that brought them and by name. Contracts see the groups of the
+/// extensions in load order, each with its handlers in file order.
+#[derive(Drop)]
+pub struct CodeTable {
+    alloc: Global,
+    groups: Vec<Group>,
+}
+
+impl Model for CodeTable {
+    ghost use Rattle.std.specs.Prelude.{List};
+    ghost use Rattle.kb_codes.specs.Live.{Group as GroupData};
+
+    ghost Value = { List GroupData };
+
+    ghost view = { λ t. t.groups.items };
+}
+
+impl CodeTable {
+    /// No handler is live. It takes no memory.
+    pub fn new(alloc: Global) -> CodeTable
+        ensures { result ≡ [] }
+    {
+        CodeTable {
+            alloc,
+            groups: Vec::new(alloc),
+        }
+    }
+
+    /// The live handler of a name, with what its calls are, lent. It takes no memory.
+    #[tactic(auto, using(crate::proofs::Groups::passed, crate::proofs::Groups::met))]
+    pub fn linked(&self, name: &str) -> Option<Linked<'_>>
+        ensures handler { option_map (λ l. l.handler.now) result
+            ≡ handler_named name.now (handlers_in self.now) }
+        ensures natives { IfSome result (λ l. l.natives.now ≡ natives_of l.handler.now) }
+    {
+        for group in self.groups.as_slice() {
+            match group.linked(name) {
+                Some(linked) => return Some(linked),
+                None => continue,
+            }
+        }
+        None
+    }
+
+    /// The live handler of a name, lent. It takes no memory.
+    pub fn handler(&self, name: &str) -> Option<&Handler>
+        ensures { option_copied result ≡ handler_named name.now (handlers_in self.now) }
+    {
+        match self.linked(name) {
+            Some(linked) => Some(linked.handler),
+            None => None,
+        }
+    }
+
+    /// The first live handler, in load and file order, that has the native as a callee, or `None` where none
+    /// has. It takes no memory.
+    #[tactic(auto, using(crate::proofs::Groups::passed, crate::proofs::Groups::met))]
+    pub fn caller_of(&self, native: Native) -> Option<&Handler>
+        ensures { option_copied result ≡ caller_of native self.now }
+    {
+        for group in self.groups.as_slice() {
+            match group.caller_of(native) {
+                Some(caller) => return Some(caller),
+                None => continue,
+            }
+        }
+        None
+    }
+
+    /// Makes an extension's handlers live. They are handed back where one has a name that is taken, or where
+    /// memory is refused and none has; then the table stays as it was.
+    pub fn register(
+        &mut self,
+        extension: u32,
+        codes: Codes,
+    ) -> Result<(), (Codes, Failure<CodesFault>)>
+        ensures free { OnOk result (codes_fault codes self.old ≡ None) }
+        ensures ok { OnOk result (self.new ≡ with_group (record { extension = extension; handlers = codes }) self.old) }
+        ensures why { IfErr result (λ e. IsRefusalOrMemory (codes_fault codes self.old) e.1) }
+        ensures back { IfErr result (λ e. e.0 ≡ codes) }
+        ensures err { OnErr result (self.new ≡ self.old) }
+    {
+        match self.resolved(codes.handlers()) {
+            Ok((links, names)) => self.put(Group::new(
+                extension,
+                codes.into_handlers(),
+                links,
+                names,
+            )),
+            Err(Failure::Fault(fault)) => Err((codes, Failure::Fault(fault))),
+            Err(Failure::NoMemory) => {
+                let failure = self.failure_of(codes.handlers());
+                Err((codes, failure))
+            }
+        }
+    }
+
+    /// Puts a group among the others. Its handlers are handed back where memory is refused.
+    fn put(&mut self, group: Group) -> Result<(), (Codes, Failure<CodesFault>)>
+        ensures ok { OnOk result (self.new ≡ with_group group self.old) }
+        ensures why { IfErr result (λ e. e.1 ≡ failure.NoMemory) }
+        ensures back { IfErr result (λ e. e.0 ≡ group.handlers) }
+        ensures err { OnErr result (self.new ≡ self.old) }
+    {
+        let place = place_for(self.groups.as_slice(), group.extension());
+        match self.groups.insert(place, group) {
+            Ok(()) => Ok(()),
+            Err(refused) => Err((Codes::raw(refused.value.into_handlers()), Failure::NoMemory)),
+        }
+    }
+
+    /// Takes the handlers of an extension away and gives them back, or `None` where it holds no group.
+    /// It takes no memory.
+    pub fn dispose(&mut self, extension: u32) -> Option<Codes>
+        ensures codes { result ≡ group_of extension self.old }
+        ensures table { self.new ≡ without_group extension self.old }
+    {
+        match place_of(self.groups.as_slice(), extension) {
+            Some(place) => Some(Codes::raw(self.groups.remove(place).into_handlers())),
+            None => None,
+        }
+    }
+
+    /// Whether a name can't be given to a handler, by what is live.
+    fn has(&self, name: &str) -> bool
+        ensures { result ≡ (is_reserved name.now || is_some (handler_named name.now (handlers_in self.now))) }
+    {
+        Native::named(name).is_some() || name == "runCommands" || self.linked(name).is_some()
+    }
+
+    /// What is resolved once of handlers: their links, and their places by name.
+    fn resolved(&self, handlers: &[Handler]) -> Result<(Seq<Links>, Names), Failure<CodesFault>>
+        ensures ok { IfOk result (λ r. IsGroup r.1 r.0 handlers.now) }
+        ensures free { OnOk result (codes_fault handlers.now self.now ≡ None) }
+        ensures err { IfErr result (λ failure. IsRefusal (codes_fault handlers.now self.now) failure) }
+    {
+        let names = self.names_of(handlers)?;
+        let links = links_of(self.alloc, handlers)?;
+        Ok((links, names))
+    }
+
+    /// The places of handlers by name.
+    fn names_of(&self, handlers: &[Handler]) -> Result<Names, Failure<CodesFault>>
+        ensures found { IfOk result (λ names. FindsFirst names handlers.now handlers.now) }
+        ensures free { OnOk result (codes_fault handlers.now self.now ≡ None) }
+        ensures err { IfErr result (λ failure. IsRefusal (codes_fault handlers.now self.now) failure) }
+    {
+        let mut names = Names::new(self.alloc);
+        for place in 0..handlers.len() {
+            let name = handlers[place].command();
+            if self.has(name.as_str()) || is_kept(&names, handlers, name.as_str()) {
+                return Err(Failure::Fault(CodesFault::AlreadyExists));
+            }
+            names.keep(name.copied()?, place)?;
+        }
+        Ok(names)
+    }
+
+    /// Why handlers can't be live where memory was refused: for a name that is taken, or for want of memory.
+    #[tactic(auto, using(crate::proofs::Taken::live_here, crate::proofs::Taken::above_here, crate::proofs::Taken::free_here))]
+    fn failure_of(&self, handlers: &[Handler]) -> Failure<CodesFault>
+        ensures { IsRefusalOrMemory (codes_fault handlers.now self.now) result }
+    {
+        for place in 0..handlers.len() {
+            let name = handlers[place].command().as_str();
+            if self.has(name) || is_named(&handlers[..place], name) {
+                return Failure::Fault(CodesFault::AlreadyExists);
+            }
+        }
+        Failure::NoMemory
+    }
+}
+
+/// Whether a handler of the name is kept.
+fn is_kept(names: &Names, handlers: &[Handler], name: &str) -> bool
+    ensures { result ≡ is_kept names.now handlers.now name.now }
+{
+    match names.place(name) {
+        Some(place) => place < handlers.len(),
+        None => false,
+    }
+}
+
+/// Whether one of the handlers has the name.
+fn is_named(handlers: &[Handler], name: &str) -> bool
+    ensures { result ≡ is_some (handler_named name.now handlers.now) }
+{
+    for handler in handlers {
+        if name == handler.command().as_str() {
+            return true;
+        }
+    }
+    false
+}
+
+/// The place of a group of the extension, in load order.
+fn place_for(groups: &[Group], extension: u32) -> usize
+    ensures within { result ≤ length groups.now }
+    ensures place { (g : GroupData) → g.extension ≡ extension
+        → with_group g groups.now ≡ take result groups.now ++ g ∷ drop result groups.now }
+{
+    for place in 0..groups.len() {
+        if extension < groups[place].extension() {
+            return place;
+        }
+    }
+    groups.len()
+}
+
+/// The place of the extension's group, if it holds one.
+fn place_of(groups: &[Group], extension: u32) -> Option<usize>
+    ensures { IsPlaceOf extension groups.now result }
+{
+    for place in 0..groups.len() {
+        if groups[place].extension() == extension {
+            return Some(place);
+        }
+    }
+    None
+}
