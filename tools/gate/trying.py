@@ -244,8 +244,10 @@ class Crate:
         trouble = start_trouble_in(ran, said)
         took = f"took {time.time() - begun:.0f} s{trouble and f', not judged: {trouble}'}"
         self.say(f"{self.crate.name}: start {number} of {len(batch)} edits {took}")
+        if trouble:
+            return
         unlike = {it.function for it in controls if left[it] or said.found[it.unit].is_broken}
-        for it in batch if not trouble else ():
+        for it in batch:
             if unlike & {*it.functions} or any(said.found[unit].is_broken for unit in it.units):
                 continue
             opened = [goal for target in it.targets for goal in left[target]]
