@@ -41,7 +41,8 @@ pub stands_at : (extension : ℕ) (gs : List Group) (i : ℕ) (g : Group) → i 
 stands_at extension [] i g below at is = absurd (omega (arith, below))
 stands_at extension (x ∷ gs) zero g below at is =
     let same : nat_eq x.extension extension ≡ true = sym (ap (λ (g : Group). nat_eq g.extension extension) at) ∙ is in (
-      ap (λ b. option_map (λ (g : Group). g.handlers) (cond b (Some x) (find (λ (g : Group). nat_eq g.extension extension) gs))) same,
+      ap (λ b. option_map (λ (g : Group). g.handlers)
+          (cond b (Some x) (find (λ (g : Group). nat_eq g.extension extension) gs))) same,
       ap (λ b. cond b gs (x ∷ without_group extension gs)) same,
     )
 stands_at extension (x ∷ gs) (suc i) g below at is = stands_at extension gs i g (omega (arith, below)) at is

@@ -1,6 +1,7 @@
 -- Lemmas on handlers whose names are looked at in turn.
-use Rattle.std.proofs.Common.{◌≡◌, ◌∙◌, ℕ, zero, suc, ◌+◌, ◌<◌, Bool, true, false, ◌||◌, cond, List, [], ◌∷◌, ◌++◌, Option, Some, None}
-use Rattle.std.proofs.Common.{refl, sym, ap, take, drop, length, get_or, is_some, bytes_eq, slice_get, true≢false, arith}
+use Rattle.std.proofs.Common.{◌≡◌, ◌∙◌, ℕ, zero, suc, ◌+◌, ◌<◌, Bool, true, false, ◌||◌, cond, List, []}
+use Rattle.std.proofs.Common.{◌∷◌, ◌++◌, Option, Some, None, refl, sym, ap, take, drop, length, get_or, is_some, bytes_eq}
+use Rattle.std.proofs.Common.{slice_get, true≢false, arith}
 use Rattle.std.proofs.Math.Seq.{take-suc}
 use Rattle.std.proofs.lemmas.List.{append_assoc}
 use Rattle.std.proofs.lemmas.List.Folds.{find-append}
@@ -104,12 +105,14 @@ module _ (live hs : List HandlerData) (i : ℕ) (h : HandlerData) (below : i < l
             let is : name ≡ other = (bytes_eq-Decides name other).0 same in
             ap (option_and_then (slice_get hs)) (kept other ∙ ap (λ b. cond b (Some i) (place_in before other)) same)
             ∙ slice_get_read hs (length hs) i h refl below at
-            ∙ sym (grows ∙ ap (λ o. option_or o (handler_named other (h ∷ []))) (nothing (handler_named other (take i hs)) (ap (λ n. is_some (handler_named n (take i hs))) (sym is) ∙ free))
+            ∙ sym (grows ∙ ap (λ o. option_or o (handler_named other (h ∷ [])))
+            (nothing (handler_named other (take i hs)) (ap (λ n. is_some (handler_named n (take i hs))) (sym is) ∙ free))
             ∙ ap (λ b. cond b (Some h) None) ((bytes_eq-Decides other h.command).1 (sym is ∙ own)))
         by false differs =
             ap (option_and_then (slice_get hs)) (kept other ∙ ap (λ b. cond b (Some i) (place_in before other)) differs)
             ∙ found other
-            ∙ sym (grows ∙ ap (λ b. option_or (handler_named other (take i hs)) (cond b (Some h) None)) (apart (bytes_eq other h.command) refl)
+            ∙ sym (grows ∙ ap (λ b. option_or (handler_named other (take i hs)) (cond b (Some h) None))
+            (apart (bytes_eq other h.command) refl)
             ∙ ends (handler_named other (take i hs)))
           where
             ends : (o : Option HandlerData) → option_or o None ≡ o

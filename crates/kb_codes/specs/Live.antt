@@ -50,6 +50,10 @@ abbrev pub with_group : Group → List Group → List Group
 with_group new [] = new ∷ []
 with_group new (g ∷ gs) = if nat_lt new.extension g.extension then new ∷ g ∷ gs else g ∷ with_group new gs
 
+-- with the handlers of an extension
+abbrev pub with_handlers : ℕ → List HandlerData → List Group → List Group
+with_handlers extension handlers groups = with_group (record { extension = extension; handlers = handlers }) groups
+
 -- without the group of an extension
 abbrev pub without_group : ℕ → List Group → List Group
 without_group extension [] = []

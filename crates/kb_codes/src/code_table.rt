@@ -1,11 +1,11 @@
 //! Which handlers are live, by extension and by name.
-ghost use Rattle.std.specs.Prelude.{◌≡◌, ◌≤◌, ◌||◌, ◌++◌, ◌∷◌, ℕ, [], Some, None, OnOk, OnErr, IfOk, IfSome, IfErr};
-ghost use Rattle.std.specs.Prelude.{option_map, option_copied, is_some, length, take, drop, false, MatchResult};
+ghost use Rattle.std.specs.Prelude.{◌≡◌, ◌≤◌, ◌||◌, ◌++◌, ◌∷◌, [], Some, None, OnOk, OnErr, IfOk};
+ghost use Rattle.std.specs.Prelude.{IfSome, IfErr, option_map, option_copied, is_some, length, take, drop};
 ghost use Rattle.std.specs.List.{AllZip};
 ghost use Rattle.kb_context.specs.Failure.{IsRefusal, IsRefusalOrMemory};
 ghost use Rattle.kb_codes.specs.Group.{IsGroup, FindsFirst, is_kept};
-ghost use Rattle.kb_codes.specs.Live.{handlers_in, handler_named, is_reserved, is_taken, has_taken, codes_fault};
-ghost use Rattle.kb_codes.specs.Live.{group_of, with_group, without_group, caller_of, natives_of};
+ghost use Rattle.kb_codes.specs.Live.{handlers_in, handler_named, is_reserved, codes_fault};
+ghost use Rattle.kb_codes.specs.Live.{group_of, with_group, with_handlers, without_group, caller_of, natives_of};
 ghost use Rattle.kb_codes.specs.Live.{Group as GroupData};
 ghost use Rattle.kb_codes.specs.Place.{IsPlaceOf};
 ghost use Rattle.kb_context.specs.declared.failure.Failure.TheVariants as failure;
@@ -98,7 +98,7 @@ impl CodeTable {
         codes: Codes,
     ) -> Result<(), (Codes, Failure<CodesFault>)>
         ensures free { OnOk result (codes_fault codes self.old ≡ None) }
-        ensures ok { OnOk result (self.new ≡ with_group (record { extension = extension; handlers = codes }) self.old) }
+        ensures ok { OnOk result (self.new ≡ with_handlers extension codes self.old) }
         ensures why { IfErr result (λ e. IsRefusalOrMemory (codes_fault codes self.old) e.1) }
         ensures back { IfErr result (λ e. e.0 ≡ codes) }
         ensures err { OnErr result (self.new ≡ self.old) }

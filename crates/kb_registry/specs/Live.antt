@@ -7,7 +7,8 @@ use Rattle.kb_core.specs.contracts.native.NativePartialEq.TheImpl as equality
 use Rattle.kb_core.specs.Declaration.{Declaration}
 use Rattle.kb_core.specs.Native.{named, declaration_of}
 use Rattle.kb_code.specs.Handler.{HandlerData}
-use Rattle.kb_codes.specs.Live.{Group, handlers_in, handler_named, caller_of, has_taken, with_group, without_group}
+use Rattle.kb_codes.specs.Live.{Group, handlers_in, handler_named, caller_of, has_taken, with_handlers}
+use Rattle.kb_codes.specs.Live.{without_group}
 use Rattle.kb_registry.specs.declared.fault.RegistryFault.{RegistryFault}
 use Rattle.kb_registry.specs.declared.fault.RegistryFault.TheVariants.{AlreadyExists, Exhausted, StaleTicket, InUse}
 
@@ -111,7 +112,7 @@ declared (Coded handler) = handler.signature
 -- with an extension's handlers live
 abbrev pub with_code : ℕ → List HandlerData → Live → Live
 with_code extension handlers live =
-    record live { code = with_group (record { extension = extension; handlers = handlers }) live.code }
+    record live { code = with_handlers extension handlers live.code }
 
 -- with an extension's handlers taken away
 abbrev pub without_code : ℕ → Live → Live

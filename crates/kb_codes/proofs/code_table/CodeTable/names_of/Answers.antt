@@ -15,11 +15,13 @@ returns-then-has-clause-err c =
     let at = c.index-handlers-place.is in
     ap (λ b. cond b (Some AlreadyExists) None) (sym c.loop-place.invariant.0 ∙
     elim c.then-has.branch [
-      | then-has-via-then-has w ↦ live_here live hs i h c.loop-place-test.true at c.as_str.result.now own (sym c.has.ensures ∙ w.if-has.true)
+      | then-has-via-then-has w ↦
+          live_here live hs i h c.loop-place-test.true at c.as_str.result.now own (sym c.has.ensures ∙ w.if-has.true)
       | then-has-via-else-has+then-is_kept w ↦
           let own' = w.as_str-else-has.ensures ∙ c.command-name.ensures in
           above_here live hs i h c.loop-place-test.true at w.as_str-else-has.result.now own'
-          (sym (ap is_some (c.loop-place.invariant.1 w.as_str-else-has.result.now)) ∙ sym w.is_kept.ensures ∙ w.if-is_kept.true)
+          (sym (ap is_some (c.loop-place.invariant.1 w.as_str-else-has.result.now)) ∙ sym w.is_kept.ensures
+          ∙ w.if-is_kept.true)
     ])
 
 pub loop-place-preserved : goal.loop-place-preserved
@@ -32,11 +34,13 @@ loop-place-preserved c =
     let at = c.index-handlers-place.is in
     let own = c.as_str-else-has.ensures ∙ c.command-name.ensures in
     let name = c.as_str-else-has.result.now in
-    let told = ap (λ n. is_reserved n || is_some (handler_named n live)) (c.as_str-else-has.ensures ∙ sym c.as_str.ensures)
+    let told = ap (λ n. is_reserved n || is_some (handler_named n live))
+    (c.as_str-else-has.ensures ∙ sym c.as_str.ensures)
     ∙ sym c.has.ensures ∙ c.if-has.false in
     let free = sym (ap is_some (c.loop-place.invariant.1 name)) ∙ sym c.is_kept.ensures ∙ c.if-is_kept.false in (
       free_here live hs i h below at name own told free ∙ c.loop-place.invariant.0,
       kept_here live hs i h below at c.in_ok-copied.field-0 (c.in_ok-copied.ensures ∙ c.command-name.ensures)
           c.loop-place.names c.keep.new.self c.loop-place.invariant.1 c.in_ok-keep.ensures
-          (ap (λ n. is_some (handler_named n (take i hs))) (c.in_ok-copied.ensures ∙ sym c.as_str-else-has.ensures) ∙ free),
+          (ap (λ n. is_some (handler_named n (take i hs))) (c.in_ok-copied.ensures ∙ sym c.as_str-else-has.ensures)
+          ∙ free),
     )
