@@ -1,7 +1,8 @@
 -- The number of each fault of a registry.
 use Rattle.std.specs.Prelude.{ℕ}
 use Rattle.kb_registry.specs.declared.fault.RegistryFault.{RegistryFault}
-use Rattle.kb_registry.specs.declared.fault.RegistryFault.TheVariants.{AlreadyExists, Exhausted, StaleTicket, InUse}
+use Rattle.kb_registry.specs.declared.fault.RegistryFault.TheVariants.{AlreadyExists, Exhausted, StaleTicket}
+use Rattle.kb_registry.specs.declared.fault.RegistryFault.TheVariants.{InUse}
 
 abbrev pub number_of : RegistryFault → ℕ
 number_of AlreadyExists = 70

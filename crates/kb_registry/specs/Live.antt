@@ -10,7 +10,8 @@ use Rattle.kb_code.specs.Handler.{HandlerData}
 use Rattle.kb_codes.specs.Live.{Group, handlers_in, handler_named, caller_of, has_taken, with_handlers}
 use Rattle.kb_codes.specs.Live.{without_group}
 use Rattle.kb_registry.specs.declared.fault.RegistryFault.{RegistryFault}
-use Rattle.kb_registry.specs.declared.fault.RegistryFault.TheVariants.{AlreadyExists, Exhausted, StaleTicket, InUse}
+use Rattle.kb_registry.specs.declared.fault.RegistryFault.TheVariants.{AlreadyExists, Exhausted, StaleTicket}
+use Rattle.kb_registry.specs.declared.fault.RegistryFault.TheVariants.{InUse}
 
 -- whether two natives are one, as `==` finds it
 abbrev pub same_native : Native → Native → Bool

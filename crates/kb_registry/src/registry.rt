@@ -38,8 +38,9 @@ pub struct Entry<C> {
     command: C,
 }
 
-/// The live closures of a host, at most one for each native, and the live handlers. Contracts see which natives
-/// are live under which tickets, how many registrations were made, how many may be, and which handlers are live.
+/// The live closures of a host, at most one for each native, and the live handlers. Contracts see which
+/// natives are live under which tickets, how many registrations were made and may be, and which handlers are
+/// live.
 #[derive(Drop)]
 pub struct Registry<C: HostCommand> {
     alloc: Global,
@@ -229,8 +230,8 @@ impl<C: HostCommand> Registry<C> {
         }
     }
 
-    /// The first live handler, in load and file order, that calls a native, or `None` where none does. It takes
-    /// no memory.
+    /// The first live handler, in load and file order, that calls a native, or `None` where none does. It
+    /// takes no memory.
     pub fn caller_of(&self, native: Native) -> Option<&Handler>
         ensures { option_copied result ≡ caller_of native self.now.code }
     {
@@ -238,8 +239,8 @@ impl<C: HostCommand> Registry<C> {
     }
 
     /// Takes the closure with a ticket away and gives it back; the ticket is without one from then on, and
-    /// other tickets mean what they meant. Refused by 72 or 73 as `disposal_fault` says; then the registry stays
-    /// as it was. It takes no memory.
+    /// other tickets mean what they meant. Refused by 72 or 73 as `disposal_fault` says; then the registry
+    /// stays as it was. It takes no memory.
     pub fn dispose(&mut self, ticket: Ticket) -> Result<C, RegistryFault>
         ensures closure { IfOk result (λ command. holder ticket.0 self.old ≡ Some (C.stands_for command)) }
         ensures allowed { OnOk result (disposal_fault ticket.0 self.old ≡ None) }
@@ -338,9 +339,9 @@ impl<C: HostCommand> Registry<C> {
         self.code.handler(command)
     }
 
-    /// Makes the handlers of an extension live, which is numbered in load order. They are handed back as refused
-    /// by 70, where one has the name of a native command, of `runCommands`, or of another handler that is live or
-    /// comes with it, or where memory is refused; then the registry stays as it was.
+    /// Makes the handlers of an extension live, which is numbered in load order. They are handed back as
+    /// refused by 70, where one has the name of a native command, of `runCommands`, or of another handler that
+    /// is live or comes with it, or where memory is refused; then the registry stays as it was.
     pub fn register_code(
         &mut self,
         extension: u32,

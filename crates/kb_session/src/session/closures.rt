@@ -62,7 +62,7 @@ impl<C: HostCommand> Session<C> {
         }
         match self.registry.holder(ticket) {
             Some(native) => self.release_unless_called(native, ticket),
-            None => Err(self.refuse(Refusal::of(RegistryFault::StaleTicket.number()))),
+            None => Err(self.refuse_disposal(Refusal::of(RegistryFault::StaleTicket.number()))),
         }
     }
 
@@ -78,7 +78,7 @@ impl<C: HostCommand> Session<C> {
             return self.release(native, ticket);
         };
         match caller.command().copied() {
-            Ok(command) => Err(self.refuse(Refusal {
+            Ok(command) => Err(self.refuse_disposal(Refusal {
                 number: RegistryFault::InUse.number(),
                 detail: Some(command),
             })),
@@ -87,7 +87,7 @@ impl<C: HostCommand> Session<C> {
     }
 
     /// Notes the line of a refusal, and gives the refusal, or stops the session where memory is refused.
-    fn refuse(&mut self, refusal: Refusal) -> SessionFault
+    fn refuse_disposal(&mut self, refusal: Refusal) -> SessionFault
         requires running { self.old.state.stopped ≡ false }
         ensures { (told : Told) → step_on told self.old.state ≡ refuse refusal self.old.state
             → RefusesAt result told self.old self.new }
