@@ -67,6 +67,13 @@ pub fn fault_name(number: u32) -> &'static str
         70 => "AlreadyExists",
         71 => "Exhausted",
         72 => "StaleTicket",
+        73 => "InUse",
+        80 => "MissingOperand",
+        81 => "UnknownCommand",
+        82 => "WrongArgument",
+        83 => "OutOfBudget",
+        84 => "TooDeep",
+        85 => "BadCode",
         90 => "MissingDependency",
         91 => "DuplicateExtension",
         97 => "Stopped",
@@ -74,6 +81,7 @@ pub fn fault_name(number: u32) -> &'static str
         100 => "TooLong",
         101 => "ReadFailed",
         102 => "WriteFailed",
+        103 => "Trapped",
         _ => "",
     }
 }
