@@ -1,0 +1,6 @@
+pub mod Ends
+pub mod Fitting
+pub mod Bound
+pub mod Frames
+pub mod Turns
+pub mod Starts
