@@ -4,3 +4,4 @@ pub mod Bound
 pub mod Frames
 pub mod Turns
 pub mod Starts
+pub mod VmRows

@@ -1,5 +1,6 @@
 -- What one instruction does, where its frame may pay for it.
-use Rattle.std.specs.Prelude.{ℕ, true, false, nat_lt, if◌then◌else◌, List, [], ◌∷◌, length, reverse, take, drop}
+use Rattle.std.specs.Prelude.{ℕ, true, false, nat_lt, if◌then◌else◌, List, [], ◌∷◌, length}
+use Rattle.std.specs.Prelude.{reverse, take, drop}
 use Rattle.std.specs.Prelude.{Option, Some, None, option_map, slice_get, pos}
 use Rattle.std.specs.FinMap as fin_map
 use Rattle.kb_context.specs.Scopes.{context}
@@ -11,7 +12,8 @@ use Rattle.kb_code.specs.declared.instr.Instr.{Instr}
 use Rattle.kb_code.specs.declared.instr.Instr.TheVariants as i
 use Rattle.kb_code.specs.Handler.{HandlerData}
 use Rattle.kb_vm.specs.declared.trap.Trap.{Trap}
-use Rattle.kb_vm.specs.declared.trap.Trap.TheVariants.{MissingOperand, UnknownCommand, WrongArgument, TooDeep, BadCode}
+use Rattle.kb_vm.specs.declared.trap.Trap.TheVariants.{MissingOperand, UnknownCommand, WrongArgument}
+use Rattle.kb_vm.specs.declared.trap.Trap.TheVariants.{TooDeep, BadCode}
 use Rattle.kb_vm.specs.declared.values.One.{One}
 use Rattle.kb_vm.specs.declared.values.One.TheVariants as one
 use Rattle.kb_vm.specs.declared.values.Two.{Two}

@@ -94,8 +94,8 @@ run table h args left place operands w = go (suc left) table h args left place o
 
 -- a run is one instruction, and then a run: nobody need trust the bound
 abbrev pub RunsByStep : Type 0
-RunsByStep = (table : Table) (h : HandlerData) (args : List Arg) (left place : ℕ) (operands : List Arg) (w : World)
-    → run table h args left place operands w ≡ step table (run table) h args left place operands w
+RunsByStep = (table : Table) (h : HandlerData) (args : List Arg) (left place : ℕ) (operands : List Arg)
+    (w : World) → run table h args left place operands w ≡ step table (run table) h args left place operands w
 
 -- a live command from the start, where its arguments fit it
 abbrev pub start_callee : Table → List ℕ → Callee → List Arg → World → Answer

@@ -59,7 +59,8 @@ Pays m (turn.NoMemory n) = Spends m n
 -- the answer of an effect, for the frame of a machine and those that wait
 abbrev pub rest_of : Table → Machine → Effect → World → Answer
 rest_of table m e w =
-    finish table m.callers.items (follow (run table) m.frame.handler m.frame.args m.frame.left m.frame.place w e)
+    finish table m.callers.items
+    (follow (run table) m.frame.handler m.frame.args m.frame.left m.frame.place w e)
 
 -- what is left to do, where a native is called first
 abbrev pub after_native : Table → Machine → Native → List Arg → World → Answer
@@ -68,7 +69,8 @@ after_native table m native args w = rest table m (native_called native args w)
 -- the same, where a handler is run first
 abbrev pub after_coded : Table → Machine → HandlerData → List Arg → World → Answer
 after_coded table m h args w =
-    finish table m.callers.items (and_then (run table h args h.signature.budget 0 [] w) (resume table m.frame))
+    finish table m.callers.items
+    (and_then (run table h args h.signature.budget 0 [] w) (resume table m.frame))
 
 -- what a turn costs, where a callee may cost so much
 abbrev pub PaysFrom : ℕ → Machine → Turn → Type 0
@@ -87,8 +89,9 @@ fetched_at (Some instr) (suc left) = Ok instr
 -- what is left to do, where an instruction is paid for and done first
 abbrev pub after_instr : Table → Machine → Instr → World → Answer
 after_instr table m instr w =
-    finish table m.callers.items (follow (run table) m.frame.handler m.frame.args (m.frame.left - 1) m.frame.place
-    (counted w) (effect table m.frame.handler m.frame.args w.core m.frame.operands instr))
+    let f = m.frame in
+    let e = effect table f.handler f.args w.core f.operands instr in
+    finish table m.callers.items (follow (run table) f.handler f.args (f.left - 1) f.place (counted w) e)
 
 -- the machine at the start of a handler
 pub record Begins (h : HandlerData) (args : List Arg) (core : Core) (m : Machine) : Type 0 where

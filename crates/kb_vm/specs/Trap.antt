@@ -1,8 +1,8 @@
 -- The number of each trap.
 use Rattle.std.specs.Prelude.{ℕ}
 use Rattle.kb_vm.specs.declared.trap.Trap.{Trap}
-use Rattle.kb_vm.specs.declared.trap.Trap.TheVariants.{MissingOperand, UnknownCommand, WrongArgument, OutOfBudget}
-use Rattle.kb_vm.specs.declared.trap.Trap.TheVariants.{TooDeep, BadCode}
+use Rattle.kb_vm.specs.declared.trap.Trap.TheVariants.{MissingOperand, UnknownCommand, WrongArgument}
+use Rattle.kb_vm.specs.declared.trap.Trap.TheVariants.{OutOfBudget, TooDeep, BadCode}
 
 abbrev pub number_of : Trap → ℕ
 number_of MissingOperand = 80

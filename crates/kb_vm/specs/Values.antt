@@ -1,5 +1,6 @@
 -- What instructions make of values.
-use Rattle.std.specs.Prelude.{ℕ, List, [], ◌∷◌, ◌++◌, Bool, true, false, not, length, min, ◌^◌, ◌-◌, Option, Some, None, codes}
+use Rattle.std.specs.Prelude.{ℕ, List, [], ◌∷◌, ◌++◌, Bool, true, false, not, length, min}
+use Rattle.std.specs.Prelude.{◌^◌, ◌-◌, Option, Some, None, codes}
 use Rattle.std.specs.Prelude.{bytes_eq, ℤ, pos, ◌+ℤ◌, ◌-ℤ◌, int_lt}
 use Rattle.std.specs.Fmt.{signed_decimal}
 use Rattle.std.specs.Int.{saturate_signed, w64}

@@ -2,7 +2,8 @@
 ghost use Rattle.std.specs.Prelude.{◌≡◌, ◌<◌, IfOk, option_map, slice_get, length};
 ghost use Rattle.kb_vm.specs.Action.{Does, IsReady, IsCallable};
 ghost use Rattle.kb_vm.specs.Callee.{declared_by};
-ghost use Rattle.kb_vm.specs.Effect.{effect, pushed, pushed_at, pushed_context, dropped, doubled, swapped, made};
+ghost use Rattle.kb_vm.specs.Effect.{effect, pushed, pushed_at, pushed_context, dropped, doubled};
+ghost use Rattle.kb_vm.specs.Effect.{swapped, made};
 ghost use Rattle.kb_vm.specs.Effect.{with_one, with_two, branched, entered, called};
 ghost use Rattle.kb_vm.specs.Found.{callee_of};
 ghost use Rattle.kb_vm.specs.Operand.{arg_of};

@@ -46,7 +46,8 @@ impl<'r> Linked<'r> {
         self.handler
     }
 
-    /// The name at an index in the list of calls, and the native of that name, if there is one. It takes no memory.
+    /// The name at an index in the list of calls, and the native of that name, if there is one. It takes no
+    /// memory.
     pub(crate) fn call(&self, index: usize) -> (&'r Text, Option<Native>)
         requires { index < length self.now.calls }
         ensures name { slice_get self.now.calls index ≡ Some result.0.now }

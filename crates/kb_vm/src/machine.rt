@@ -147,8 +147,8 @@ fn enter_native<'r, 'a, L: Commands>(
     requires fit { fits (parameters_of native) given ≡ true }
     requires room { machine.spent + budget_of native < 2 ^ 64 }
     ensures turned { (w : World) → Shows w machine.entry.core machine.entry.lines machine.entry.spent
-        → TurnedFrom (L.live commands.now) (after_native (L.live commands.now) machine.entry native given.entry w)
-        result }
+        → TurnedFrom (L.live commands.now)
+        (after_native (L.live commands.now) machine.entry native given.entry w) result }
     ensures pays { PaysFrom (budget_of native) machine.entry result }
 {
     let Machine {

@@ -18,10 +18,10 @@ use kb_stream::Lines;
 use std::alloc::Global;
 
 /// Starts a command with arguments on a core. A native costs what its closure answers. A handler runs until
-/// it ends or traps, or until memory is refused; each instruction that is begun costs 1, also one that traps, and
-/// each native that is called what its closure answers. A callee's budget is taken from its caller's allowance
-/// whatever it costs, and so the whole costs at most the started command's budget. Arguments that don't fit the
-/// command are a trap at place 0 (our decisions).
+/// it ends or traps, or until memory is refused. Each instruction that is begun costs 1, also one that traps,
+/// and each native that is called what its closure answers. A callee's budget is taken from its caller's
+/// allowance whatever it costs, and so the whole costs at most the started command's budget. Arguments that
+/// don't fit the command are a trap at place 0 (our decisions).
 pub fn start<'r, L: Commands>(
     alloc: Global,
     commands: &'r L,

@@ -15,8 +15,8 @@ pub enum Trap {
     OutOfBudget,
     /// The command that is called nests its calls as deep as its caller, or deeper.
     TooDeep,
-    /// There is no instruction, text or argument at a place or index, a jump doesn't lead to a later place, or
-    /// there is no room for an operand.
+    /// There is no instruction, text or argument at a place or index, a jump doesn't lead to a later place,
+    /// or there is no room for an operand.
     BadCode,
 }
 

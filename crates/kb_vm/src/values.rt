@@ -5,7 +5,8 @@ ghost use Rattle.std.specs.Str.{chars};
 ghost use Rattle.kb_context.specs.Scopes.{context};
 ghost use Rattle.std.specs.FinMap as fin_map;
 ghost use Rattle.kb_vm.specs.Operand.{arg_of};
-ghost use Rattle.kb_vm.specs.Values.{one_of, two_of, size_of, shown, is_true, number_in, is_same, joined, context_arg};
+ghost use Rattle.kb_vm.specs.Values.{one_of, two_of, size_of, shown, is_true, number_in, is_same};
+ghost use Rattle.kb_vm.specs.Values.{context_arg};
 
 use crate::arena::Arena;
 use crate::operands::Operand;
