@@ -2,7 +2,7 @@
 use Rattle.std.proofs.Common.{◌≡◌, ◌≤◌, ℕ, ◌-◌, List, ◌++◌, length, take, drop, map, sym, ap, ◌∙◌, arith}
 use Rattle.std.proofs.Common.{length-drop}
 use Rattle.std.specs.Prelude.{reverse}
-use Rattle.std.proofs.lemmas.List.{take-append-drop, reverse-append, reverse-reverse, length-reverse, length-map, drop-map, take-map}
+use Rattle.std.proofs.lemmas.List.{take-append-drop, reverse-append, reverse-reverse, length-reverse, length-map, drop-map, take-map, take_all}
 use Rattle.std.proofs.Math.Seq.{take-append_seam, drop-append_seam}
 
 split : {X : Type 0} (xs : List X) (at : ℕ) → reverse xs ≡ reverse (drop at xs) ++ reverse (take at xs)
@@ -39,6 +39,12 @@ module _ {X Y : Type 0} (f : X → Y) (xs : List X) (ys : List Y) (n at : ℕ) w
       sym (drop-map f at xs)
       ∙ taken (map f xs) n at (omega (arith, same_length e)) (is ∙ ap (λ m. m - n) (sym (length-map xs f)))
       ∙ ap (λ zs. reverse (take n zs)) e
+
+  pub topmost_seen : reverse (map f xs) ≡ ys → n ≤ length ys → at ≡ length xs - n
+      → map f (take (length xs - at) (drop at xs)) ≡ reverse (take n ys)
+  topmost_seen e le is =
+      let all : length (drop at xs) ≤ length xs - at = omega (arith, length-drop at xs) in
+      ap (map f) (take_all (length xs - at) (drop at xs) all) ∙ taken_seen e le is
 
   pub kept_seen : reverse (map f xs) ≡ ys → n ≤ length ys → at ≡ length xs - n
       → reverse (map f (take at xs)) ≡ drop n ys

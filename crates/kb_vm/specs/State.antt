@@ -1,6 +1,6 @@
 -- What the machine's state stands for: what is left to do from it.
 use Rattle.std.specs.Prelude.{◌≡◌, ℕ, zero, suc, ◌+◌, ◌-◌, ◌≤◌, ◌<◌, List, [], ◌∷◌, sum_by}
-use Rattle.std.specs.Prelude.{Option, Some, None, Result, Ok, Err}
+use Rattle.std.specs.Prelude.{Option, Some, None, Result, Ok, Err, length, drop}
 use Rattle.kb_core.specs.declared.arg.Arg.{Arg}
 use Rattle.kb_core.specs.declared.native.Native.{Native}
 use Rattle.kb_core.specs.declared.run.Core.{Core}
@@ -12,8 +12,8 @@ use Rattle.kb_vm.specs.declared.machine.Frame.{Frame}
 use Rattle.kb_vm.specs.declared.machine.Machine.{Machine}
 use Rattle.kb_vm.specs.declared.machine.Turn.{Turn}
 use Rattle.kb_vm.specs.declared.machine.Turn.TheVariants as turn
-use Rattle.kb_vm.specs.Callee.{Table}
-use Rattle.kb_vm.specs.Effect.{Effect, effect}
+use Rattle.kb_vm.specs.Callee.{Callee, Table, declared_by}
+use Rattle.kb_vm.specs.Effect.{Effect, Enter, effect, topmost}
 use Rattle.kb_vm.specs.Meaning.{World, Answer, Done, Stuck, and_then, run, follow, native_called, counted}
 use Rattle.kb_vm.specs.Outcome.{Shows, BeginsWith, lines_of}
 
@@ -71,6 +71,13 @@ abbrev pub after_coded : Table → Machine → HandlerData → List Arg → Worl
 after_coded table m h args w =
     finish table m.callers.items
     (and_then (run table h args h.signature.budget 0 [] w) (resume table m.frame))
+
+-- the same, where a command is called with the topmost operands
+abbrev pub after_call : Table → Machine → List ℕ → Callee → World → Answer
+after_call table m name callee w =
+    let n = length (declared_by callee).params in
+    let operands = m.frame.operands in
+    rest_of table m (Enter name callee (topmost n operands) (drop n operands)) w
 
 -- what a turn costs, where a callee may cost so much
 abbrev pub PaysFrom : ℕ → Machine → Turn → Type 0

@@ -1,6 +1,6 @@
 //! What one instruction does.
-ghost use Rattle.std.specs.Prelude.{◌≡◌, ◌<◌, IfOk, option_map, slice_get, length};
-ghost use Rattle.kb_vm.specs.Action.{Does, IsReady, IsCallable};
+ghost use Rattle.std.specs.Prelude.{◌≡◌, ◌<◌, false, true, IfOk, OnErr, option_map, slice_get, length};
+ghost use Rattle.kb_vm.specs.Action.{Does, IsReady, IsCallable, MayLackMemory, is_stop};
 ghost use Rattle.kb_vm.specs.Callee.{declared_by};
 ghost use Rattle.kb_vm.specs.Effect.{effect, pushed, pushed_at, pushed_context, dropped, doubled};
 ghost use Rattle.kb_vm.specs.Effect.{swapped, made};
@@ -8,11 +8,13 @@ ghost use Rattle.kb_vm.specs.Effect.{with_one, with_two, branched, entered, call
 ghost use Rattle.kb_vm.specs.Found.{callee_of};
 ghost use Rattle.kb_vm.specs.Operand.{arg_of};
 ghost use Rattle.kb_vm.specs.Values.{size_of};
+ghost use Rattle.kb_vm.specs.declared.values.One.TheVariants.{Show};
+ghost use Rattle.kb_vm.specs.declared.values.Two.TheVariants.{Join};
 ghost use Rattle.kb_core.specs.declared.arg.Arg.TheVariants as arg;
 
 use crate::arena::Arena;
 use crate::commands::{Commands, Found, Linked};
-use crate::given::Given;
+use crate::given::{Given, fits};
 use crate::operands::{Operand, Operands};
 use crate::trap::Trap;
 use crate::values::{One, Two, context, made_of_one, made_of_two, size_of};
@@ -22,7 +24,7 @@ use kb_core::Core;
 
 /// What follows an instruction.
 #[derive(Drop)]
-pub(crate) enum Action<'r, 'a> {
+pub(crate) enum Action<'r> {
     /// The handler can't go on.
     Stop(Trap),
     /// The handler ends.
@@ -31,12 +33,12 @@ pub(crate) enum Action<'r, 'a> {
     Next,
     /// The instruction at this place, if it is a later one.
     Goto(usize),
-    /// A command of this name, which is called with these arguments.
-    Enter(&'r Text, Found<'r>, Given<'a>),
+    /// A command of this name, which is called with the topmost operands.
+    Enter(&'r Text, Found<'r>),
 }
 
 /// Puts a value on top.
-fn push<'r, 'a>(operands: &mut Operands<'a>, value: Operand<'a>) -> Action<'r, 'a>
+fn push<'r, 'a>(operands: &mut Operands<'a>, value: Operand<'a>) -> Action<'r>
     ensures { Does (pushed (arg_of value.entry) operands.old) result operands.new }
 {
     if operands.len() < 64 {
@@ -48,11 +50,7 @@ fn push<'r, 'a>(operands: &mut Operands<'a>, value: Operand<'a>) -> Action<'r, '
 }
 
 /// Puts a text of the handler on top.
-fn push_text<'r: 'a, 'a>(
-    operands: &mut Operands<'a>,
-    texts: &'r [Text],
-    index: u16,
-) -> Action<'r, 'a>
+fn push_text<'r: 'a, 'a>(operands: &mut Operands<'a>, texts: &'r [Text], index: u16) -> Action<'r>
     ensures { Does (pushed_at (option_map arg.Text (slice_get texts.now index)) operands.old)
         result operands.new }
 {
@@ -63,7 +61,7 @@ fn push_text<'r: 'a, 'a>(
 }
 
 /// Puts an argument on top.
-fn push_arg<'r, 'a>(operands: &mut Operands<'a>, args: &Given<'a>, index: u16) -> Action<'r, 'a>
+fn push_arg<'r, 'a>(operands: &mut Operands<'a>, args: &Given<'a>, index: u16) -> Action<'r>
     ensures { Does (pushed_at (slice_get args.now index) operands.old) result operands.new }
 {
     match args.get(usize::from(index)) {
@@ -79,10 +77,15 @@ fn push_context<'r, 'a>(
     core: &Core,
     texts: &'r [Text],
     index: u16,
-) -> Result<Action<'r, 'a>, NoMemory>
-    ensures { IfOk result (λ a. Does (pushed_context core.now (slice_get texts.now index) operands.old)
+) -> Result<Action<'r>, NoMemory>
+    ensures does { IfOk result (λ a. Does (pushed_context core.now (slice_get texts.now index) operands.old)
         a operands.new) }
+    ensures memory { OnErr result (is_stop (pushed_context core.now (slice_get texts.now index) operands.old)
+        ≡ false) }
 {
+    if operands.len() >= 64 {
+        return Ok(Action::Stop(Trap::BadCode));
+    }
     match texts.get(usize::from(index)) {
         Some(key) => {
             let value = context(arena, &core.scopes, key.as_str())?;
@@ -93,7 +96,7 @@ fn push_context<'r, 'a>(
 }
 
 /// Drops the topmost operand.
-fn drop_top<'r, 'a>(operands: &mut Operands<'a>) -> Action<'r, 'a>
+fn drop_top<'r, 'a>(operands: &mut Operands<'a>) -> Action<'r>
     ensures { Does (dropped operands.old) result operands.new }
 {
     match operands.pop() {
@@ -103,7 +106,7 @@ fn drop_top<'r, 'a>(operands: &mut Operands<'a>) -> Action<'r, 'a>
 }
 
 /// Puts the topmost operand on top once more.
-fn double<'r, 'a>(operands: &mut Operands<'a>) -> Action<'r, 'a>
+fn double<'r, 'a>(operands: &mut Operands<'a>) -> Action<'r>
     ensures { Does (doubled operands.old) result operands.new }
 {
     let Some(x) = operands.pop() else {
@@ -119,7 +122,7 @@ fn double<'r, 'a>(operands: &mut Operands<'a>) -> Action<'r, 'a>
 }
 
 /// Exchanges the two topmost operands.
-fn swap<'r, 'a>(operands: &mut Operands<'a>) -> Action<'r, 'a>
+fn swap<'r, 'a>(operands: &mut Operands<'a>) -> Action<'r>
     ensures { Does (swapped operands.old) result operands.new }
 {
     let (Some(y), Some(x)) = (operands.pop(), operands.pop()) else {
@@ -131,7 +134,7 @@ fn swap<'r, 'a>(operands: &mut Operands<'a>) -> Action<'r, 'a>
 }
 
 /// Puts what was made on top.
-fn put<'r, 'a>(operands: &mut Operands<'a>, value: Option<Operand<'a>>) -> Action<'r, 'a>
+fn put<'r, 'a>(operands: &mut Operands<'a>, value: Option<Operand<'a>>) -> Action<'r>
     requires { length operands.old < 64 }
     ensures { Does (made (option_map arg_of value.entry) operands.old) result operands.new }
 {
@@ -149,8 +152,10 @@ fn apply_one<'r, 'a>(
     arena: &'a Arena,
     operands: &mut Operands<'a>,
     what: One,
-) -> Result<Action<'r, 'a>, NoMemory>
-    ensures { IfOk result (λ a. Does (with_one what operands.old) a operands.new) }
+) -> Result<Action<'r>, NoMemory>
+    ensures does { IfOk result (λ a. Does (with_one what operands.old) a operands.new) }
+    ensures shows { OnErr result (what ≡ Show) }
+    ensures memory { OnErr result (is_stop (with_one what operands.old) ≡ false) }
 {
     let Some(x) = operands.pop() else {
         return Ok(Action::Stop(Trap::MissingOperand));
@@ -164,8 +169,10 @@ fn apply_two<'r, 'a>(
     arena: &'a Arena,
     operands: &mut Operands<'a>,
     what: Two,
-) -> Result<Action<'r, 'a>, NoMemory>
-    ensures { IfOk result (λ a. Does (with_two what operands.old) a operands.new) }
+) -> Result<Action<'r>, NoMemory>
+    ensures does { IfOk result (λ a. Does (with_two what operands.old) a operands.new) }
+    ensures joins { OnErr result (what ≡ Join) }
+    ensures memory { OnErr result (is_stop (with_two what operands.old) ≡ false) }
 {
     let Some(y) = operands.pop() else {
         return Ok(Action::Stop(Trap::MissingOperand));
@@ -178,7 +185,7 @@ fn apply_two<'r, 'a>(
 }
 
 /// Takes a truth value, and goes on at a place if it is false.
-fn branch<'r, 'a>(operands: &mut Operands<'a>, to: u16) -> Action<'r, 'a>
+fn branch<'r, 'a>(operands: &mut Operands<'a>, to: u16) -> Action<'r>
     ensures { Does (branched to operands.old) result operands.new }
 {
     match operands.pop() {
@@ -190,44 +197,38 @@ fn branch<'r, 'a>(operands: &mut Operands<'a>, to: u16) -> Action<'r, 'a>
 }
 
 /// Calls a live command from a handler of this depth.
-fn enter<'r, 'a>(
-    operands: &mut Operands<'a>,
-    depth: u8,
-    name: &'r Text,
-    callee: Found<'r>,
-) -> Result<Action<'r, 'a>, NoMemory>
-    ensures does { IfOk result (λ a. Does (entered depth name.now (callee_of callee.entry) operands.old)
-        a operands.new) }
-    ensures ready { (table : _) → IsCallable table (callee_of callee.entry) → IfOk result (IsReady table) }
+fn enter<'r>(operands: &Operands<'_>, depth: u8, name: &'r Text, callee: Found<'r>) -> Action<'r>
+    ensures does { Does (entered depth name.now (callee_of callee.entry) operands.now) result operands.now }
+    ensures ready { (table : _) → IsCallable table (callee_of callee.entry)
+        → IsReady table result operands.now }
 {
     let count = callee.params();
     if operands.len() < count {
-        return Ok(Action::Stop(Trap::MissingOperand));
+        return Action::Stop(Trap::MissingOperand);
     }
-    let given = operands.take(count)?;
-    if !given.fits(&callee) {
-        return Ok(Action::Stop(Trap::WrongArgument));
+    if !fits(&callee, operands.topmost(count)) {
+        return Action::Stop(Trap::WrongArgument);
     }
     if callee.depth() < depth {
-        Ok(Action::Enter(name, callee, given))
+        Action::Enter(name, callee)
     } else {
-        Ok(Action::Stop(Trap::TooDeep))
+        Action::Stop(Trap::TooDeep)
     }
 }
 
 /// Calls the command that a handler's list of calls names at an index.
-fn call<'r, 'a, L: Commands>(
+fn call<'r, L: Commands>(
     commands: &'r L,
     handler: &Linked<'r>,
-    operands: &mut Operands<'a>,
+    operands: &Operands<'_>,
     index: u16,
-) -> Result<Action<'r, 'a>, NoMemory>
-    ensures does { IfOk result (λ a. Does (called (L.live commands.now) handler.now.signature.depth
-        (slice_get handler.now.calls index) operands.old) a operands.new) }
-    ensures ready { IfOk result (IsReady (L.live commands.now)) }
+) -> Action<'r>
+    ensures does { Does (called (L.live commands.now) handler.now.signature.depth
+        (slice_get handler.now.calls index) operands.now) result operands.now }
+    ensures ready { IsReady (L.live commands.now) result operands.now }
 {
     if usize::from(index) >= handler.handler().calls().len() {
-        return Ok(Action::Stop(Trap::UnknownCommand));
+        return Action::Stop(Trap::UnknownCommand);
     }
     let (name, native) = handler.call(usize::from(index));
     match commands.command(name.as_str(), native) {
@@ -237,7 +238,7 @@ fn call<'r, 'a, L: Commands>(
             name,
             callee,
         ),
-        None => Ok(Action::Stop(Trap::UnknownCommand)),
+        None => Action::Stop(Trap::UnknownCommand),
     }
 }
 
@@ -250,10 +251,12 @@ pub(crate) fn perform<'r: 'a, 'a, L: Commands>(
     core: &Core,
     operands: &mut Operands<'a>,
     instr: Instr,
-) -> Result<Action<'r, 'a>, NoMemory>
+) -> Result<Action<'r>, NoMemory>
     ensures does { IfOk result (λ a. Does (effect (L.live commands.now) handler.now args.now core.now
         operands.old instr) a operands.new) }
-    ensures ready { IfOk result (IsReady (L.live commands.now)) }
+    ensures ready { IfOk result (λ a. IsReady (L.live commands.now) a operands.new) }
+    ensures memory { OnErr result (MayLackMemory instr (effect (L.live commands.now) handler.now args.now
+        core.now operands.old instr)) }
 {
     match instr {
         Instr::Return => Ok(Action::Leave),
@@ -276,7 +279,7 @@ pub(crate) fn perform<'r: 'a, 'a, L: Commands>(
         Instr::Number => apply_one(arena, operands, One::AsNumber),
         Instr::Jump(to) => Ok(Action::Goto(usize::from(to))),
         Instr::JumpIfFalse(to) => Ok(branch(operands, to)),
-        Instr::Call(n) => call(commands, handler, operands, n),
+        Instr::Call(n) => Ok(call(commands, handler, operands, n)),
         Instr::Context(n) => push_context(arena, operands, core, handler.handler().texts(), n),
         Instr::Before => Ok(push(
             operands,

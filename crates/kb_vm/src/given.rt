@@ -74,17 +74,15 @@ impl<'a> Given<'a> {
         }
         Ok(args)
     }
+}
 
-    /// Whether they fit a command. It takes no memory.
-    pub(crate) fn fits(&self, callee: &Found<'_>) -> bool
-        ensures { result ≡ fits (declared_by (callee_of callee.now)).params self.now }
-    {
-        match callee {
-            Found::Plain(native) => fits_named(native.params(), self.as_slice()),
-            Found::Coded(linked) => {
-                fits_params(linked.handler().signature().params(), self.as_slice())
-            }
-        }
+/// Whether values fit a command. It takes no memory.
+pub(crate) fn fits(callee: &Found<'_>, values: &[Operand<'_>]) -> bool
+    ensures { result ≡ fits (declared_by (callee_of callee.now)).params (map arg_of values.now) }
+{
+    match callee {
+        Found::Plain(native) => fits_named(native.params(), values),
+        Found::Coded(linked) => fits_params(linked.handler().signature().params(), values),
     }
 }
 

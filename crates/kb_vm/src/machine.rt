@@ -3,7 +3,7 @@ ghost use Rattle.std.specs.Prelude.{◌≡◌, ◌≤◌, ◌<◌, ◌+◌, ◌^
 ghost use Rattle.kb_core.specs.Native.{budget_of, parameters_of};
 ghost use Rattle.kb_core.specs.Ran.{Does};
 ghost use Rattle.kb_core.specs.Signature.{fits};
-ghost use Rattle.kb_vm.specs.Action.{Does as Performs, IsCallable, IsReady};
+ghost use Rattle.kb_vm.specs.Action.{Does as Performs, HasArguments, IsCallable, IsReady};
 ghost use Rattle.kb_vm.specs.Callee.{IsLive, declared_by};
 ghost use Rattle.kb_vm.specs.Effect.{Effect, Enter, Goto};
 ghost use Rattle.kb_vm.specs.Found.{callee_of};
@@ -11,7 +11,7 @@ ghost use Rattle.kb_vm.specs.Leave.{Left};
 ghost use Rattle.kb_vm.specs.Meaning.{World, run, first_world};
 ghost use Rattle.kb_vm.specs.Outcome.{Shows, Ends};
 ghost use Rattle.kb_vm.specs.State.{Begins, Turned, TurnedFrom, Pays, PaysFrom, after_native, after_coded};
-ghost use Rattle.kb_vm.specs.State.{rest_of, credit, fetched_at, after_instr};
+ghost use Rattle.kb_vm.specs.State.{rest_of, credit, after_call, fetched_at, after_instr};
 
 use crate::action::{Action, perform};
 use crate::arena::Arena;
@@ -231,8 +231,8 @@ fn enter_coded<'r, 'a>(
     })
 }
 
-/// A command is called, if its frame can pay for it.
-fn enter_callee<'r, 'a, L: Commands>(
+/// A command is called with these arguments, for which its frame can pay: its line is written, and it runs.
+fn begin_call<'r, 'a, L: Commands>(
     alloc: Global,
     commands: &'r L,
     mut machine: Machine<'r, 'a>,
@@ -242,6 +242,7 @@ fn enter_callee<'r, 'a, L: Commands>(
 ) -> Turn<'r, 'a>
     requires callable { IsCallable (L.live commands.now) (callee_of callee) }
     requires fit { fits (declared_by (callee_of callee)).params given ≡ true }
+    requires paid { (declared_by (callee_of callee)).budget ≤ machine.frame.left }
     requires room { machine.spent + machine.frame.left < 2 ^ 64 }
     requires place { machine.frame.place + 1 < 2 ^ 64 }
     ensures turned { (w : World) → Shows w machine.entry.core machine.entry.lines machine.entry.spent
@@ -249,19 +250,42 @@ fn enter_callee<'r, 'a, L: Commands>(
         (Enter name.now (callee_of callee.entry) given.entry machine.entry.frame.operands) w) result }
     ensures pays { PaysFrom 0 machine.entry result }
 {
-    let most = callee.budget();
-    if machine.frame.left < most {
-        return Turn::Trapped(machine, Trap::OutOfBudget);
-    }
     let Ok(()) = call_line(&mut machine.lines, name.as_str(), &given) else {
         return Turn::NoMemory(machine);
     };
-    machine.frame.left -= most;
+    machine.frame.left -= callee.budget();
     machine.frame.place += 1;
     match callee {
         Found::Plain(native) => enter_native(alloc, commands, machine, native, given),
         Found::Coded(handler) => enter_coded(alloc, machine, handler, given),
     }
+}
+
+/// A command is called with the topmost operands, if its frame can pay for it.
+fn enter_callee<'r, 'a, L: Commands>(
+    alloc: Global,
+    commands: &'r L,
+    mut machine: Machine<'r, 'a>,
+    name: &'r Text,
+    callee: Found<'r>,
+) -> Turn<'r, 'a>
+    requires callable { IsCallable (L.live commands.now) (callee_of callee) }
+    requires arguments { HasArguments (callee_of callee) machine.frame.operands }
+    requires room { machine.spent + machine.frame.left < 2 ^ 64 }
+    requires place { machine.frame.place + 1 < 2 ^ 64 }
+    ensures turned { (w : World) → Shows w machine.entry.core machine.entry.lines machine.entry.spent
+        → TurnedFrom (L.live commands.now) (after_call (L.live commands.now) machine.entry name.now
+        (callee_of callee.entry) w) result }
+    ensures pays { PaysFrom 0 machine.entry result }
+{
+    if machine.frame.left < callee.budget() {
+        return Turn::Trapped(machine, Trap::OutOfBudget);
+    }
+    let count = callee.params();
+    let Ok(given) = machine.frame.operands.take(count) else {
+        return Turn::NoMemory(machine);
+    };
+    begin_call(alloc, commands, machine, name, callee, given)
 }
 
 /// Goes on at a place, if it is a later one.
@@ -283,9 +307,9 @@ fn act<'r, 'a, L: Commands>(
     alloc: Global,
     commands: &'r L,
     mut machine: Machine<'r, 'a>,
-    action: Action<'r, 'a>,
+    action: Action<'r>,
 ) -> Turn<'r, 'a>
-    requires ready { IsReady (L.live commands.now) action }
+    requires ready { IsReady (L.live commands.now) action machine.frame.operands }
     requires room { machine.spent + machine.frame.left < 2 ^ 64 }
     requires place { machine.frame.place + 1 < 2 ^ 64 }
     ensures turned { (w : World) → (e : Effect) → Performs e action.entry machine.entry.frame.operands
@@ -301,9 +325,7 @@ fn act<'r, 'a, L: Commands>(
             Turn::On(machine)
         }
         Action::Goto(to) => go_to(machine, to),
-        Action::Enter(name, callee, given) => {
-            enter_callee(alloc, commands, machine, name, callee, given)
-        }
+        Action::Enter(name, callee) => enter_callee(alloc, commands, machine, name, callee),
     }
 }
 

@@ -70,6 +70,15 @@ impl<'a> Operands<'a> {
         self.items.pop()
     }
 
+    /// So many of the topmost ones, in the order in which they were pushed. It takes no memory.
+    pub(crate) fn topmost(&self, count: usize) -> &[Operand<'a>]
+        requires { count ≤ length self.now }
+        ensures { map arg_of result.now ≡ reverse (take count self.now) }
+    {
+        let at = self.items.len() - count;
+        &self.items[at..]
+    }
+
     /// Takes so many of the topmost ones, in the order in which they were pushed.
     pub(crate) fn take(&mut self, count: usize) -> Result<Given<'a>, NoMemory>
         requires { count ≤ length self.old }

@@ -10,7 +10,7 @@ ghost use Rattle.kb_vm.specs.Outcome.{Ends, Gives};
 
 use crate::arena::Arena;
 use crate::commands::{Commands, Found};
-use crate::given::Given;
+use crate::given::{Given, fits};
 use crate::machine::{End, Outcome, run_handler};
 use crate::trap::Trap;
 use kb_core::{Args, Core, Native, Ran};
@@ -72,7 +72,7 @@ fn start_found<'r, L: Commands>(
     let Ok(given) = Given::lent(alloc, args.as_slice()) else {
         return unspent(alloc, core, End::NoMemory);
     };
-    if !given.fits(&callee) {
+    if !fits(&callee, given.as_slice()) {
         return unspent(alloc, core, End::Trap(Trap::WrongArgument, command, 0));
     }
     match callee {

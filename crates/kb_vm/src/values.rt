@@ -1,10 +1,12 @@
 //! What instructions make of values.
 ghost use Rattle.std.specs.Prelude.{◌≡◌, ◌<◌, ◌^◌, pos, IfOk, IfErr, option_map};
-ghost use Rattle.std.specs.Prelude.{option_copied, length};
+ghost use Rattle.std.specs.Prelude.{option_copied, length, OnErr, IsSome};
 ghost use Rattle.std.specs.Str.{chars};
 ghost use Rattle.kb_context.specs.Scopes.{context};
 ghost use Rattle.std.specs.FinMap as fin_map;
 ghost use Rattle.kb_vm.specs.Operand.{arg_of};
+ghost use Rattle.kb_vm.specs.declared.values.One.TheVariants.{Show};
+ghost use Rattle.kb_vm.specs.declared.values.Two.TheVariants.{Join};
 ghost use Rattle.kb_vm.specs.Values.{one_of, two_of, size_of, shown, is_true, number_in, is_same};
 ghost use Rattle.kb_vm.specs.Values.{context_arg};
 
@@ -48,7 +50,8 @@ pub(crate) fn made_of_one<'a>(
     what: One,
     x: Operand<'a>,
 ) -> Result<Option<Operand<'a>>, NoMemory>
-    ensures { IfOk result (λ made. option_map arg_of made ≡ one_of what (arg_of x.entry)) }
+    ensures made { IfOk result (λ made. option_map arg_of made ≡ one_of what (arg_of x.entry)) }
+    ensures shows { OnErr result (what ≡ Show) }
 {
     match (what, x) {
         (One::Not, Operand::Truth(truth)) => Ok(Some(Operand::Truth(!truth))),
@@ -120,7 +123,10 @@ pub(crate) fn made_of_two<'a>(
     x: Operand<'a>,
     y: Operand<'a>,
 ) -> Result<Option<Operand<'a>>, NoMemory>
-    ensures { IfOk result (λ made. option_map arg_of made ≡ two_of what (arg_of x.entry) (arg_of y.entry)) }
+    ensures made { IfOk result (λ made. option_map arg_of made
+        ≡ two_of what (arg_of x.entry) (arg_of y.entry)) }
+    ensures joins { OnErr result (what ≡ Join) }
+    ensures takes { OnErr result (IsSome (two_of what (arg_of x.entry) (arg_of y.entry))) }
 {
     match (what, x, y) {
         (Two::Same, _, _) => Ok(Some(Operand::Truth(is_same(x, y)))),
