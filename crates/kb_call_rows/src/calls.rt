@@ -1,5 +1,5 @@
 //! Rows that are one call each.
-use crate::{answers, clauses, manifests, natives, registries, rules, scopes};
+use crate::{answers, boxed, clauses, manifests, natives, registries, rules, scopes};
 use kb_context::{NoMemory, Scopes};
 use kb_row_text::{Answers, Teller, tell_rows};
 use std::alloc::Global;
@@ -58,6 +58,7 @@ fn answer_of_text(
         "arguments" => natives::arguments(alloc, text),
         "tree" => clauses::same(alloc, text),
         "unread" => clauses::unread(alloc, text),
+        "boxed" => boxed::steps(alloc, text),
         _ => match kind.strip_prefix("registry ") {
             Some(limit) => registries::calls(alloc, limit, text),
             None => answer_in_scopes(alloc, kind, scopes, text),

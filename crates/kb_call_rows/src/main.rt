@@ -2,6 +2,7 @@
 #![tactic(auto)]
 
 mod answers;
+mod boxed;
 mod calls;
 mod clauses;
 mod manifests;

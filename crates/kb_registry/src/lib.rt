@@ -6,8 +6,6 @@ pub mod command;
 pub mod fault;
 pub mod held_core;
 pub mod registry;
-#[cfg(test)]
-mod tests;
 
 pub use command::{HostCommand, NativeCommand, Run};
 pub use fault::RegistryFault;

@@ -1,17 +1,14 @@
-//! Closures in boxes that are registered, disposed and registered again.
+//! Closures in boxes that are registered, disposed of and registered again.
 ghost use Rattle.kb_core.specs.Native.{Fits};
 ghost use Rattle.kb_core.specs.Ran.{Does};
 ghost use Rattle.kb_core.specs.declared.native.Native.TheVariants.{TypeText};
 
-use crate::command::{HostCommand, NativeCommand, Run};
-use crate::held_core::HeldCore;
-use crate::registry::{Registry, Ticket};
 use kb_context::{Failure, Layout, LayoutScope, NoMemory, Scopes, Seq, Text, TextMap};
 use kb_core::{Args, Core, Native, Ran, plain};
+use kb_registry::{HeldCore, HostCommand, NativeCommand, Registry, Run, Ticket};
 use std::alloc::{AllocError, Global};
-use std::test::Fail;
 
-/// A core without text, over the one scope `window`.
+// A core without text, over the one scope `window`.
 fn window(alloc: Global) -> Result<HeldCore, NoMemory> {
     let mut scopes = Seq::new(alloc);
     scopes.push(LayoutScope {
@@ -26,8 +23,8 @@ fn window(alloc: Global) -> Result<HeldCore, NoMemory> {
     }
 }
 
-/// The ticket of the first closure on the shelf, 98 without one, or the number of the fault, and then it is
-/// put back at the end.
+// The ticket of the first closure on the shelf, 98 without one, or the number of the fault, and then it is
+// put back at the end.
 fn register<C: HostCommand>(
     registry: &mut Registry<C>,
     shelf: &mut Vec<C>,
@@ -46,7 +43,7 @@ fn register<C: HostCommand>(
     }
 }
 
-/// 0 where the closure with the ticket is put back on the shelf, or the number of the fault.
+// 0 where the closure with the ticket is put back on the shelf, or the number of the fault.
 fn dispose<C: HostCommand>(
     registry: &mut Registry<C>,
     shelf: &mut Vec<C>,
@@ -61,7 +58,7 @@ fn dispose<C: HostCommand>(
     }
 }
 
-/// What a start of `type` costs, 0 where it isn't live, and 5 where the closure answers `NoMemory`.
+// What a start of `type` costs, 0 where it isn't live, and 5 where the closure answers `NoMemory`.
 fn start<C: HostCommand>(
     alloc: Global,
     registry: &Registry<C>,
@@ -79,8 +76,8 @@ fn start<C: HostCommand>(
     }
 }
 
-/// What each step answers, where three registrations may be made: `+` registers, `t` starts `type`, and a
-/// digit disposes of its ticket.
+// What each step answers, where three registrations may be made: `+` registers, `t` starts `type`, and a
+// digit disposes of its ticket.
 fn told<C: HostCommand>(alloc: Global, mut shelf: Vec<C>, steps: &str) -> Result<String, NoMemory> {
     let mut core = window(alloc)?;
     let mut registry = Registry::new(alloc, 3)?;
@@ -93,48 +90,58 @@ fn told<C: HostCommand>(alloc: Global, mut shelf: Vec<C>, steps: &str) -> Result
             b'2' => dispose(&mut registry, &mut shelf, 2)?,
             _ => dispose(&mut registry, &mut shelf, 3)?,
         };
-        write!(said, " {answer}")?;
+        if !said.is_empty() {
+            said.push(' ')?;
+        }
+        write!(said, "{answer}")?;
     }
     Ok(said)
 }
 
-#[test]
-fn closures_come_back_as_they_were(rt: HostRuntime) -> Result<(), Fail> {
-    let alloc = rt.alloc();
-    let whole: Run = Box::new(
+// What `type` does, at its whole budget.
+fn type_dearly(core: Core, args: Args) -> Ran
+    requires { Fits TypeText args }
+    ensures { Does TypeText core args result }
+{
+    let Ran { core, cost } = plain(Native::TypeText, core, args);
+    let cost = match cost {
+        Ok(_) => Ok(1_001),
+        Err(refused) => Err(refused),
+    };
+    Ran { core, cost }
+}
+
+// What `type` does where it is refused memory.
+fn type_nothing(core: Core, args: Args) -> Ran
+    requires { Fits TypeText args }
+    ensures { Does TypeText core args result }
+{
+    drop(args);
+    Ran {
+        core,
+        cost: Err(AllocError),
+    }
+}
+
+/// What steps answer over a shelf with a closure for `type` that costs its whole budget and one that is refused
+/// memory, where three registrations may be made. The boxes are made here, so that no function gives one away.
+pub(crate) fn steps(alloc: Global, steps: &str) -> Result<String, NoMemory> {
+    let dear: Run = Box::new(
         alloc,
         |core: Core, args: Args| -> Ran
             requires { Fits TypeText args }
             ensures { Does TypeText core args result }
-        {
-            let Ran { core, cost } = plain(Native::TypeText, core, args);
-            let cost = match cost {
-                Ok(_) => Ok(1_001),
-                Err(refused) => Err(refused),
-            };
-            Ran { core, cost }
-        },
+        { type_dearly(core, args) },
     )?;
     let refused: Run = Box::new(
         alloc,
         |core: Core, args: Args| -> Ran
             requires { Fits TypeText args }
             ensures { Does TypeText core args result }
-        {
-            drop(args);
-            Ran {
-                core,
-                cost: Err(AllocError),
-            }
-        },
+        { type_nothing(core, args) },
     )?;
-    let mut shelf: Vec<NativeCommand> = Vec::new(alloc);
-    shelf.push(NativeCommand::new(Native::TypeText, whole))?;
+    let mut shelf = Vec::new(alloc);
+    shelf.push(NativeCommand::new(Native::TypeText, dear))?;
     shelf.push(NativeCommand::new(Native::TypeText, refused))?;
-    let said = told(alloc, shelf, "t+t+11+t+12+t3+t")?;
-    assert_eq!(rt;
-        said.as_str(),
-        " 0 1 1001 70 0 72 2 5 70 72 0 3 1001 0 71 0"
-    );
-    Ok(())
+    told(alloc, shelf, steps)
 }
