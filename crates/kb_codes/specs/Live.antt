@@ -52,7 +52,8 @@ with_group new (g ∷ gs) = if nat_lt new.extension g.extension then new ∷ g �
 
 -- with the handlers of an extension
 abbrev pub with_handlers : ℕ → List HandlerData → List Group → List Group
-with_handlers extension handlers groups = with_group (record { extension = extension; handlers = handlers }) groups
+with_handlers extension handlers groups =
+    with_group (record { extension = extension; handlers = handlers }) groups
 
 -- without the group of an extension
 abbrev pub without_group : ℕ → List Group → List Group
