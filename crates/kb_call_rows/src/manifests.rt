@@ -1,8 +1,9 @@
 //! Manifests: what is read of an extension's `package.json`, in one line.
 use crate::answers::fault;
 use kb_context::{Failure, NoMemory};
+use kb_json::FileFault;
 use kb_jsonc::read;
-use kb_manifest::{Command, FileFault, Manifest, Notes, PaletteItem};
+use kb_manifest::{Command, Manifest, Notes, PaletteItem};
 use kb_when::{Clause, SharedClause};
 use serde_json::Value;
 use std::alloc::{AllocError, Global};

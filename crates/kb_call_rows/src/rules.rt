@@ -1,8 +1,8 @@
 //! The rules in force, of defaults, extensions and the user.
 use kb_context::NoMemory;
+use kb_json::{elements_in, members_in, take_member};
 use kb_jsonc::read;
 use kb_keys::Platform;
-use kb_manifest::{elements_in, members_in, take_member};
 use kb_rules::{Origin, Rule, RuleList, RuleSet, Warning, read_list};
 use serde_json::{Map, Value};
 use std::alloc::Global;

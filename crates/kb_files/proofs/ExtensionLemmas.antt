@@ -8,9 +8,9 @@ use Rattle.kb_context.specs.declared.failure.Failure.{Failure}
 use Rattle.kb_context.specs.declared.failure.Failure.TheVariants.{NoMemory, Fault}
 use Rattle.kb_context.specs.declared.refusal.Refusal.{Refusal}
 use Rattle.kb_keys.specs.declared.platform.Platform.{Platform}
-use Rattle.kb_manifest.specs.declared.fault.FileFault.{FileFault}
+use Rattle.kb_json.specs.declared.fault.FileFault.{FileFault}
 use Rattle.kb_manifest.specs.declared.manifest.Manifest.{Manifest}
-use Rattle.kb_manifest.specs.FileFault.{number_of}
+use Rattle.kb_json.specs.FileFault.{number_of}
 use Rattle.kb_manifest.specs.Manifest.{Stated, Told, contributed, manifest_of, outline_of}
 use Rattle.kb_manifest.specs.Manifest.{seen_manifest, told_by, IsRightBy}
 use Rattle.kb_rules.specs.declared.unread.UnreadAt.{UnreadAt}

@@ -5,7 +5,7 @@ use Rattle.kb_context.specs.declared.value.ContextValue.{ContextValue}
 use Rattle.kb_context.specs.Reading.{◌>>=◌}
 use Rattle.kb_context.specs.Refusal.{numbered}
 use Rattle.kb_manifest.specs.Context.{context_of}
-use Rattle.kb_manifest.specs.FileFault.{number_of}
+use Rattle.kb_json.specs.FileFault.{number_of}
 use Rattle.kb_files.specs.Value.{data_of}
 
 abbrev pub context_in : List ℕ → Result ContextValue Refusal

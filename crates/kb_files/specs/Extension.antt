@@ -6,7 +6,7 @@ use Rattle.kb_context.specs.Reading.{◌>>=◌, seen}
 use Rattle.kb_context.specs.Refusal.{numbered}
 use Rattle.kb_keys.specs.declared.platform.Platform.{Platform}
 use Rattle.kb_manifest.specs.declared.warning.Unread.{Unread}
-use Rattle.kb_manifest.specs.FileFault.{number_of}
+use Rattle.kb_json.specs.FileFault.{number_of}
 use Rattle.kb_manifest.specs.Manifest.{Outline, Stated, Told, contributed, outline_of, IsRightBy}
 use Rattle.kb_manifest.specs.Warning.{patterns_at}
 use Rattle.kb_rules.specs.RuleList.{listed, AreRightlyMarked}

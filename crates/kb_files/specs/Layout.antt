@@ -9,7 +9,7 @@ use Rattle.kb_context.specs.Reading.{◌>>=◌}
 use Rattle.kb_context.specs.Refusal.{numbered}
 use Rattle.kb_context.specs.ScopeFault.{number_of}
 use Rattle.kb_context.specs.Scopes.{ScopesData}
-use Rattle.kb_manifest.specs.FileFault.{number_of as shape_number}
+use Rattle.kb_json.specs.FileFault.{number_of as shape_number}
 use Rattle.kb_manifest.specs.Layout.{layout_of}
 use Rattle.kb_files.specs.Value.{data_of}
 

@@ -5,9 +5,9 @@ use Rattle.serde_json.specs.Data.{Data}
 use Rattle.kb_context.specs.declared.refusal.Refusal.{Refusal}
 use Rattle.kb_context.specs.Reading.{◌>>=◌, or_fault, seen}
 use Rattle.kb_context.specs.Refusal.{numbered}
-use Rattle.kb_manifest.specs.declared.fault.FileFault.TheVariants.{WrongShape}
-use Rattle.kb_manifest.specs.FileFault.{number_of}
-use Rattle.kb_manifest.specs.Parts.{elements_of}
+use Rattle.kb_json.specs.declared.fault.FileFault.TheVariants.{WrongShape}
+use Rattle.kb_json.specs.FileFault.{number_of}
+use Rattle.kb_json.specs.Parts.{elements_of}
 use Rattle.kb_rules.specs.RuleList.{Listed, listed}
 use Rattle.kb_rules.specs.declared.origin.Origin.{Origin}
 use Rattle.kb_rules.specs.declared.unread.UnreadAt.{UnreadAt}

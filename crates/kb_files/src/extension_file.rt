@@ -2,7 +2,7 @@
 ghost use Rattle.std.specs.Prelude.{◌≡◌, IfOk, Some};
 ghost use Rattle.serde_json.specs.View.{items_view};
 ghost use Rattle.kb_manifest.specs.Manifest.{seen_manifest, told_by, IsRead, IsRightBy};
-ghost use Rattle.kb_manifest.specs.Parts.{listed};
+ghost use Rattle.kb_json.specs.Parts.{listed};
 ghost use Rattle.kb_rules.specs.RuleList as rules;
 ghost use Rattle.kb_rules.specs.declared.origin.Origin.TheVariants as origin;
 ghost use Rattle.kb_files.specs.Marked.{GivesByMarks};

@@ -2,12 +2,12 @@
 ghost use Rattle.std.specs.Prelude.{◌≡◌};
 ghost use Rattle.kb_context.specs.ScopeFault as scope;
 ghost use Rattle.kb_jsonc.specs.Fault as text;
-ghost use Rattle.kb_manifest.specs.FileFault as shape;
+ghost use Rattle.kb_json.specs.FileFault as shape;
 ghost use Rattle.kb_files.specs.Value.{numbered_failure};
 
 use kb_context::{Failure, Refusal, ScopeFault};
+use kb_json::FileFault;
 use kb_jsonc::JsoncFault;
-use kb_manifest::FileFault;
 
 /// Why a text gave no JSON value.
 pub(crate) fn text_failure(failure: Failure<JsoncFault>) -> Failure<Refusal>

@@ -9,7 +9,7 @@ ghost use Rattle.kb_files.specs.RuleFile.{rules_in, rules_by, elements_in, eleme
 
 use crate::value::read_value;
 use kb_context::{Failure, NoMemory, Refusal};
-use kb_manifest::{FileFault, elements_in};
+use kb_json::{FileFault, elements_in};
 use kb_rules::{Origin, RuleList, read_list};
 use serde_json::Value;
 use std::alloc::Global;

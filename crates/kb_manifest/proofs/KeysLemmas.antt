@@ -17,7 +17,7 @@ use Rattle.serde_json.specs.View.{members_view}
 use Rattle.kb_context.specs.declared.value.ContextValue.{ContextValue}
 use Rattle.kb_context.specs.Scopes.{Keys}
 use Rattle.kb_manifest.specs.Context.{value_of}
-use Rattle.kb_manifest.specs.Parts.{◌>>=◌, each, pairs_of}
+use Rattle.kb_json.specs.Parts.{◌>>=◌, each, pairs_of}
 use Rattle.kb_manifest.specs.Layout.{key_of}
 
 abbrev pub Pair : Type 0

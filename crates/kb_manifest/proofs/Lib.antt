@@ -1,4 +1,3 @@
 pub mod CommandTableLemmas
 pub mod JudgedLemmas
 pub mod KeysLemmas
-pub mod PartsLemmas

@@ -3,16 +3,16 @@ use Rattle.std.specs.Prelude.{ℕ, List, [], Some, None, Result, Ok, Err, codes}
 use Rattle.serde_json.specs.Data.{Data}
 use Rattle.serde_json.specs.Find.{as_object, get}
 use Rattle.kb_context.specs.Reading.{◌>>=◌, or_fault}
-use Rattle.kb_manifest.specs.declared.fault.FileFault.{FileFault}
-use Rattle.kb_manifest.specs.declared.fault.FileFault.TheVariants.{WrongShape}
-use Rattle.kb_manifest.specs.FileFault.{number_of}
+use Rattle.kb_json.specs.declared.fault.FileFault.{FileFault}
+use Rattle.kb_json.specs.declared.fault.FileFault.TheVariants.{WrongShape}
+use Rattle.kb_json.specs.FileFault.{number_of}
 use Rattle.kb_manifest.specs.declared.judged.Judged.{Judged}
 use Rattle.kb_manifest.specs.declared.warning.Notes.{Notes}
 use Rattle.kb_manifest.specs.declared.warning.Part.TheVariants.{Commands}
 use Rattle.kb_when.specs.declared.unread.UnreadPattern.{UnreadPattern}
 use Rattle.kb_manifest.specs.declared.command_table.Named.{Named}
 use Rattle.kb_manifest.specs.declared.command.Texts.{Texts}
-use Rattle.kb_manifest.specs.Member.{required_text, optional_text}
+use Rattle.kb_json.specs.Member.{required_text, optional_text}
 use Rattle.kb_manifest.specs.Condition.{optional_condition, IsOptionalRight}
 use Rattle.kb_manifest.specs.CommandTable.{firsts_behind}
 use Rattle.kb_manifest.specs.Judged.{kept_from, notes_of}

@@ -2,12 +2,9 @@ pub mod Command
 pub mod CommandTable
 pub mod Condition
 pub mod Context
-pub mod FileFault
 pub mod Judged
 pub mod Layout
 pub mod Manifest
-pub mod Member
 pub mod PaletteItem
-pub mod Parts
 pub mod Points
 pub mod Warning

@@ -7,8 +7,8 @@ use Rattle.serde_json.specs.Find.{get, as_str, as_object}
 use Rattle.serde_json.specs.View.{items_view}
 use Rattle.kb_context.specs.Reading.{or_fault, seen}
 use Rattle.kb_manifest.specs.declared.command_table.Named.{Named}
-use Rattle.kb_manifest.specs.declared.fault.FileFault.{FileFault}
-use Rattle.kb_manifest.specs.declared.fault.FileFault.TheVariants.{MissingMember, WrongShape}
+use Rattle.kb_json.specs.declared.fault.FileFault.{FileFault}
+use Rattle.kb_json.specs.declared.fault.FileFault.TheVariants.{MissingMember, WrongShape}
 use Rattle.kb_manifest.specs.declared.manifest.Head.{Head}
 use Rattle.kb_manifest.specs.declared.manifest.Manifest.{Manifest}
 use Rattle.kb_manifest.specs.declared.palette_item.PaletteItem.{PaletteItem}
@@ -21,7 +21,7 @@ use Rattle.kb_manifest.specs.Command as command
 use Rattle.kb_manifest.specs.Judged.{AllRight}
 use Rattle.kb_manifest.specs.Layout.{lacks}
 use Rattle.kb_manifest.specs.PaletteItem as item
-use Rattle.kb_manifest.specs.Parts.{◌>>=◌, each, optional, listed, elements_of}
+use Rattle.kb_json.specs.Parts.{◌>>=◌, optional, listed, texts_of, word_of}
 use Rattle.kb_manifest.specs.Points.{Held, no_points, points_in, seen_points}
 
 -- what an extension's manifest says; its key rules stand as they were found
@@ -45,14 +45,6 @@ pub record Outline : Type 0 where
   pub dependencies : List (List ℕ)
   pub points : Held
 
-abbrev pub if_filled : List ℕ → Option (List ℕ)
-if_filled [] = None
-if_filled (b ∷ bs) = Some (b ∷ bs)
-
--- the text that a value is, if it isn't empty
-abbrev pub word_of : Data → Option (List ℕ)
-word_of d = as_str d >>= if_filled
-
 abbrev pub publisher_of : Option Data → Option (List ℕ)
 publisher_of publisher = optional (codes "undefined_publisher") word_of publisher
 
@@ -62,10 +54,6 @@ id_of name publisher = do
   extension ← name >>= word_of
   publisher ← publisher_of publisher
   Some ((publisher ++ codes ".") ++ extension)
-
--- the texts that the elements of a list are
-abbrev pub texts_of : Data → Option (List (List ℕ))
-texts_of d = elements_of d >>= each as_str
 
 -- what an object says, where each part has its shape
 unfoldable pub head_of : Data → Option Outline

@@ -5,9 +5,9 @@ use Rattle.serde_json.specs.Data.{Data}
 use Rattle.serde_json.specs.Find.{as_object, get}
 use Rattle.kb_context.specs.Blank.{is_blank}
 use Rattle.kb_context.specs.Reading.{◌>>=◌, or_fault}
-use Rattle.kb_manifest.specs.declared.fault.FileFault.{FileFault}
-use Rattle.kb_manifest.specs.declared.fault.FileFault.TheVariants.{WrongShape}
-use Rattle.kb_manifest.specs.FileFault.{number_of}
+use Rattle.kb_json.specs.declared.fault.FileFault.{FileFault}
+use Rattle.kb_json.specs.declared.fault.FileFault.TheVariants.{WrongShape}
+use Rattle.kb_json.specs.FileFault.{number_of}
 use Rattle.kb_manifest.specs.declared.judged.Judged.{Judged}
 use Rattle.kb_manifest.specs.declared.warning.Notes.{Notes}
 use Rattle.kb_manifest.specs.declared.warning.Part.TheVariants.{Palette}
@@ -15,7 +15,7 @@ use Rattle.kb_manifest.specs.Judged.{kept_from, notes_of}
 use Rattle.kb_when.specs.declared.unread.UnreadPattern.{UnreadPattern}
 use Rattle.kb_manifest.specs.declared.palette_item.PaletteItem.{PaletteItem}
 use Rattle.kb_manifest.specs.declared.palette_item.ItemTexts.{ItemTexts}
-use Rattle.kb_manifest.specs.Member.{required_text, optional_text}
+use Rattle.kb_json.specs.Member.{required_text, optional_text}
 use Rattle.kb_manifest.specs.Condition.{optional_condition, IsOptionalRight}
 
 -- a text that says something; one that is empty, or white space alone, is absent

@@ -4,7 +4,7 @@ use Rattle.serde_json.specs.Data.{Data, null, boolean, number, string, array, ob
 use Rattle.serde_json.specs.Find.{get, as_object}
 use Rattle.serde_json.specs.View.{items_view}
 use Rattle.kb_manifest.specs.declared.points.Points.{Points}
-use Rattle.kb_manifest.specs.Parts.{◌>>=◌, optional, listed}
+use Rattle.kb_json.specs.Parts.{◌>>=◌, optional, listed}
 
 pub record Held : Type 0 where
   pub commands : List Data

@@ -1,7 +1,7 @@
 //! The commands that a manifest contributes.
 ghost use Rattle.std.specs.Prelude.{◌≡◌, ◌++◌, [], IfOk, OnOk};
 ghost use Rattle.serde_json.specs.View.{view, items_view};
-ghost use Rattle.kb_manifest.specs.Parts.{listed};
+ghost use Rattle.kb_json.specs.Parts.{listed};
 ghost use Rattle.kb_manifest.specs.Command.{texts_of, command_of, judged_at, commands_by, IsRightAt};
 ghost use Rattle.kb_manifest.specs.Condition.{IsOptionalRight};
 ghost use Rattle.kb_manifest.specs.Judged.{AllRight};
@@ -9,12 +9,10 @@ ghost use Rattle.kb_manifest.specs.Warning.{patterns_at};
 
 use crate::command_table::{CommandTable, Named};
 use crate::condition::optional_condition;
-use crate::fault::FileFault;
 use crate::judged::Judged;
-use crate::member::{optional_text, required_text};
-use crate::parts::{members_in, take_member};
 use crate::warning::{Notes, Part};
 use kb_context::{NoMemory, Seq, Text};
+use kb_json::{FileFault, members_in, optional_text, required_text, take_member};
 use kb_when::SharedClause;
 use serde_json::Value;
 use std::alloc::Global;

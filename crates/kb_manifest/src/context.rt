@@ -1,16 +1,12 @@
 //! Context values, read from JSON.
 ghost use Rattle.std.specs.Prelude.{◌≡◌, IfOk, IfErr};
-ghost use Rattle.serde_json.specs.Find.{as_str};
-ghost use Rattle.serde_json.specs.View.{view, items_view, members_view};
+ghost use Rattle.serde_json.specs.View.{view, members_view};
 ghost use Rattle.kb_context.specs.Failure.{Gives};
-ghost use Rattle.kb_context.specs.Reading.{or_fault};
-ghost use Rattle.kb_manifest.specs.declared.fault.FileFault.TheVariants.{WrongShape};
-ghost use Rattle.kb_manifest.specs.Parts.{each, listed, names_of};
+ghost use Rattle.kb_json.specs.Parts.{names_of};
 ghost use Rattle.kb_manifest.specs.Context.{context_of, MayFail};
 
-use crate::fault::FileFault;
-use crate::parts::text_in;
 use kb_context::{ContextValue, Failure, NoMemory, Seq, Text};
+use kb_json::{FileFault, read_texts};
 use serde_json::{Map, Value};
 use std::alloc::Global;
 
@@ -37,23 +33,8 @@ pub fn read_context(alloc: Global, value: Value) -> Result<ContextValue, Failure
     }
 }
 
-/// The texts that the elements of a list are.
-pub(crate) fn read_texts(
-    alloc: Global,
-    elements: Vec<Value>,
-) -> Result<Seq<Text>, Failure<FileFault>>
-    ensures { Gives (λ texts. texts) result
-        (or_fault WrongShape (each as_str (listed (items_view elements.items)))) }
-{
-    let mut texts = Seq::new(alloc);
-    for element in elements {
-        texts.push(text_in(element).ok_or(FileFault::WrongShape)?)?;
-    }
-    Ok(texts)
-}
-
 /// The names of an object's members, in order.
-#[tactic(auto, using(crate::proofs::PartsLemmas::names_seen))]
+#[tactic(auto, using(kb_json::proofs::PartsLemmas::names_seen))]
 fn names_in(alloc: Global, members: Map<String, Value>) -> Result<Seq<Text>, NoMemory>
     ensures { IfOk result (λ names. names ≡ names_of (members_view members.entries)) }
 {

@@ -6,15 +6,14 @@ ghost use Rattle.serde_json.specs.Data.{object};
 ghost use Rattle.serde_json.specs.View.{view, items_view, members_view};
 ghost use Rattle.kb_context.specs.Failure.{Gives};
 ghost use Rattle.kb_context.specs.Reading.{or_fault};
-ghost use Rattle.kb_manifest.specs.declared.fault.FileFault.TheVariants.{WrongShape};
-ghost use Rattle.kb_manifest.specs.Parts.{each, optional, listed};
+ghost use Rattle.kb_json.specs.declared.fault.FileFault.TheVariants.{WrongShape};
+ghost use Rattle.kb_json.specs.Parts.{each, optional, listed};
 ghost use Rattle.kb_manifest.specs.Layout.{lacks, lacks_member, some_text, keys_of, scope_of};
 ghost use Rattle.kb_manifest.specs.Layout.{first_name, record_of, layout_of};
 
 use crate::context::read_context;
-use crate::fault::FileFault;
-use crate::parts::{elements_in, members_in, take_member, text_in};
 use kb_context::{ContextValue, Failure, Layout, LayoutScope, NoMemory, Seq, Text, TextMap};
+use kb_json::{FileFault, elements_in, members_in, take_member, text_in};
 use serde_json::{Map, Value};
 use std::alloc::Global;
 

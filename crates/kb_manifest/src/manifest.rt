@@ -3,22 +3,20 @@ ghost use Rattle.std.specs.Prelude.{◌≡◌, ◌++◌, [], IfOk, option_map, c
 ghost use Rattle.serde_json.specs.View.{view, items_view, members_view};
 ghost use Rattle.kb_context.specs.Failure.{Gives};
 ghost use Rattle.kb_context.specs.Reading.{or_fault};
-ghost use Rattle.kb_manifest.specs.declared.fault.FileFault.TheVariants.{WrongShape};
-ghost use Rattle.kb_manifest.specs.Parts.{optional, elements_of};
-ghost use Rattle.kb_manifest.specs.Manifest.{word_of, texts_of, publisher_of, id_of, seen_head, head_of};
+ghost use Rattle.kb_json.specs.declared.fault.FileFault.TheVariants.{WrongShape};
+ghost use Rattle.kb_json.specs.Parts.{optional, texts_of};
+ghost use Rattle.kb_manifest.specs.Manifest.{publisher_of, id_of, seen_head, head_of};
 ghost use Rattle.kb_manifest.specs.Manifest.{seen_manifest, told_by, contributed, manifest_of, IsRead};
 ghost use Rattle.kb_manifest.specs.Manifest.{outline_of, IsRightIn, IsRightBy};
 
 use crate::command::read_commands;
 use crate::command_table::CommandTable;
-use crate::context::read_texts;
-use crate::fault::FileFault;
 use crate::layout::lacks;
 use crate::palette_item::{PaletteItem, read_items};
-use crate::parts::{elements_in, members_in, take_member, text_in};
 use crate::points::{Points, read_points};
 use crate::warning::Notes;
 use kb_context::{Failure, NoMemory, Seq, Text};
+use kb_json::{FileFault, elements_in, members_in, read_texts, take_member, word_in};
 use serde_json::Value;
 use std::alloc::Global;
 
@@ -84,23 +82,12 @@ impl Manifest {
     }
 }
 
-/// The text that a value is, if it isn't empty.
-fn word_of(value: Value) -> Option<Text>
-    ensures { result ≡ word_of (view value) }
-{
-    let text = text_in(value)?;
-    if text.as_str().is_empty() {
-        return None;
-    }
-    Some(text)
-}
-
 /// The publisher of an extension.
 fn read_publisher(alloc: Global, publisher: Option<Value>) -> Result<Text, Failure<FileFault>>
     ensures { Gives (λ text. text) result (or_fault WrongShape (publisher_of (option_map view publisher))) }
 {
     match publisher {
-        Some(publisher) => Ok(word_of(publisher).ok_or(FileFault::WrongShape)?),
+        Some(publisher) => Ok(word_in(publisher).ok_or(FileFault::WrongShape)?),
         None => Ok(Text::from_str(alloc, "undefined_publisher")?),
     }
 }
@@ -115,7 +102,7 @@ fn read_id(
     ensures { Gives (λ id. id) result
         (or_fault WrongShape (id_of (option_map view name) (option_map view publisher))) }
 {
-    let name = name.and_then(word_of).ok_or(FileFault::WrongShape)?;
+    let name = name.and_then(word_in).ok_or(FileFault::WrongShape)?;
     let mut id = read_publisher(alloc, publisher)?;
     id.push_str(".")?;
     id.push_str(name.as_str())?;

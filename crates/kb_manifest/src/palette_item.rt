@@ -2,19 +2,17 @@
 ghost use Rattle.std.specs.Prelude.{◌≡◌, ◌++◌, IfOk, OnOk};
 ghost use Rattle.serde_json.specs.View.{view, items_view};
 ghost use Rattle.kb_manifest.specs.Judged.{kept_in, AllRight};
-ghost use Rattle.kb_manifest.specs.Parts.{listed};
+ghost use Rattle.kb_json.specs.Parts.{listed};
 ghost use Rattle.kb_manifest.specs.PaletteItem.{texts_of, said, item_of, judged_at, items_by};
 ghost use Rattle.kb_manifest.specs.PaletteItem.{IsRightAt};
 ghost use Rattle.kb_manifest.specs.Condition.{IsOptionalRight};
 ghost use Rattle.kb_manifest.specs.Warning.{patterns_at};
 
 use crate::condition::optional_condition;
-use crate::fault::FileFault;
 use crate::judged::Judged;
-use crate::member::{optional_text, required_text};
-use crate::parts::{members_in, take_member};
 use crate::warning::{Notes, Part};
 use kb_context::{NoMemory, Seq, Text, is_blank_text};
+use kb_json::{FileFault, members_in, optional_text, required_text, take_member};
 use kb_when::SharedClause;
 use serde_json::Value;
 use std::alloc::Global;

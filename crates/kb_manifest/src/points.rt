@@ -3,13 +3,12 @@ ghost use Rattle.std.specs.Prelude.{[], option_map, IfOk, ◌≡◌, ◌∷◌};
 ghost use Rattle.serde_json.specs.View.{view, items_view};
 ghost use Rattle.kb_context.specs.Failure.{Gives};
 ghost use Rattle.kb_context.specs.Reading.{or_fault};
-ghost use Rattle.kb_manifest.specs.declared.fault.FileFault.TheVariants.{WrongShape};
-ghost use Rattle.kb_manifest.specs.Parts.{optional, listed};
+ghost use Rattle.kb_json.specs.declared.fault.FileFault.TheVariants.{WrongShape};
+ghost use Rattle.kb_json.specs.Parts.{optional, listed};
 ghost use Rattle.kb_manifest.specs.Points.{entries_of, palette_of, no_points, points_in, seen_points};
 
-use crate::fault::FileFault;
-use crate::parts::{members_in, take_member};
 use kb_context::{Failure, NoMemory};
+use kb_json::{FileFault, members_in, take_member};
 use serde_json::Value;
 use std::alloc::Global;
 

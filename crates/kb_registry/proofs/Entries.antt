@@ -10,6 +10,7 @@ use Rattle.std.specs.Map.{keys_of, lookup}
 use Rattle.indexmap.specs.IndexMap.{IndexMap, get, insert_entry, Updates, IsUnchanged}
 use Rattle.indexmap.proofs.CallerLemmas.{insert_entry-new}
 use Rattle.kb_core.specs.declared.native.Native.{Native}
+use Rattle.kb_codes.specs.Live.{Group}
 use Rattle.kb_registry.specs.Live.{same_native, natives_of, is_live, without}
 use Rattle.kb_registry.specs.Place.{NoneBelow}
 use Rattle.kb_registry.specs.Sound.{plain_entries}
@@ -21,10 +22,11 @@ module _ {E : Type 0} (ticket : E → ℕ) where
   natives-plain (e ∷ es) = ap (λ natives. e.0 ∷ natives) (natives-plain es)
 
   -- a native is live where the table has an entry for it
-  pub live-get : {S : Type 0} (limit made : ℕ) (m : IndexMap Native E S) (native : Native)
-      → is_live native (record { limit = limit; made = made; commands = plain_entries ticket m.entries })
+  pub live-get : {S : Type 0} (limit made : ℕ) (code : List Group) (m : IndexMap Native E S) (native : Native)
+      → is_live native
+      (record { limit = limit; made = made; commands = plain_entries ticket m.entries; code = code })
       ≡ is_some (get same_native m native)
-  live-get limit made m native =
+  live-get limit made code m native =
       ap (list_any (same_native native)) (natives-plain m.entries)
       ∙ sym (is_some-lookup (same_native native) m.entries)
 

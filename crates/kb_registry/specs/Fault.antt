@@ -2,8 +2,10 @@
 use Rattle.std.specs.Prelude.{ℕ}
 use Rattle.kb_registry.specs.declared.fault.RegistryFault.{RegistryFault}
 use Rattle.kb_registry.specs.declared.fault.RegistryFault.TheVariants.{AlreadyExists, Exhausted, StaleTicket}
+use Rattle.kb_registry.specs.declared.fault.RegistryFault.TheVariants.{InUse}
 
 abbrev pub number_of : RegistryFault → ℕ
 number_of AlreadyExists = 70
 number_of Exhausted = 71
 number_of StaleTicket = 72
+number_of InUse = 73

@@ -1,12 +1,17 @@
--- What contracts see of a registry: which natives are live and under which tickets, with no closure in it.
+-- What contracts see of a registry: which commands are live, with no closure in it.
 use Rattle.std.specs.Prelude.{◌≡◌, ℕ, ◌+◌, ◌≤◌, Bool, List, [], ◌∷◌, ◌++◌, map, find, Option, Some, None}
-use Rattle.std.specs.Prelude.{option_map, Result, Ok, Err, if◌then◌else◌, nat_eq}
+use Rattle.std.specs.Prelude.{option_map, is_some, Result, Ok, Err, if◌then◌else◌, nat_eq}
 use Rattle.std.specs.List.{list_any}
 use Rattle.kb_core.specs.declared.native.Native.{Native}
 use Rattle.kb_core.specs.contracts.native.NativePartialEq.TheImpl as equality
-use Rattle.kb_core.specs.Native.{named}
+use Rattle.kb_core.specs.Declaration.{Declaration}
+use Rattle.kb_core.specs.Native.{named, declaration_of}
+use Rattle.kb_code.specs.Handler.{HandlerData}
+use Rattle.kb_codes.specs.Live.{Group, handlers_in, handler_named, caller_of, has_taken, with_handlers}
+use Rattle.kb_codes.specs.Live.{without_group}
 use Rattle.kb_registry.specs.declared.fault.RegistryFault.{RegistryFault}
-use Rattle.kb_registry.specs.declared.fault.RegistryFault.TheVariants.{AlreadyExists, Exhausted}
+use Rattle.kb_registry.specs.declared.fault.RegistryFault.TheVariants.{AlreadyExists, Exhausted, StaleTicket}
+use Rattle.kb_registry.specs.declared.fault.RegistryFault.TheVariants.{InUse}
 
 -- whether two natives are one, as `==` finds it
 abbrev pub same_native : Native → Native → Bool
@@ -17,15 +22,17 @@ pub record Registered : Type 0 where
   pub native : Native
   pub ticket : ℕ
 
--- how many registrations may be made, how many were made, and what is live, in the order of registration
+-- how many registrations may be made, how many were made, which closures are live, in the order of
+-- registration, and which handlers, in load and file order
 pub record Live : Type 0 where
   pub limit : ℕ
   pub made : ℕ
   pub commands : List Registered
+  pub code : List Group
 
 -- a registry in which nothing was registered yet
 abbrev pub fresh : ℕ → Live
-fresh limit = record { limit = limit; made = 0; commands = [] }
+fresh limit = record { limit = limit; made = 0; commands = []; code = [] }
 
 abbrev pub natives_of : List Registered → List Native
 natives_of commands = map (λ c. c.native) commands
@@ -51,8 +58,7 @@ registration_fault native live =
 
 -- with one registration more, whose ticket is its number
 abbrev pub registered : Native → Live → Live
-registered native live = record {
-  limit = live.limit;
+registered native live = record live {
   made = live.made + 1;
   commands = live.commands ++ record { native = native; ticket = live.made + 1 } ∷ [];
 }
@@ -77,6 +83,45 @@ without ticket (c ∷ cs) = if nat_eq c.ticket ticket then cs else c ∷ without
 -- with the closure taken away that has the ticket; what was registered before still counts
 abbrev pub disposed : ℕ → Live → Live
 disposed ticket live = record live { commands = without ticket live.commands }
+
+-- why a holder's registration can't be ended: it has no ticket, or a live handler calls its native
+abbrev pub disposal_fault_of : Option Native → Live → Option RegistryFault
+disposal_fault_of None live = Some StaleTicket
+disposal_fault_of (Some native) live = if is_some (caller_of native live.code) then Some InUse else None
+
+abbrev pub disposal_fault : ℕ → Live → Option RegistryFault
+disposal_fault ticket live = disposal_fault_of (holder ticket live) live
+
+-- a live command: a native for which a closure is live, or a live handler
+pub data Callee : Type 0 where
+  Plain : Native → Callee
+  Coded : HandlerData → Callee
+
+-- the live command of an identifier; a native's identifier is no handler's
+abbrev pub callee_of : Option Native → List ℕ → Live → Option Callee
+callee_of (Some native) identifier live = option_map Plain (where_live (Some native) live)
+callee_of None identifier live = option_map Coded (handler_named identifier (handlers_in live.code))
+
+abbrev pub callee : List ℕ → Live → Option Callee
+callee identifier live = callee_of (named identifier) identifier live
+
+-- what a live command declares
+abbrev pub declared : Callee → Declaration
+declared (Plain native) = declaration_of native
+declared (Coded handler) = handler.signature
+
+-- with an extension's handlers live
+abbrev pub with_code : ℕ → List HandlerData → Live → Live
+with_code extension handlers live =
+    record live { code = with_handlers extension handlers live.code }
+
+-- with an extension's handlers taken away
+abbrev pub without_code : ℕ → Live → Live
+without_code extension live = record live { code = without_group extension live.code }
+
+-- why an extension's handlers can't be live, if they can't
+abbrev pub code_fault : List HandlerData → Live → Option RegistryFault
+code_fault handlers live = if has_taken (handlers_in live.code) handlers then Some AlreadyExists else None
 
 -- what comes next, unless there is a fault
 abbrev pub unless_fault : Option RegistryFault → Result Live RegistryFault → Result Live RegistryFault

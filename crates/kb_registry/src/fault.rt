@@ -7,8 +7,8 @@ use thiserror::Error;
 /// Why a call on a registry was refused. The numbers are our decision.
 #[derive(Clone, Copy, Debug, PartialEq, Eq, Error)]
 pub enum RegistryFault {
-    /// A closure is live for the native already.
-    #[error("a closure is live for this native command already")]
+    /// A closure is live for the native already, or a handler has the name of a command that is there.
+    #[error("a command of this name is there already")]
     AlreadyExists = 70,
     /// As many registrations were made as may be.
     #[error("no more registrations may be made")]
@@ -16,6 +16,9 @@ pub enum RegistryFault {
     /// No live closure has the ticket.
     #[error("no live closure has this ticket")]
     StaleTicket = 72,
+    /// A live handler calls the native of the closure.
+    #[error("a live handler calls this native command")]
+    InUse = 73,
 }
 
 impl RegistryFault {

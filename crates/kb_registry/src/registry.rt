@@ -1,19 +1,22 @@
-//! Which closures of the host are live, by native and by ticket.
+//! Which commands are live: closures of the host, by native and by ticket, and handlers.
 ghost use Rattle.std.specs.Prelude.{◌≡◌, ◌≢◌, ℕ, ◌+◌, ◌<◌, ◌≤◌, false, slice_get, Some, None, IsTrue};
 ghost use Rattle.std.specs.Prelude.{is_some, option_map, option_copied, IfOk, IfSome, IfErr, IfNone, OnOk};
-ghost use Rattle.std.specs.Prelude.{OnErr, MatchResult};
+ghost use Rattle.std.specs.Prelude.{OnErr, IsSome};
 ghost use Rattle.indexmap.specs.IndexMap.{get, index_map_len};
 ghost use Rattle.kb_context.specs.Failure.{IsRefusalOrMemory};
 ghost use Rattle.kb_core.specs.Native.{Fits, declaration_of};
 ghost use Rattle.kb_core.specs.Ran.{Does};
-ghost use Rattle.kb_registry.specs.declared.fault.RegistryFault.TheVariants.{StaleTicket};
+ghost use Rattle.kb_codes.specs.Live.{handlers_in, handler_named, natives_of, caller_of, group_of};
 ghost use Rattle.kb_registry.specs.Live.{same_native, fresh, is_live, live_native, registration_fault};
-ghost use Rattle.kb_registry.specs.Live.{registered, holder, disposed};
+ghost use Rattle.kb_registry.specs.Live.{registered, holder, disposed, disposal_fault, callee, declared};
+ghost use Rattle.kb_registry.specs.Live.{code_fault, with_code, without_code};
 ghost use Rattle.kb_registry.specs.Place.{IsPlace};
 
 use crate::command::HostCommand;
 use crate::fault::RegistryFault;
 use indexmap::IndexMap;
+use kb_code::Handler;
+use kb_codes::{CodeTable, Codes, CodesFault, Linked};
 use kb_context::{Failure, NoMemory};
 use kb_core::{Args, Core, Native, Ran, Signature};
 use std::alloc::Global;
@@ -35,14 +38,16 @@ pub struct Entry<C> {
     command: C,
 }
 
-/// The live closures of a host, at most one for each native. Contracts see which natives are live under
-/// which tickets, how many registrations were made, and how many may be.
+/// The live closures of a host, at most one for each native, and the live handlers. Contracts see which
+/// natives are live under which tickets, how many registrations were made and may be, and which handlers are
+/// live.
 #[derive(Drop)]
 pub struct Registry<C: HostCommand> {
     alloc: Global,
     limit: u64,
     made: u64,
     table: IndexMap<Native, Entry<C>>,
+    code: CodeTable,
 }
 
 impl<C: HostCommand> Model for Registry<C> {
@@ -55,6 +60,7 @@ impl<C: HostCommand> Model for Registry<C> {
       limit = r.limit;
       made = r.made;
       commands = plain_entries (λ e. e.ticket) r.table.entries;
+      code = r.code;
     } };
 
     ghost invariant = { λ r. Sound (λ e. C.stands_for e.command) (λ e. e.signature) (λ e. e.ticket)
@@ -106,6 +112,7 @@ impl<C: HostCommand> Registry<C> {
             limit,
             made: 0,
             table,
+            code: CodeTable::new(alloc),
         })
     }
 
@@ -211,25 +218,59 @@ impl<C: HostCommand> Registry<C> {
         }
     }
 
+    /// Why the registration that has a ticket can't be ended now, or `None` where it can: 72 where no live
+    /// closure has the ticket, 73 where a live handler calls its native. It takes no memory.
+    pub fn disposal_fault(&self, ticket: Ticket) -> Option<RegistryFault>
+        ensures { result ≡ disposal_fault ticket.0 self.now }
+    {
+        match self.holder(ticket) {
+            Some(native) if self.code.caller_of(native).is_some() => Some(RegistryFault::InUse),
+            Some(_) => None,
+            None => Some(RegistryFault::StaleTicket),
+        }
+    }
+
+    /// The first live handler, in load and file order, that calls a native, or `None` where none does. It
+    /// takes no memory.
+    pub fn caller_of(&self, native: Native) -> Option<&Handler>
+        ensures { option_copied result ≡ caller_of native self.now.code }
+    {
+        self.code.caller_of(native)
+    }
+
     /// Takes the closure with a ticket away and gives it back; the ticket is without one from then on, and
-    /// other tickets mean what they meant. Refused as 72 where no live closure has the ticket; then the
-    /// registry stays as it was. It takes no memory.
+    /// other tickets mean what they meant. Refused by 72 or 73 as `disposal_fault` says; then the registry
+    /// stays as it was. It takes no memory.
     pub fn dispose(&mut self, ticket: Ticket) -> Result<C, RegistryFault>
-        ensures answer { MatchResult result
-            (λ command. holder ticket.0 self.old ≡ Some (C.stands_for command))
-            (λ fault. (holder ticket.0 self.old ≡ None) × (fault ≡ StaleTicket)) }
+        ensures closure { IfOk result (λ command. holder ticket.0 self.old ≡ Some (C.stands_for command)) }
+        ensures allowed { OnOk result (disposal_fault ticket.0 self.old ≡ None) }
+        ensures why { IfErr result (λ fault. disposal_fault ticket.0 self.old ≡ Some fault) }
         ensures ok { OnOk result (self.new ≡ disposed ticket.0 self.old) }
         ensures stale { OnOk result (holder ticket.0 self.new ≡ None) }
         ensures others { OnOk result ((t : ℕ) → t ≢ ticket.0 → holder t self.new ≡ holder t self.old) }
         ensures err { OnErr result (self.new ≡ self.old) }
     {
+        match self.disposal_fault(ticket) {
+            Some(fault) => Err(fault),
+            None => Ok(self.take(ticket)),
+        }
+    }
+
+    /// Takes the closure with a ticket out.
+    fn take(&mut self, ticket: Ticket) -> C
+        requires { IsSome (holder ticket.0 self.old) }
+        ensures closure { holder ticket.0 self.old ≡ Some (C.stands_for result) }
+        ensures ok { self.new ≡ disposed ticket.0 self.old }
+        ensures stale { holder ticket.0 self.new ≡ None }
+        ensures others { (t : ℕ) → t ≢ ticket.0 → holder t self.new ≡ holder t self.old }
+    {
         match place_of(&self.table, ticket.0) {
             Some(place) => {
                 let (_, entry) = self.table.shift_remove_index(place).unwrap();
                 let Entry { command, .. } = entry;
-                Ok(command)
+                command
             }
-            None => Err(RegistryFault::StaleTicket),
+            None => unreachable!(),
         }
     }
 
@@ -246,11 +287,12 @@ impl<C: HostCommand> Registry<C> {
         }
     }
 
-    /// Whether a closure is live for the native command of an identifier. It takes no memory.
+    /// Whether a command of this identifier is live: a closure for the native that has it, or a handler.
+    /// It takes no memory.
     pub fn is_live(&self, command: &str) -> bool
-        ensures { result ≡ is_some (live_native command.now self.now) }
+        ensures { result ≡ is_some (callee command.now self.now) }
     {
-        self.entry_of(command).is_some()
+        self.signature(command).is_some()
     }
 
     /// The live closure for the native command of an identifier, lent, or `None` where no native has it or
@@ -265,15 +307,68 @@ impl<C: HostCommand> Registry<C> {
         }
     }
 
-    /// What the native command of an identifier declares, or `None` where no native has it or no closure
-    /// is live for the one that does. It takes no memory.
+    /// What the live command of an identifier declares, or `None` where none is live. It takes no memory.
     pub fn signature(&self, command: &str) -> Option<&Signature>
-        ensures { option_copied result ≡ option_map declaration_of (live_native command.now self.now) }
+        ensures { option_copied result ≡ option_map declared (callee command.now self.now) }
     {
-        match self.entry_of(command) {
-            Some(entry) => Some(&entry.signature),
-            None => None,
+        match Native::named(command) {
+            Some(native) => match self.entry(native) {
+                Some(entry) => Some(&entry.signature),
+                None => None,
+            },
+            None => match self.code.handler(command) {
+                Some(handler) => Some(handler.signature()),
+                None => None,
+            },
         }
+    }
+
+    /// The live handler of a name, with what its calls are, lent. It takes no memory.
+    pub fn linked(&self, command: &str) -> Option<Linked<'_>>
+        ensures handler { option_map (λ l. l.handler.now) result
+            ≡ handler_named command.now (handlers_in self.now.code) }
+        ensures natives { IfSome result (λ l. l.natives.now ≡ natives_of l.handler.now) }
+    {
+        self.code.linked(command)
+    }
+
+    /// The live handler of a name, lent. It takes no memory.
+    pub fn handler(&self, command: &str) -> Option<&Handler>
+        ensures { option_copied result ≡ handler_named command.now (handlers_in self.now.code) }
+    {
+        self.code.handler(command)
+    }
+
+    /// Makes the handlers of an extension live, which is numbered in load order. They are handed back as
+    /// refused by 70, where one has the name of a native command, of `runCommands`, or of another handler that
+    /// is live or comes with it, or where memory is refused; then the registry stays as it was.
+    pub fn register_code(
+        &mut self,
+        extension: u32,
+        codes: Codes,
+    ) -> Result<(), (Codes, Failure<RegistryFault>)>
+        ensures allowed { OnOk result (code_fault codes self.old ≡ None) }
+        ensures ok { OnOk result (self.new ≡ with_code extension codes self.old) }
+        ensures why { IfErr result (λ e. IsRefusalOrMemory (code_fault codes self.old) e.1) }
+        ensures back { IfErr result (λ e. e.0 ≡ codes) }
+        ensures err { OnErr result (self.new ≡ self.old) }
+    {
+        match self.code.register(extension, codes) {
+            Ok(()) => Ok(()),
+            Err((codes, Failure::Fault(CodesFault::AlreadyExists))) => {
+                Err((codes, Failure::Fault(RegistryFault::AlreadyExists)))
+            }
+            Err((codes, Failure::NoMemory)) => Err((codes, Failure::NoMemory)),
+        }
+    }
+
+    /// Takes the handlers of an extension away and gives them back, or `None` where it holds no group.
+    /// It takes no memory.
+    pub fn dispose_code(&mut self, extension: u32) -> Option<Codes>
+        ensures codes { result ≡ group_of extension self.old.code }
+        ensures table { self.new ≡ without_code extension self.old }
+    {
+        self.code.dispose(extension)
     }
 
     /// The entry of the native command of an identifier, where it is live.
@@ -281,8 +376,6 @@ impl<C: HostCommand> Registry<C> {
         ensures live { IfSome result (λ e. IsTrue (is_live (C.stands_for e.now.command) self.now)) }
         ensures native { option_map (λ e. C.stands_for e.now.command) result
             ≡ live_native command.now self.now }
-        ensures signature { option_map (λ e. e.now.signature) result
-            ≡ option_map declaration_of (live_native command.now self.now) }
     {
         match Native::named(command) {
             Some(native) => self.entry(native),

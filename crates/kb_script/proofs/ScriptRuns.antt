@@ -21,7 +21,9 @@ use Rattle.kb_script.proofs.BareLemmas.{bare_line, bare_from, bare_marked}
 use Rattle.kb_script.proofs.ShelfLemmas.{halts_same, halted}
 use Rattle.kb_session.specs.Session.{halt}
 use Rattle.kb_session.specs.State.{State, Told, happens, reload, register, dispose, step, step_unless, step_on}
-use Rattle.kb_session.specs.State.{taken_unless, reloaded, refusal_of, registering, disposing}
+use Rattle.kb_session.specs.State.{taken_unless, reloaded, refusal_of, registering, disposing, disposing_unless}
+use Rattle.kb_code.specs.Handler.{HandlerData}
+use Rattle.kb_codes.specs.Live.{caller_of}
 use Rattle.kb_trace.specs.declared.event.Event.{Event}
 use Rattle.kb_trace.specs.declared.event.Event.TheVariants as event
 use Rattle.kb_stream.specs.Fold.{Traced, after_all, fold}
@@ -202,10 +204,15 @@ registering_runs : (fault : Option RegistryFault) (native : Native) (s : State)
 registering_runs None native s = refl
 registering_runs (Some fault) native s = refl
 
+unless_runs : (caller : Option HandlerData) (native : Native) (number : ℕ) (s : State)
+    → (disposing_unless caller native number s).state.stopped ≡ s.stopped
+unless_runs None native number s = refl
+unless_runs (Some caller) native number s = refl
+
 disposing_runs : (native : Option Native) (number : ℕ) (s : State)
     → (disposing native number s).state.stopped ≡ s.stopped
 disposing_runs None number s = refl
-disposing_runs (Some native) number s = refl
+disposing_runs (Some native) number s = unless_runs (caller_of native s.live.code) native number s
 
 step_on_runs : (told : Told) (s : State) → (step_on told s).state.stopped ≡ s.stopped
 step_on_runs (happens e) s = taken_runs (refusal_of e s) e s

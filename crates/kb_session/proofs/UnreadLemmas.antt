@@ -11,7 +11,9 @@ use Rattle.kb_core.specs.declared.native.Native.{Native}
 use Rattle.kb_registry.specs.Live.{registration_fault, holder}
 use Rattle.kb_registry.specs.declared.fault.RegistryFault.{RegistryFault}
 use Rattle.kb_session.specs.State.{State, Told, happens, reload, register, dispose, step, step_on, step_unless}
-use Rattle.kb_session.specs.State.{next, taken_unless, reloaded, refusal_of, registering, disposing}
+use Rattle.kb_session.specs.State.{next, taken_unless, reloaded, refusal_of, registering, disposing, disposing_unless}
+use Rattle.kb_code.specs.Handler.{HandlerData}
+use Rattle.kb_codes.specs.Live.{caller_of}
 use Rattle.kb_bindings.specs.Unread.{in_rules}
 use Rattle.kb_bindings.specs.declared.unread.UnreadIn.{UnreadIn}
 use Rattle.kb_stream.specs.Fold.{fold}
@@ -45,10 +47,15 @@ register_lists : (fault : Option RegistryFault) (native : Native) (s : State)
 register_lists None native s = refl
 register_lists (Some fault) native s = refl
 
+unless_lists : (caller : Option HandlerData) (native : Native) (number : ℕ) (s : State)
+    → (disposing_unless caller native number s).state.unread ≡ s.unread
+unless_lists None native number s = refl
+unless_lists (Some caller) native number s = refl
+
 dispose_lists : (native : Option Native) (number : ℕ) (s : State)
     → (disposing native number s).state.unread ≡ s.unread
 dispose_lists None number s = refl
-dispose_lists (Some native) number s = refl
+dispose_lists (Some native) number s = unless_lists (caller_of native s.live.code) native number s
 
 on_grows : (told : Told) (s : State) → Grows s.unread (step_on told s).state.unread
 on_grows (happens e) s = same_grows s.unread (step_on (happens e) s).state.unread (event_lists (refusal_of e s) e s)

@@ -4,7 +4,7 @@ use Rattle.std.specs.Prelude.{bytes_eq, nat_lt, if◌then◌else◌}
 use Rattle.serde_json.specs.Data.{Data, null, boolean, number, string, array, object}
 use Rattle.serde_json.specs.Find.{get, as_str}
 use Rattle.serde_json.specs.View.{view}
-use Rattle.kb_manifest.specs.Parts.{each, elements_of}
+use Rattle.kb_json.specs.Parts.{each, elements_of}
 use Rattle.kb_session.specs.declared.run_commands.Step.{Step}
 
 -- the command that runs others

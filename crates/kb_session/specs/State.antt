@@ -9,6 +9,8 @@ use Rattle.kb_context.specs.Scopes.{with_focus}
 use Rattle.kb_context.specs.declared.fault.ScopeFault.{ScopeFault}
 use Rattle.kb_context.specs.declared.fault.ScopeFault.TheVariants.{UnknownScope}
 use Rattle.kb_context.specs.declared.refusal.Refusal.{Refusal}
+use Rattle.kb_code.specs.Handler.{HandlerData}
+use Rattle.kb_codes.specs.Live.{caller_of}
 use Rattle.kb_core.specs.Core.{new_core, with_scopes}
 use Rattle.kb_core.specs.Native.{name_of}
 use Rattle.kb_core.specs.declared.native.Native.{Native}
@@ -151,11 +153,16 @@ registering None native s =
     (line.registered_line (name_of native) (s.live.made + 1) ∷ []) (ticket (s.live.made + 1))
 registering (Some fault) native s = refuse (refused_for (registry.number_of fault)) s
 
--- the closure of a ticket is live no more, if the ticket has one; an open chord stays
-abbrev pub disposing : Option Native → ℕ → State → Stepped
-disposing (Some native) number s =
+-- the closure of a ticket is live no more, unless a live handler calls its native; an open chord stays
+abbrev pub disposing_unless : Option HandlerData → Native → ℕ → State → Stepped
+disposing_unless None native number s =
     stepped (with_live (disposed number s.live) s) (line.disposed_line (name_of native) number ∷ [])
     (gave native)
+disposing_unless (Some caller) native number s = refuse (record { number = 73; detail = Some caller.command }) s
+
+-- the same, if the ticket has one
+abbrev pub disposing : Option Native → ℕ → State → Stepped
+disposing (Some native) number s = disposing_unless (caller_of native s.live.code) native number s
 disposing None number s = refuse (refused_for 72) s
 
 -- what a session does that is running

@@ -2,7 +2,7 @@
 //! takes `commands`; how long the list may be, and what a list with another element does, is our decision.
 ghost use Rattle.std.specs.Prelude.{◌≡◌, IfOk, OnErr, map, option_map};
 ghost use Rattle.serde_json.specs.View.{view, items_view};
-ghost use Rattle.kb_manifest.specs.Parts.{each, listed};
+ghost use Rattle.kb_json.specs.Parts.{each, listed};
 ghost use Rattle.kb_session.specs.RunCommands.{planned, planned_for, planned_in, few, elements_given};
 ghost use Rattle.kb_session.specs.RunCommands.{plan_of};
 ghost use Rattle.kb_session.specs.Session.{Begins};
@@ -110,7 +110,7 @@ fn elements_in(given: Option<&Value>) -> Option<&[Value]>
 }
 
 /// These elements, if they are at most 32. It takes no memory.
-#[tactic(auto, using(crate::proofs::PlanLemmas::as_many))]
+#[tactic(auto, using(kb_json::proofs::PartsLemmas::as_many))]
 fn few(elements: &[Value]) -> Option<&[Value]>
     ensures { option_map (λ elements. listed (items_view elements.now)) result
         ≡ few (listed (items_view elements.now)) }

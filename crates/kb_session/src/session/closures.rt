@@ -3,10 +3,10 @@ ghost use Rattle.std.specs.Prelude.{◌≡◌, ◌<◌, false, [], ◌∷◌, �
 ghost use Rattle.std.specs.Prelude.{IfOk, IfErr, OnOk, OnErr};
 ghost use Rattle.kb_context.specs.Failure.{Gives};
 ghost use Rattle.kb_context.specs.Refusal.{refused_for};
-ghost use Rattle.kb_registry.specs.Fault.{number_of};
+ghost use Rattle.kb_codes.specs.Live.{caller_of};
 ghost use Rattle.kb_registry.specs.Live.{registration_fault, holder};
 ghost use Rattle.kb_session.specs.Session.{Answers, RefusesAt, natives_held, load_failure};
-ghost use Rattle.kb_session.specs.State.{register, dispose, ticket, gave};
+ghost use Rattle.kb_session.specs.State.{Told, register, dispose, ticket, gave, refuse, step_on};
 ghost use Rattle.kb_trace.specs.Lines as line;
 
 use crate::fault::SessionFault;
@@ -39,7 +39,7 @@ impl<C: HostCommand> Session<C> {
         }
         match self.registry.registration_fault(command.native()) {
             None => self.admit(command),
-            Some(fault) => match self.note_refusal(fault) {
+            Some(fault) => match self.note_refusal(Refusal::of(fault.number())) {
                 Ok(refusal) => Err((command, SessionFault::Refused(refusal))),
                 Err(_) => Err((command, self.halted())),
             },
@@ -49,7 +49,8 @@ impl<C: HostCommand> Session<C> {
     /// Ends the registration that has a ticket, and gives its closure back. A chord that is open stays (our
     /// decision).
     ///
-    /// Errors: `Refused` where no closure that is live has the ticket (72); `Stopped` where the session was
+    /// Errors: `Refused` where no closure that is live has the ticket (72), or a live handler calls its native (73,
+    /// with the first such handler's command); `Stopped` where the session was
     /// stopped before; `NoMemory` where memory was refused: the session is stopped and else as before.
     pub fn dispose(&mut self, ticket: Ticket) -> Result<C, SessionFault>
         ensures ok { IfOk result (λ command.
@@ -60,11 +61,40 @@ impl<C: HostCommand> Session<C> {
             return Err(SessionFault::Stopped);
         }
         match self.registry.holder(ticket) {
-            Some(native) => self.release(native, ticket),
-            None => match self.note_refusal(RegistryFault::StaleTicket) {
-                Ok(refusal) => Err(SessionFault::Refused(refusal)),
-                Err(_) => Err(self.halted()),
-            },
+            Some(native) => self.release_unless_called(native, ticket),
+            None => Err(self.refuse_disposal(Refusal::of(RegistryFault::StaleTicket.number()))),
+        }
+    }
+
+    /// Takes the closure of a ticket out, unless a live handler calls its native.
+    fn release_unless_called(&mut self, native: Native, ticket: Ticket) -> Result<C, SessionFault>
+        requires running { self.old.state.stopped ≡ false }
+        requires held { holder ticket.0 self.old.state.live ≡ Some native }
+        ensures ok { IfOk result (λ command.
+            Answers (dispose ticket.0) self.old (gave (C.stands_for command)) self.new) }
+        ensures err { IfErr result (λ fault. RefusesAt fault (dispose ticket.0) self.old self.new) }
+    {
+        let Some(caller) = self.registry.caller_of(native) else {
+            return self.release(native, ticket);
+        };
+        match caller.command().copied() {
+            Ok(command) => Err(self.refuse_disposal(Refusal {
+                number: RegistryFault::InUse.number(),
+                detail: Some(command),
+            })),
+            Err(_) => Err(self.halted()),
+        }
+    }
+
+    /// Notes the line of a refusal, and gives the refusal, or stops the session where memory is refused.
+    fn refuse_disposal(&mut self, refusal: Refusal) -> SessionFault
+        requires running { self.old.state.stopped ≡ false }
+        ensures { (told : Told) → step_on told self.old.state ≡ refuse refusal self.old.state
+            → RefusesAt result told self.old self.new }
+    {
+        match self.note_refusal(refusal) {
+            Ok(refusal) => SessionFault::Refused(refusal),
+            Err(_) => self.halted(),
         }
     }
 
@@ -96,6 +126,7 @@ impl<C: HostCommand> Session<C> {
     fn release(&mut self, native: Native, ticket: Ticket) -> Result<C, SessionFault>
         requires running { self.old.state.stopped ≡ false }
         requires held { holder ticket.0 self.old.state.live ≡ Some native }
+        requires free { caller_of native self.old.state.live.code ≡ None }
         ensures ok { IfOk result (λ command.
             Answers (dispose ticket.0) self.old (gave (C.stands_for command)) self.new) }
         ensures err { IfErr result (λ fault. RefusesAt fault (dispose ticket.0) self.old self.new) }
@@ -110,14 +141,13 @@ impl<C: HostCommand> Session<C> {
     }
 
     /// Notes the line of a refusal, and gives the refusal.
-    fn note_refusal(&mut self, fault: RegistryFault) -> Result<Refusal, NoMemory>
-        ensures refusal { IfOk result (λ refusal. refusal ≡ refused_for (number_of fault)) }
+    fn note_refusal(&mut self, refusal: Refusal) -> Result<Refusal, NoMemory>
+        ensures refusal { IfOk result (λ noted. noted ≡ refusal) }
         ensures ok { OnOk result (self.new ≡ record self.old {
-          trace = self.old.trace ++ line.refused_line (refused_for (number_of fault)) ∷ [];
+          trace = self.old.trace ++ line.refused_line refusal ∷ [];
         }) }
         ensures err { OnErr result (self.new ≡ self.old) }
     {
-        let refusal = Refusal::of(fault.number());
         lines::refused_line(&mut self.trace, &refusal)?;
         Ok(refusal)
     }

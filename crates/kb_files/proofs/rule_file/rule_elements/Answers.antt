@@ -3,8 +3,8 @@ use Rattle.serde_json.specs.Data.{Data}
 use Rattle.serde_json.specs.View.{view}
 use Rattle.kb_context.specs.Reading.{or_fault}
 use Rattle.kb_context.specs.Refusal.{numbered}
-use Rattle.kb_manifest.specs.declared.fault.FileFault.TheVariants.{WrongShape}
-use Rattle.kb_manifest.specs.FileFault.{number_of}
+use Rattle.kb_json.specs.declared.fault.FileFault.TheVariants.{WrongShape}
+use Rattle.kb_json.specs.FileFault.{number_of}
 use Rattle.kb_files.proofs.Elements.{elements_view}
 use Rattle.kb_files.proofs.rule_file.rule_elements.Goals as goal
 

@@ -6,7 +6,7 @@ use Rattle.serde_json.specs.View.{view, items_view}
 use Rattle.kb_manifest.specs.declared.warning.Part.TheVariants.{Commands}
 use Rattle.kb_manifest.specs.Command.{judged_at, IsRightAt}
 use Rattle.kb_manifest.specs.declared.warning.Notes.{Notes}
-use Rattle.kb_manifest.specs.Parts.{listed}
+use Rattle.kb_json.specs.Parts.{listed}
 use Rattle.kb_manifest.specs.Warning.{with_unread}
 use Rattle.kb_manifest.proofs.CommandTableLemmas.{then_firsts, kept_put}
 use Rattle.kb_manifest.proofs.JudgedLemmas.{Goes, goes_on, ends, StaysRight, right_on, right_ends}

@@ -7,7 +7,7 @@ use Rattle.kb_manifest.specs.declared.warning.Part.TheVariants.{Palette}
 use Rattle.kb_manifest.specs.Judged.{kept_in}
 use Rattle.kb_manifest.specs.PaletteItem.{judged_at, IsRightAt}
 use Rattle.kb_manifest.specs.declared.warning.Notes.{Notes}
-use Rattle.kb_manifest.specs.Parts.{listed}
+use Rattle.kb_json.specs.Parts.{listed}
 use Rattle.kb_manifest.specs.Warning.{with_unread}
 use Rattle.kb_manifest.proofs.JudgedLemmas.{Goes, goes_on, ends, StaysRight, right_on, right_ends}
 use Rattle.kb_manifest.proofs.palette_item.read_items.Goals as goal

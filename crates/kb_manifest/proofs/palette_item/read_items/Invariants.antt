@@ -3,7 +3,7 @@ use Rattle.std.specs.Vec.Iter.{into_iter_items}
 use Rattle.serde_json.specs.View.{items_view}
 use Rattle.kb_manifest.specs.declared.warning.Part.TheVariants.{Palette}
 use Rattle.kb_manifest.specs.PaletteItem.{judged_at, IsRightAt}
-use Rattle.kb_manifest.specs.Parts.{listed}
+use Rattle.kb_json.specs.Parts.{listed}
 use Rattle.kb_manifest.proofs.JudgedLemmas.{Goes, StaysRight}
 use Rattle.kb_manifest.proofs.palette_item.read_items.Given as goal
 

@@ -1,6 +1,6 @@
 use Rattle.std.proofs.Common.{◌≡◌, ◌++◌, drop, map, option_map}
 use Rattle.serde_json.specs.View.{items_view}
-use Rattle.kb_manifest.specs.Parts.{each, listed}
+use Rattle.kb_json.specs.Parts.{each, listed}
 use Rattle.kb_session.specs.RunCommands.{planned, planned_in}
 use Rattle.kb_session.proofs.run_commands.read_elements.Given as goal
 

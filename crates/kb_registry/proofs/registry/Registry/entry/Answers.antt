@@ -7,7 +7,7 @@ use Rattle.kb_registry.proofs.registry.Registry.entry.Goals as goal
 pub returns-clause-live : goal.returns-clause-live
 returns-clause-live g c =
     sym (is_some-lent c.get.result) ∙ ap is_some c.get.ensures.value
-    ∙ sym (live-get (λ e. e.ticket) c.self.inside.limit c.self.inside.made c.self.inside.table c.args.native)
+    ∙ sym (live-get (λ e. e.ticket) c.self.inside.limit c.self.inside.made c.self.inside.code c.self.inside.table c.args.native)
     ∙ ap (is_live c.args.native) c.self.view_is
 
 pub returns-clause-native : goal.returns-clause-native

@@ -1,0 +1,68 @@
+-- The handlers that a file says, as JSON data, or its first fault.
+use Rattle.std.specs.Prelude.{ℤ, pos, negsuc, ◌==◌, Bool, false, List, [], ◌∷◌, map, codes}
+use Rattle.std.specs.Prelude.{Result, Ok, Err, if◌then◌else◌}
+use Rattle.serde_json.specs.Data.{Data}
+use Rattle.serde_json.specs.Find.{get, as_object}
+use Rattle.kb_code.specs.Handler.{HandlerData}
+use Rattle.kb_context.specs.Reading.{◌>>=◌, guard, or_fault, seen}
+use Rattle.kb_json.specs.declared.fault.FileFault.{FileFault}
+use Rattle.kb_json.specs.declared.fault.FileFault.TheVariants.{WrongShape}
+use Rattle.kb_json.specs.Parts.{elements_of}
+use Rattle.kb_handlers.specs.declared.entry.Entry.{Entry}
+use Rattle.kb_handlers.specs.declared.fault.HandlersFault.{HandlersFault}
+use Rattle.kb_handlers.specs.declared.fault.HandlersFault.TheVariants.{DuplicateHandler, TooLarge}
+use Rattle.kb_handlers.specs.Code.{code_in}
+use Rattle.kb_handlers.specs.Entry.{entry_of, required, whole_of}
+use Rattle.kb_handlers.specs.Fault.{shaped}
+use Rattle.kb_handlers.specs.Limits.{at_most, signature_of}
+use Rattle.kb_handlers.specs.Names.{repeats}
+
+-- the number is 1
+abbrev pub is_one : ℤ → Bool
+is_one (pos n) = n == 1
+is_one (negsuc n) = false
+
+-- the elements of the list of handlers of an object whose version is 1
+unfoldable pub list_of : Data → Result (List Data) FileFault
+list_of d = do
+  members ← or_fault WrongShape (as_object d)
+  version ← required whole_of (get (codes "version") d)
+  checked ← guard WrongShape (is_one version)
+  required elements_of (get (codes "handlers") d)
+
+-- the same, if there aren't too many
+abbrev pub head_of : Data → Result (List Data) HandlersFault
+head_of d = shaped (list_of d) >>= λ elements. or_fault TooLarge (at_most 1000 elements)
+
+-- the handler of what an element says: its limits come before its code
+unfoldable pub handler_in : Entry → Result HandlerData HandlersFault
+handler_in entry = do
+  signature ← or_fault TooLarge (signature_of entry.params entry.budget entry.depth)
+  texts ← or_fault TooLarge (at_most 1000 entry.texts)
+  calls ← or_fault TooLarge (at_most 1000 entry.calls)
+  code ← code_in entry.code
+  Ok (record {
+    command = entry.command;
+    signature = signature;
+    texts = texts;
+    calls = calls;
+    code = code;
+  })
+
+-- the handler that an element is, or its first fault
+abbrev pub handler_of : Data → Result HandlerData HandlersFault
+handler_of d = shaped (entry_of d) >>= handler_in
+
+-- what is read of each element in order, or the first fault
+abbrev pub each_read : {F A B : Type 0} → (A → Result B F) → List A → Result (List B) F
+each_read read [] = Ok []
+each_read read (x ∷ xs) = read x >>= λ y. seen (λ ys. y ∷ ys) (each_read read xs)
+
+-- handlers of which no two are of one command
+abbrev pub distinct : List HandlerData → Result (List HandlerData) HandlersFault
+distinct handlers =
+    if repeats (map (λ handler. handler.command) handlers) then Err DuplicateHandler else Ok handlers
+
+-- the handlers of a file, or its first fault
+abbrev pub handlers_of : Data → Result (List HandlerData) HandlersFault
+handlers_of d = head_of d >>= each_read handler_of >>= distinct

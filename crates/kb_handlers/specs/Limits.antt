@@ -1,0 +1,23 @@
+-- What a handler may have at most.
+use Rattle.std.specs.Prelude.{ℕ, ℤ, pos, negsuc, ◌&&◌, nat_le, List, length}
+use Rattle.std.specs.Prelude.{Option, Some, None, if◌then◌else◌}
+use Rattle.kb_core.specs.declared.parameter.Param.{Param}
+use Rattle.kb_core.specs.Declaration.{Declaration}
+use Rattle.kb_json.specs.Parts.{◌>>=◌}
+
+-- a list, if it isn't longer than that
+abbrev pub at_most : {A : Type 0} → ℕ → List A → Option (List A)
+at_most limit xs = if nat_le (length xs) limit then Some xs else None
+
+-- a whole number from 1 to a limit
+abbrev pub within : ℕ → ℤ → Option ℕ
+within limit (pos n) = if nat_le 1 n && nat_le n limit then Some n else None
+within limit (negsuc n) = None
+
+-- what a handler declares
+unfoldable pub signature_of : List Param → ℤ → ℤ → Option Declaration
+signature_of params budget depth = do
+  params ← at_most 8 params
+  budget ← within 1000000000 budget
+  depth ← within 64 depth
+  Some (record { params = params; budget = budget; depth = depth })

@@ -1,0 +1,13 @@
+//! The reading of files of handlers (`handlers.json`): JSON values become commands in code.
+#![tactic(auto)]
+
+mod code;
+mod entry;
+pub mod fault;
+pub mod handler_file;
+mod limits;
+mod names;
+mod parameters;
+
+pub use fault::HandlersFault;
+pub use handler_file::HandlerFile;

@@ -1,0 +1,49 @@
+//! Names that stand twice.
+ghost use Rattle.std.specs.Prelude.{◌≡◌, map, IfOk};
+ghost use Rattle.kb_handlers.specs.Names.{repeats};
+
+use indexmap::IndexSet;
+use kb_code::Handler;
+use kb_context::NoMemory;
+use kb_core::Param;
+use std::alloc::Global;
+
+/// What has a name.
+pub(crate) trait Named {
+    ghost use Rattle.std.specs.Prelude.{◌≡◌, ℕ, List};
+
+    ghost named: { Self → List ℕ };
+
+    /// The name.
+    fn name(&self) -> &str
+        ensures { result.now ≡ named self.now };
+}
+
+impl Named for Param {
+    ghost named = { λ param. param.name };
+
+    fn name(&self) -> &str {
+        self.name.as_str()
+    }
+}
+
+impl Named for Handler {
+    ghost named = { λ handler. handler.command };
+
+    fn name(&self) -> &str {
+        self.command().as_str()
+    }
+}
+
+/// Whether a name stands twice.
+pub(crate) fn repeats<T: Named>(alloc: Global, items: &[T]) -> Result<bool, NoMemory>
+    ensures { IfOk result (λ found. found ≡ repeats (map T.named items.now)) }
+{
+    let mut seen: IndexSet<&str> = IndexSet::new(alloc);
+    for item in items {
+        if !seen.insert(item.name())? {
+            return Ok(true);
+        }
+    }
+    Ok(false)
+}

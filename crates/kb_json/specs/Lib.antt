@@ -1,0 +1,3 @@
+pub mod FileFault
+pub mod Parts
+pub mod Member

@@ -1,0 +1,36 @@
+//! The texts that the members of an entry are.
+ghost use Rattle.std.specs.Prelude.{◌≡◌, option_map};
+ghost use Rattle.serde_json.specs.View.{view};
+ghost use Rattle.kb_json.specs.Member.{text_of, required_text, optional_text};
+
+use crate::fault::FileFault;
+use crate::parts::text_in;
+use kb_context::Text;
+use serde_json::Value;
+
+/// The text that a value is.
+fn text_of(value: Value) -> Result<Text, FileFault>
+    ensures { result ≡ text_of (view value) }
+{
+    text_in(value).ok_or(FileFault::WrongShape)
+}
+
+/// The text of a member that must be there. It takes no memory.
+pub fn required_text(member: Option<Value>) -> Result<Text, FileFault>
+    ensures { result ≡ required_text (option_map view member) }
+{
+    match member {
+        Some(value) => text_of(value),
+        None => Err(FileFault::MissingMember),
+    }
+}
+
+/// The text of a member that may be absent. It takes no memory.
+pub fn optional_text(member: Option<Value>) -> Result<Option<Text>, FileFault>
+    ensures { result ≡ optional_text (option_map view member) }
+{
+    match member {
+        Some(value) => Ok(Some(text_of(value)?)),
+        None => Ok(None),
+    }
+}

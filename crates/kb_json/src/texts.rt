@@ -1,0 +1,27 @@
+//! Lists of texts.
+ghost use Rattle.serde_json.specs.Find.{as_str};
+ghost use Rattle.serde_json.specs.View.{items_view};
+ghost use Rattle.kb_context.specs.Failure.{Gives};
+ghost use Rattle.kb_context.specs.Reading.{or_fault};
+ghost use Rattle.kb_json.specs.declared.fault.FileFault.TheVariants.{WrongShape};
+ghost use Rattle.kb_json.specs.Parts.{each, listed};
+
+use crate::fault::FileFault;
+use crate::parts::text_in;
+use kb_context::{Failure, Seq, Text};
+use serde_json::Value;
+use std::alloc::Global;
+
+/// The texts that the elements of a list are, moved out of them in order.
+///
+/// Errors: `WrongShape` (41) where an element is no text; or `NoMemory`.
+pub fn read_texts(alloc: Global, elements: Vec<Value>) -> Result<Seq<Text>, Failure<FileFault>>
+    ensures { Gives (λ texts. texts) result
+        (or_fault WrongShape (each as_str (listed (items_view elements.items)))) }
+{
+    let mut texts = Seq::new(alloc);
+    for element in elements {
+        texts.push(text_in(element).ok_or(FileFault::WrongShape)?)?;
+    }
+    Ok(texts)
+}

@@ -1,0 +1,7 @@
+pub mod Ends
+pub mod Fitting
+pub mod Bound
+pub mod Frames
+pub mod Turns
+pub mod Starts
+pub mod VmRows

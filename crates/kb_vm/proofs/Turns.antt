@@ -1,0 +1,218 @@
+-- One turn of the machine.
+use Rattle.std.proofs.Common.{◌≡◌, ◌<◌, ◌≤◌, ℕ, zero, suc, ◌+◌, ◌-◌, Bool, List, [], ◌∷◌, ◌++◌, Option, Some, None}
+use mathlib.Core.Bool.{true≢false}
+use Rattle.std.proofs.Common.{sym, ap, ◌∙◌, arith, if◌then◌else◌}
+use Rattle.std.specs.Prelude.{slice_get}
+use Rattle.std.proofs.lemmas.Bool.{le-leb, lt-leb, lt-ltb, le-ltb}
+use Rattle.kb_core.specs.declared.arg.Arg.{Arg}
+use Rattle.kb_core.specs.declared.run.Core.{Core}
+use Rattle.kb_code.specs.declared.instr.Instr.{Instr}
+use Rattle.kb_vm.specs.declared.machine.Machine.{Machine}
+use Rattle.kb_vm.specs.declared.machine.Turn.{Turn}
+use Rattle.kb_vm.specs.declared.machine.Turn.TheVariants as turn
+use Rattle.kb_vm.specs.declared.trap.Trap.TheVariants.{OutOfBudget, BadCode}
+use Rattle.kb_vm.specs.CallLine.{call_line}
+use Rattle.kb_vm.specs.Callee.{Callee, Plain, Coded, Table, declared_by}
+use Rattle.kb_vm.specs.Effect.{Enter, Goto, effect}
+use Rattle.kb_vm.specs.Meaning.{World, counted, with_line, Answer, Done, Stuck, and_then, fetched, run_callee, follow, run}
+use Rattle.kb_vm.specs.Meaning.{native_called, first_world}
+use Rattle.kb_vm.specs.Outcome.{Shows}
+use Rattle.kb_vm.specs.State.{finish, rest, rest_of, TurnedFrom, PaysFrom, credit, Begins, fetched_at, after_instr}
+use Rattle.kb_vm.specs.Action.{IsCallable}
+use Rattle.kb_vm.specs.declared.machine.Frame.{Frame}
+use Rattle.kb_vm.specs.declared.trap.Trap.{Trap}
+use Rattle.kb_code.specs.Handler.{HandlerData}
+use Rattle.kb_core.specs.declared.native.Native.{Native}
+use Rattle.kb_core.specs.Core.{core_after}
+use Rattle.kb_core.specs.Native.{budget_of}
+use Rattle.std.specs.Prelude.{sum_by, Result, Ok, Err, is_ok}
+use Rattle.std.proofs.lemmas.List.Sums.{sum_by-append}
+use Rattle.kb_vm.specs.Leave.{Keeps, Left}
+use Rattle.kb_vm.proofs.Bound.{run_step}
+use Rattle.kb_vm.proofs.Frames.{finish_stuck}
+
+-- a jump, by whether it leads to a later place
+goto_if : Table → Machine → ℕ → List Arg → World → Bool → Answer
+goto_if table m to operands w b = finish table m.callers.items (if b then run table m.frame.handler m.frame.args m.frame.left to operands w else Stuck BadCode m.frame.handler.command m.frame.place w)
+
+pub goes_back : (table : Table) (m : Machine) (to : ℕ) (operands : List Arg) (w : World) → to ≤ m.frame.place
+    → rest_of table m (Goto to operands) w ≡ Stuck BadCode m.frame.handler.command m.frame.place w
+unfolding goto_if
+goes_back table m to operands w le =
+    ap (goto_if table m to operands w) (le-ltb _ _ le)
+    ∙ finish_stuck table m.callers.items BadCode m.frame.handler.command m.frame.place w
+
+pub goes_on : (table : Table) (m : Machine) (to : ℕ) (operands : List Arg) (w : World) → m.frame.place < to
+    → rest_of table m (Goto to operands) w
+    ≡ finish table m.callers.items (run table m.frame.handler m.frame.args m.frame.left to operands w)
+unfolding goto_if
+goes_on table m to operands w lt = ap (goto_if table m to operands w) (lt-ltb _ _ lt)
+
+-- a call, by whether its frame can pay for it
+enter_if : Table → Machine → List ℕ → Callee → List Arg → List Arg → World → Bool → Answer
+enter_if table m name callee given operands w b = finish table m.callers.items (if b then and_then (run_callee (run table) callee given (with_line name given w)) (λ u. run table m.frame.handler m.frame.args (m.frame.left - (declared_by callee).budget) (m.frame.place + 1) operands u) else Stuck OutOfBudget m.frame.handler.command m.frame.place w)
+
+pub entered_poor : (table : Table) (m : Machine) (name : List ℕ) (callee : Callee) (given operands : List Arg)
+    (w : World) → m.frame.left < (declared_by callee).budget
+    → rest_of table m (Enter name callee given operands) w
+    ≡ Stuck OutOfBudget m.frame.handler.command m.frame.place w
+unfolding enter_if
+entered_poor table m name callee given operands w lt =
+    ap (enter_if table m name callee given operands w) (lt-leb _ _ lt)
+    ∙ finish_stuck table m.callers.items OutOfBudget m.frame.handler.command m.frame.place w
+
+-- what a callee gives, for which so much was paid
+abbrev pub paid : Table → Machine → ℕ → Callee → List Arg → List Arg → World → Answer
+paid table m most callee given operands w =
+    finish table m.callers.items (and_then (run_callee (run table) callee given w)
+    (λ u. run table m.frame.handler m.frame.args (m.frame.left - most) (m.frame.place + 1) operands u))
+
+pub entered_rich : (table : Table) (m : Machine) (name : List ℕ) (callee k : Callee) (most : ℕ)
+    (given operands : List Arg) (w : World) → most ≤ m.frame.left → most ≡ (declared_by callee).budget → callee ≡ k
+    → rest_of table m (Enter name callee given operands) w
+    ≡ paid table m most k given operands (with_line name given w)
+unfolding enter_if
+entered_rich table m name callee k most given operands w le e is =
+    let le' : (declared_by callee).budget ≤ m.frame.left = omega (arith, e) in
+    ap (enter_if table m name callee given operands w) (le-leb _ _ le')
+    ∙ ap (λ b. paid table m b callee given operands (with_line name given w)) (sym e)
+    ∙ ap (λ c. paid table m most c given operands (with_line name given w)) is
+
+pub line_shows : (w : World) (core : Core) (lines more : List (List ℕ)) (spent : ℕ) (name : List ℕ)
+    (given : List Arg) → more ≡ lines ++ call_line name given ∷ [] → Shows w core lines spent
+    → Shows (with_line name given w) core more spent
+line_shows w core lines more spent name given is s = record {
+  core_is = s.core_is;
+  lines_are = ap (λ l. l ++ call_line name given ∷ []) s.lines_are ∙ sym is;
+  at_least = s.at_least;
+  at_most = s.at_most;
+}
+
+pub counted_shows : (w : World) (core : Core) (lines : List (List ℕ)) (spent : ℕ) → Shows w core lines spent
+    → Shows (counted w) core lines (spent + 1)
+counted_shows w core lines spent s = record {
+  core_is = s.core_is;
+  lines_are = s.lines_are;
+  at_least = omega (arith, s.at_least);
+  at_most = omega (arith, s.at_most);
+}
+
+-- what is left to do, by the instruction at the place and the allowance
+at_place : Table → Machine → World → Option Instr → ℕ → Answer
+at_place table m w o left = finish table m.callers.items (fetched o left (λ trap. Stuck trap m.frame.handler.command m.frame.place w) (λ instr rest. follow (run table) m.frame.handler m.frame.args rest m.frame.place (counted w) (effect table m.frame.handler m.frame.args w.core m.frame.operands instr)))
+
+rest_at : (table : Table) (m : Machine) (w : World)
+    → rest table m w ≡ at_place table m w (slice_get m.frame.handler.code m.frame.place) m.frame.left
+unfolding at_place
+rest_at table m w =
+    ap (finish table m.callers.items)
+    (run_step table m.frame.handler m.frame.args m.frame.left m.frame.place m.frame.operands w)
+
+instr_in : Instr → Result Instr Trap → Instr
+instr_in instr (Ok i) = i
+instr_in instr (Err trap) = instr
+
+trap_in : Trap → Result Instr Trap → Trap
+trap_in trap (Ok i) = trap
+trap_in trap (Err t) = t
+
+some_fetched : (o : Option Instr) (left : ℕ) (instr : Instr) → Ok instr ≡ fetched_at o left
+    → (o ≡ Some instr) × (left ≡ suc (left - 1))
+unfolding instr_in
+some_fetched None left instr e = absurd (true≢false (ap is_ok e))
+some_fetched (Some i) zero instr e = absurd (true≢false (ap is_ok e))
+some_fetched (Some i) (suc left) instr e = (ap Some (sym (ap (instr_in instr) e)), omega arith)
+
+pub turn_to : (table : Table) (m : Machine) (w : World) (instr : Instr)
+    → Ok instr ≡ fetched_at (slice_get m.frame.handler.code m.frame.place) m.frame.left
+    → rest table m w ≡ after_instr table m instr w
+unfolding at_place
+turn_to table m w instr is =
+    let found = some_fetched _ _ instr is in
+    rest_at table m w
+    ∙ ap (λ o. at_place table m w o m.frame.left) found.0
+    ∙ ap (at_place table m w (Some instr)) found.1
+
+-- no instruction, or none that is paid for
+fault_at : (table : Table) (m : Machine) (w : World) (o : Option Instr) (left : ℕ) (trap : Trap)
+    → Err trap ≡ fetched_at o left
+    → at_place table m w o left ≡ finish table m.callers.items (Stuck trap m.frame.handler.command m.frame.place w)
+unfolding at_place trap_in
+fault_at table m w None left trap e =
+    ap (λ t. finish table m.callers.items (Stuck t m.frame.handler.command m.frame.place w)) (sym (ap (trap_in trap) e))
+fault_at table m w (Some i) zero trap e =
+    ap (λ t. finish table m.callers.items (Stuck t m.frame.handler.command m.frame.place w)) (sym (ap (trap_in trap) e))
+fault_at table m w (Some i) (suc left) trap e = absurd (true≢false (sym (ap is_ok e)))
+
+pub turn_fault : (table : Table) (m : Machine) (w : World) (trap : Trap)
+    → Err trap ≡ fetched_at (slice_get m.frame.handler.code m.frame.place) m.frame.left
+    → rest table m w ≡ Stuck trap m.frame.handler.command m.frame.place w
+turn_fault table m w trap is =
+    rest_at table m w
+    ∙ fault_at table m w _ _ trap is
+    ∙ finish_stuck table m.callers.items trap m.frame.handler.command m.frame.place w
+
+pub native_shows : (w : World) (n : Native) (args : List Arg) (core next : Core) (lines : List (List ℕ))
+    (spent cost more : ℕ) → Shows w core lines spent → next ≡ core_after n args core → cost ≤ budget_of n
+    → more ≡ cost → Shows (native_called n args w) next lines (spent + more)
+native_shows w n args core next lines spent cost more s is le e =
+    let sum = sum_by-append budget_of w.natives (n ∷ []) in
+    record {
+      core_is = ap (core_after n args) s.core_is ∙ sym is;
+      lines_are = s.lines_are;
+      at_least = omega (arith, s.at_least);
+      at_most = omega (arith, s.at_most, sum, le, e);
+    }
+
+kept_shows : (w : World) (m n : Machine) → Keeps m n → Shows w m.core m.lines m.spent → Shows w n.core n.lines n.spent
+kept_shows w m n k s = record {
+  core_is = s.core_is ∙ sym k.core;
+  lines_are = s.lines_are ∙ sym k.lines;
+  at_least = omega (arith, s.at_least, k.spent);
+  at_most = omega (arith, s.at_most, k.spent);
+}
+
+pub left_turned : (table : Table) (m : Machine) (t : Turn) (w : World) → Shows w m.core m.lines m.spent
+    → Left table m t → TurnedFrom table (finish table m.callers.items (Done w)) t
+left_turned table m (turn.On n) w s l = (w, kept_shows w m n l.0 s, l.1 w)
+left_turned table m (turn.Ended n) w s l = (w, kept_shows w m n l.0 s, l.1 w)
+left_turned table m (turn.Trapped n trap) w s l = absurd l
+left_turned table m (turn.NoMemory n) w s l = absurd l
+
+pub left_pays : (m : Machine) (t : Turn) → Left (λ name. None) m t → PaysFrom 0 m t
+left_pays m (turn.On n) l = (omega (arith, l.0.spent, l.0.credit), omega (arith, l.0.credit))
+left_pays m (turn.Ended n) l = omega (arith, l.0.spent, l.0.credit)
+left_pays m (turn.Trapped n trap) l = absurd l
+left_pays m (turn.NoMemory n) l = absurd l
+
+pub begun : (table : Table) (h : HandlerData) (args : List Arg) (core : Core) (m : Machine) → Begins h args core m
+    → run table h args h.signature.budget 0 [] (first_world core) ≡ rest table m (first_world core)
+begun table h args core m b =
+    let w = first_world core in
+    sym (ap (λ fs. finish table fs (run table m.frame.handler m.frame.args m.frame.left m.frame.place m.frame.operands w)) b.no_callers
+    ∙ ap (λ g. run table g m.frame.args m.frame.left m.frame.place m.frame.operands w) b.handler_is
+    ∙ ap (λ vs. run table h vs m.frame.left m.frame.place m.frame.operands w) b.args_are
+    ∙ ap (λ n. run table h args n m.frame.place m.frame.operands w) b.whole_budget
+    ∙ ap (λ p. run table h args h.signature.budget p m.frame.operands w) b.first_place
+    ∙ ap (λ os. run table h args h.signature.budget 0 os w) b.no_operands)
+
+pub begun_shows : (h : HandlerData) (args : List Arg) (core : Core) (m : Machine) → Begins h args core m
+    → Shows (first_world core) m.core m.lines m.spent
+begun_shows h args core m b = record {
+  core_is = sym b.core_is;
+  lines_are = sym b.no_lines;
+  at_least = omega arith;
+  at_most = omega (arith, b.nothing_spent);
+}
+
+pub begun_bound : (h : HandlerData) (args : List Arg) (core : Core) (m : Machine) → Begins h args core m
+    → m.spent + credit m ≤ h.signature.budget
+begun_bound h args core m b =
+    let none = ap (sum_by (λ (f : Frame). f.left)) b.no_callers in
+    omega (arith, none, b.nothing_spent, b.whole_budget)
+
+-- a command that is found is callable
+pub found_callable : (table : Table) (name : List ℕ) (callee : Callee) → Some callee ≡ table name
+    → IsCallable table callee
+found_callable table name (Plain native) e = (name, sym e)
+found_callable table name (Coded handler) e = tt

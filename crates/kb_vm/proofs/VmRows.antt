@@ -1,0 +1,97 @@
+-- Worked rows of the definitions: small commands in code, from their start.
+use Rattle.std.proofs.Common.{◌≡◌, ℕ, List, [], ◌∷◌, Option, Some, None, refl, if◌then◌else◌, codes, bytes_eq}
+use Rattle.json.specs.Print.{print_from, escape_byte}
+use Rattle.kb_core.specs.declared.native.Native.TheVariants.{TypeText}
+use Rattle.kb_core.specs.declared.run.Core.{Core}
+use Rattle.kb_core.specs.Core.{new_core}
+use Rattle.kb_code.specs.declared.instr.Instr.{Instr}
+use Rattle.kb_code.specs.declared.instr.Instr.TheVariants as i
+use Rattle.kb_code.specs.Handler.{HandlerData}
+use Rattle.kb_vm.specs.declared.trap.Trap.{Trap}
+use Rattle.kb_vm.specs.declared.trap.Trap.TheVariants.{MissingOperand, UnknownCommand, WrongArgument, OutOfBudget}
+use Rattle.kb_vm.specs.declared.trap.Trap.TheVariants.{TooDeep, BadCode}
+use Rattle.kb_vm.specs.CallLine.{list_text}
+use Rattle.kb_vm.specs.Callee.{Plain, Coded, Table}
+use Rattle.kb_vm.specs.Meaning.{World, Answer, Done, Stuck, run, start_of}
+
+-- a handler x.hi of this code, which may call itself and `type`, beside the native
+handler : ℕ → List Instr → HandlerData
+handler budget code = record {
+  command = codes "x.hi";
+  signature = record { params = []; budget = budget; depth = 1 };
+  texts = codes "hi" ∷ [];
+  calls = codes "type" ∷ codes "x.hi" ∷ codes "none" ∷ [];
+  code = code;
+}
+
+table : ℕ → List Instr → Table
+table budget code name =
+    if bytes_eq name (codes "x.hi") then Some (Coded (handler budget code))
+    else if bytes_eq name (codes "type") then Some (Plain TypeText) else None
+
+first : Core
+first = new_core (record { scopes = []; focus = 0 })
+
+started : ℕ → List Instr → Option Answer
+started budget code = start_of (table budget code) (codes "x.hi") [] first
+
+-- before anything, but for so many instructions
+after_instructions : ℕ → World
+after_instructions count = record { core = first; lines = []; count = count; natives = [] }
+
+stuck : Trap → ℕ → ℕ → Option Answer
+stuck trap place count = Some (Stuck trap (codes "x.hi") place (after_instructions count))
+
+-- three instructions and a native: "hi" is typed
+types_hi : started 1004 (i.Text 0 ∷ i.Call 0 ∷ i.Return ∷ [])
+    ≡ Some (Done (record {
+      core = record { buffer = record { before = codes "hi"; after = [] }; scopes = first.scopes };
+      lines = codes "call type [\"hi\"]" ∷ [];
+      count = 3;
+      natives = TypeText ∷ [];
+    }))
+unfolding handler table first started run list_text print_from escape_byte
+types_hi = refl
+
+-- a budget that holds the callee's, and one instruction too few behind it
+one_too_few : started 1003 (i.Text 0 ∷ i.Call 0 ∷ i.Return ∷ [])
+    ≡ Some (Stuck OutOfBudget (codes "x.hi") 2 (record {
+      core = record { buffer = record { before = codes "hi"; after = [] }; scopes = first.scopes };
+      lines = codes "call type [\"hi\"]" ∷ [];
+      count = 2;
+      natives = TypeText ∷ [];
+    }))
+unfolding handler table first started run list_text print_from escape_byte
+one_too_few = refl
+
+-- a callee's budget is more than is left
+too_dear : started 1002 (i.Text 0 ∷ i.Call 0 ∷ i.Return ∷ []) ≡ stuck OutOfBudget 1 2
+unfolding handler table first started stuck after_instructions run
+too_dear = refl
+
+no_operand : started 9 (i.Add ∷ []) ≡ stuck MissingOperand 0 1
+unfolding handler table first started stuck after_instructions run
+no_operand = refl
+
+no_command : started 9 (i.Call 2 ∷ []) ≡ stuck UnknownCommand 0 1
+unfolding handler table first started stuck after_instructions run
+no_command = refl
+
+wrong_kind : started 9 (i.Num 1 ∷ i.Call 0 ∷ []) ≡ stuck WrongArgument 1 2
+unfolding handler table first started stuck after_instructions run
+wrong_kind = refl
+
+-- it would call itself, whose depth is its own
+too_deep : started 9 (i.Call 1 ∷ []) ≡ stuck TooDeep 0 1
+unfolding handler table first started stuck after_instructions run
+too_deep = refl
+
+-- it goes on behind its code, for which nothing is paid
+no_code : started 9 (i.Num 1 ∷ []) ≡ stuck BadCode 1 1
+unfolding handler table first started stuck after_instructions run
+no_code = refl
+
+-- it would jump to its own place
+no_way_back : started 9 (i.Jump 0 ∷ []) ≡ stuck BadCode 0 1
+unfolding handler table first started stuck after_instructions run
+no_way_back = refl

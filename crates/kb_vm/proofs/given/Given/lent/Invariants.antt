@@ -1,0 +1,7 @@
+use Rattle.std.proofs.Common.{◌≡◌, ◌++◌, drop, map}
+use Rattle.kb_vm.specs.Operand.{arg_of}
+use Rattle.kb_vm.proofs.given.Given.lent.Given as goal
+
+-- the arguments so far, and then those that are left
+abbrev pub invariant-loop-arg : goal.invariant-loop-arg
+invariant-loop-arg l = map arg_of l.items.items ++ drop l.arg-index l.args ≡ l.args

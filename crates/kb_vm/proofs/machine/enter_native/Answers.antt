@@ -1,0 +1,20 @@
+use Rattle.std.proofs.Common.{◌≡◌, ◌≤◌, refl, rules}
+use Rattle.kb_core.specs.Core.{core_after}
+use Rattle.kb_core.specs.Native.{budget_of}
+use Rattle.kb_vm.specs.Meaning.{native_called}
+use Rattle.kb_vm.proofs.Frames.{begins_is, native_keeps}
+use Rattle.kb_vm.proofs.Turns.{native_shows}
+use Rattle.kb_vm.proofs.machine.enter_native.Goals as goal
+
+pub returns-in-Ok-clause-turned : goal.returns-in-Ok-clause-turned
+returns-in-Ok-clause-turned g c = λ w s.
+    let m = c.args.machine in
+    let does : (c.run_native-core.result.core ≡ core_after c.args.native c.args.given m.core) × (c.in-Ok.cost ≤ budget_of c.args.native) = search rules in (
+      native_called c.args.native c.args.given w,
+      native_shows w c.args.native c.args.given m.core _ m.lines m.spent c.in-Ok.cost c.from.result s does.0 does.1 c.from.ensures,
+      refl,
+    )
+
+pub returns-clause-turned : goal.returns-clause-turned
+returns-clause-turned g c = λ w s.
+    begins_is _ _ _ s.lines_are (native_keeps _ c.args.machine c.args.native c.args.given w)

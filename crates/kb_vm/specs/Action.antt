@@ -1,0 +1,60 @@
+-- What the machine's function for one instruction says.
+use Rattle.std.specs.Prelude.{◌≡◌, ◌≤◌, ℕ, List, Bool, true, false, length, drop}
+use Rattle.kb_core.specs.declared.arg.Arg.{Arg}
+use Rattle.kb_core.specs.Signature.{fits}
+use Rattle.kb_code.specs.declared.instr.Instr.{Instr}
+use Rattle.kb_code.specs.declared.instr.Instr.TheVariants as i
+use Rattle.kb_vm.specs.declared.action.Action.{Action}
+use Rattle.kb_vm.specs.declared.action.Action.TheVariants as action
+use Rattle.kb_vm.specs.Callee.{Callee, Plain, Coded, Table, IsLive, declared_by}
+use Rattle.kb_vm.specs.Effect.{Effect, Stop, Leave, Next, Goto, Enter, topmost}
+use Rattle.kb_vm.specs.Found.{callee_of}
+
+-- how many arguments a command takes
+abbrev pub arity : Callee → ℕ
+arity callee = length (declared_by callee).params
+
+-- an effect, as the code has it, with the operands behind it; those of a call are still there
+abbrev pub Does : Effect → Action → List Arg → Type 0
+Does e (action.Stop trap) operands = e ≡ Stop trap
+Does e action.Leave operands = e ≡ Leave
+Does e action.Next operands = e ≡ Next operands
+Does e (action.Goto to) operands = e ≡ Goto to operands
+Does e (action.Enter name found) operands =
+    let callee = callee_of found in
+    e ≡ Enter name.now callee (topmost (arity callee) operands) (drop (arity callee) operands)
+
+-- a native that is found is live
+abbrev pub IsCallable : Table → Callee → Type 0
+IsCallable table (Plain native) = IsLive table native
+IsCallable table (Coded handler) = Unit {0}
+
+-- there are arguments for a callee, and they fit it
+pub record HasArguments (callee : Callee) (operands : List Arg) : Type 0 where
+  pub enough : arity callee ≤ length operands
+  pub fit : fits (declared_by callee).params (topmost (arity callee) operands) ≡ true
+
+-- the command that is entered is live, and there are arguments for it
+abbrev pub IsReady : Table → Action → List Arg → Type 0
+IsReady table (action.Stop trap) operands = Unit {0}
+IsReady table action.Leave operands = Unit {0}
+IsReady table action.Next operands = Unit {0}
+IsReady table (action.Goto to) operands = Unit {0}
+IsReady table (action.Enter name found) operands =
+    IsCallable table (callee_of found) × HasArguments (callee_of found) operands
+
+-- whether an instruction makes a text, for which it asks memory
+abbrev pub makes_text : Instr → Bool
+makes_text i.Join = true
+makes_text i.Show = true
+makes_text (i.Context n) = true
+makes_text _ = false
+
+abbrev pub is_stop : Effect → Bool
+is_stop (Stop trap) = true
+is_stop _ = false
+
+-- memory is refused only to an instruction that makes a text, and only where it doesn't trap
+pub record MayLackMemory (instr : Instr) (e : Effect) : Type 0 where
+  pub asks : makes_text instr ≡ true
+  pub goes_on : is_stop e ≡ false

@@ -1,0 +1,21 @@
+-- What leaving a frame does.
+use Rattle.std.specs.Prelude.{◌≡◌, ◌≤◌}
+use Rattle.kb_vm.specs.declared.machine.Machine.{Machine}
+use Rattle.kb_vm.specs.declared.machine.Turn.{Turn}
+use Rattle.kb_vm.specs.declared.machine.Turn.TheVariants as turn
+use Rattle.kb_vm.specs.Callee.{Table}
+use Rattle.kb_vm.specs.Meaning.{World, Done}
+use Rattle.kb_vm.specs.State.{finish, rest, credit}
+
+-- nothing is spent, and what is left to do is what the callers make of it
+pub record Keeps (m n : Machine) : Type 0 where
+  pub core : n.core ≡ m.core
+  pub lines : n.lines ≡ m.lines
+  pub spent : n.spent ≡ m.spent
+  pub credit : credit n ≤ credit m
+
+abbrev pub Left : Table → Machine → Turn → Type 0
+Left table m (turn.On n) = Keeps m n × ((w : World) → finish table m.callers.items (Done w) ≡ rest table n w)
+Left table m (turn.Ended n) = Keeps m n × ((w : World) → finish table m.callers.items (Done w) ≡ Done w)
+Left table m (turn.Trapped n trap) = ⊥
+Left table m (turn.NoMemory n) = ⊥

@@ -1,0 +1,12 @@
+pub mod Trap
+pub mod Callee
+pub mod Found
+pub mod Operand
+pub mod Values
+pub mod CallLine
+pub mod Effect
+pub mod Meaning
+pub mod Action
+pub mod Outcome
+pub mod State
+pub mod Leave

@@ -1,0 +1,109 @@
+-- What a start does, written with calls as recursion: no frames and no meter.
+use Rattle.std.specs.Prelude.{◌≡◌, ℕ, zero, suc, ◌+◌, ◌-◌, nat_le, nat_lt, if◌then◌else◌, List, [], ◌∷◌, ◌++◌}
+use Rattle.std.specs.Prelude.{Option, Some, None, option_map, slice_get}
+use Rattle.kb_core.specs.declared.arg.Arg.{Arg}
+use Rattle.kb_core.specs.declared.native.Native.{Native}
+use Rattle.kb_core.specs.declared.run.Core.{Core}
+use Rattle.kb_core.specs.Core.{core_after}
+use Rattle.kb_core.specs.Signature.{fits}
+use Rattle.kb_code.specs.declared.instr.Instr.{Instr}
+use Rattle.kb_code.specs.Handler.{HandlerData}
+use Rattle.kb_vm.specs.declared.trap.Trap.{Trap}
+use Rattle.kb_vm.specs.declared.trap.Trap.TheVariants.{WrongArgument, OutOfBudget, BadCode}
+use Rattle.kb_vm.specs.CallLine.{call_line}
+use Rattle.kb_vm.specs.Callee.{Callee, Plain, Coded, Table, declared_by}
+use Rattle.kb_vm.specs.Effect.{Effect, Stop, Leave, Next, Goto, Enter, effect}
+
+-- the core, and what has happened so far: lines, the number of instructions, and the natives that were called
+pub record World : Type 0 where
+  pub core : Core
+  pub lines : List (List ℕ)
+  pub count : ℕ
+  pub natives : List Native
+
+-- before anything has happened
+abbrev pub first_world : Core → World
+first_world core = record { core = core; lines = []; count = 0; natives = [] }
+
+-- one more instruction
+abbrev pub counted : World → World
+counted w = record w { count = w.count + 1 }
+
+-- the line of a call, which is written before the callee runs
+abbrev pub with_line : List ℕ → List Arg → World → World
+with_line name args w = record w { lines = w.lines ++ call_line name args ∷ [] }
+
+-- a native was called
+abbrev pub native_called : Native → List Arg → World → World
+native_called native args w =
+    record w { core = core_after native args w.core; natives = w.natives ++ native ∷ [] }
+
+-- it is done, or a handler is stuck: why, its command, and the place of its instruction
+pub data Answer : Type 0 where
+  Done : (world : World) → Answer
+  Stuck : (trap : Trap) (command : List ℕ) (place : ℕ) (world : World) → Answer
+
+-- goes on from where a callee is done
+abbrev pub and_then : Answer → (World → Answer) → Answer
+and_then (Done w) on = on w
+and_then (Stuck trap command place w) on = Stuck trap command place w
+
+-- fetches an instruction, for which 1 is paid
+abbrev pub fetched : Option Instr → ℕ → (Trap → Answer) → (Instr → ℕ → Answer) → Answer
+fetched None left stuck on = stuck BadCode
+fetched (Some instr) zero stuck on = stuck OutOfBudget
+fetched (Some instr) (suc left) stuck on = on instr left
+
+-- what runs a handler on: its arguments, its allowance, the place, the operands and the world
+abbrev pub Runner : Type 0
+Runner = HandlerData → List Arg → ℕ → ℕ → List Arg → World → Answer
+
+-- a callee as one value
+abbrev pub run_callee : Runner → Callee → List Arg → World → Answer
+run_callee run (Plain native) args w = Done (native_called native args w)
+run_callee run (Coded g) args w = run g args g.signature.budget 0 [] w
+
+-- what follows an instruction's effect, by what is left of the allowance
+abbrev pub follow : Runner → HandlerData → List Arg → ℕ → ℕ → World → Effect → Answer
+follow run h args left place w (Stop trap) = Stuck trap h.command place w
+follow run h args left place w Leave = Done w
+follow run h args left place w (Next operands) = run h args left (place + 1) operands w
+follow run h args left place w (Goto to operands) =
+    if nat_lt place to then run h args left to operands w else Stuck BadCode h.command place w
+follow run h args left place w (Enter name callee given operands) =
+    if nat_le (declared_by callee).budget left
+    then and_then (run_callee run callee given (with_line name given w))
+    (λ v. run h args (left - (declared_by callee).budget) (place + 1) operands v)
+    else Stuck OutOfBudget h.command place w
+
+-- one instruction
+abbrev pub step : Table → Runner → Runner
+step table run h args left place operands w =
+    fetched (slice_get h.code place) left (λ trap. Stuck trap h.command place w) (λ instr rest.
+    follow run h args rest place (counted w) (effect table h args w.core operands instr))
+
+-- Runs a handler on. Each turn takes at least 1 from the allowance, and a callee's budget is less than the
+-- caller's allowance, so a bound above the allowance is never reached.
+abbrev pub go : ℕ → Table → Runner
+go zero table h args left place operands w = Stuck OutOfBudget h.command place w
+go (suc n) table h args left place operands w = step table (go n table) h args left place operands w
+
+-- with bound enough
+unfoldable pub run : Table → Runner
+run table h args left place operands w = go (suc left) table h args left place operands w
+
+-- a run is one instruction, and then a run: nobody need trust the bound
+abbrev pub RunsByStep : Type 0
+RunsByStep = (table : Table) (h : HandlerData) (args : List Arg) (left place : ℕ) (operands : List Arg)
+    (w : World) → run table h args left place operands w ≡ step table (run table) h args left place operands w
+
+-- a live command from the start, where its arguments fit it
+abbrev pub start_callee : Table → List ℕ → Callee → List Arg → World → Answer
+start_callee table name callee args w =
+    if fits (declared_by callee).params args then run_callee (run table) callee args w
+    else Stuck WrongArgument name 0 w
+
+-- the start of a command, or nothing where no live command has the name
+abbrev pub start_of : Table → List ℕ → List Arg → Core → Option Answer
+start_of table name args core =
+    option_map (λ callee. start_callee table name callee args (first_world core)) (table name)

@@ -1,0 +1,113 @@
+-- What the machine's state stands for: what is left to do from it.
+use Rattle.std.specs.Prelude.{◌≡◌, ℕ, zero, suc, ◌+◌, ◌-◌, ◌≤◌, ◌<◌, List, [], ◌∷◌, sum_by}
+use Rattle.std.specs.Prelude.{Option, Some, None, Result, Ok, Err, length, drop}
+use Rattle.kb_core.specs.declared.arg.Arg.{Arg}
+use Rattle.kb_core.specs.declared.native.Native.{Native}
+use Rattle.kb_core.specs.declared.run.Core.{Core}
+use Rattle.kb_code.specs.declared.instr.Instr.{Instr}
+use Rattle.kb_code.specs.Handler.{HandlerData}
+use Rattle.kb_vm.specs.declared.trap.Trap.{Trap}
+use Rattle.kb_vm.specs.declared.trap.Trap.TheVariants.{OutOfBudget, BadCode}
+use Rattle.kb_vm.specs.declared.machine.Frame.{Frame}
+use Rattle.kb_vm.specs.declared.machine.Machine.{Machine}
+use Rattle.kb_vm.specs.declared.machine.Turn.{Turn}
+use Rattle.kb_vm.specs.declared.machine.Turn.TheVariants as turn
+use Rattle.kb_vm.specs.Callee.{Callee, Table, declared_by}
+use Rattle.kb_vm.specs.Effect.{Effect, Enter, effect, topmost}
+use Rattle.kb_vm.specs.Meaning.{World, Answer, Done, Stuck, and_then, run, follow, native_called, counted}
+use Rattle.kb_vm.specs.Outcome.{Shows, BeginsWith, lines_of}
+
+-- what a frame goes on with
+abbrev pub resume : Table → Frame → World → Answer
+resume table f w = run table f.handler f.args f.left f.place f.operands w
+
+-- what the waiting frames, the outermost first, make of the innermost one's answer
+abbrev pub finish : Table → List Frame → Answer → Answer
+finish table [] a = a
+finish table (f ∷ fs) a = and_then (finish table fs a) (resume table f)
+
+-- what is left to do
+abbrev pub rest : Table → Machine → World → Answer
+rest table m w = finish table m.callers.items (resume table m.frame w)
+
+-- what all frames may still spend
+abbrev pub credit : Machine → ℕ
+credit m = m.frame.left + sum_by (λ f. f.left) m.callers.items
+
+-- what a turn of the machine leaves, where an answer was still to come
+abbrev pub TurnedFrom : Table → Answer → Turn → Type 0
+TurnedFrom table a (turn.On n) = (v : World) × Shows v n.core n.lines n.spent × (a ≡ rest table n v)
+TurnedFrom table a (turn.Ended n) = (v : World) × Shows v n.core n.lines n.spent × (a ≡ Done v)
+TurnedFrom table a (turn.Trapped n trap) =
+    (v : World) × Shows v n.core n.lines n.spent × (a ≡ Stuck trap n.frame.handler.command n.frame.place v)
+TurnedFrom table a (turn.NoMemory n) = BeginsWith (lines_of a) n.lines
+
+-- the same, of what was left to do in any world that the machine shows
+abbrev pub Turned : Table → Machine → Turn → Type 0
+Turned table m t = (w : World) → Shows w m.core m.lines m.spent → TurnedFrom table (rest table m w) t
+
+-- no more is spent than was there
+abbrev pub Spends : Machine → Machine → Type 0
+Spends m n = n.spent + credit n ≤ m.spent + credit m
+
+abbrev pub Pays : Machine → Turn → Type 0
+Pays m (turn.On n) = Spends m n × (credit n < credit m)
+Pays m (turn.Ended n) = Spends m n
+Pays m (turn.Trapped n trap) = Spends m n
+Pays m (turn.NoMemory n) = Spends m n
+
+-- the answer of an effect, for the frame of a machine and those that wait
+abbrev pub rest_of : Table → Machine → Effect → World → Answer
+rest_of table m e w =
+    finish table m.callers.items
+    (follow (run table) m.frame.handler m.frame.args m.frame.left m.frame.place w e)
+
+-- what is left to do, where a native is called first
+abbrev pub after_native : Table → Machine → Native → List Arg → World → Answer
+after_native table m native args w = rest table m (native_called native args w)
+
+-- the same, where a handler is run first
+abbrev pub after_coded : Table → Machine → HandlerData → List Arg → World → Answer
+after_coded table m h args w =
+    finish table m.callers.items
+    (and_then (run table h args h.signature.budget 0 [] w) (resume table m.frame))
+
+-- the same, where a command is called with the topmost operands
+abbrev pub after_call : Table → Machine → List ℕ → Callee → World → Answer
+after_call table m name callee w =
+    let n = length (declared_by callee).params in
+    let operands = m.frame.operands in
+    rest_of table m (Enter name callee (topmost n operands) (drop n operands)) w
+
+-- what a turn costs, where a callee may cost so much
+abbrev pub PaysFrom : ℕ → Machine → Turn → Type 0
+PaysFrom most m (turn.On n) =
+    (n.spent + credit n ≤ m.spent + credit m + most) × (credit n ≤ credit m + most)
+PaysFrom most m (turn.Ended n) = n.spent + credit n ≤ m.spent + credit m + most
+PaysFrom most m (turn.Trapped n trap) = n.spent + credit n ≤ m.spent + credit m + most
+PaysFrom most m (turn.NoMemory n) = n.spent + credit n ≤ m.spent + credit m + most
+
+-- the instruction that a frame may pay for, or why there is none
+abbrev pub fetched_at : Option Instr → ℕ → Result Instr Trap
+fetched_at None left = Err BadCode
+fetched_at (Some instr) zero = Err OutOfBudget
+fetched_at (Some instr) (suc left) = Ok instr
+
+-- what is left to do, where an instruction is paid for and done first
+abbrev pub after_instr : Table → Machine → Instr → World → Answer
+after_instr table m instr w =
+    let f = m.frame in
+    let e = effect table f.handler f.args w.core f.operands instr in
+    finish table m.callers.items (follow (run table) f.handler f.args (f.left - 1) f.place (counted w) e)
+
+-- the machine at the start of a handler
+pub record Begins (h : HandlerData) (args : List Arg) (core : Core) (m : Machine) : Type 0 where
+  pub handler_is : m.frame.handler ≡ h
+  pub args_are : m.frame.args ≡ args
+  pub first_place : m.frame.place ≡ 0
+  pub whole_budget : m.frame.left ≡ h.signature.budget
+  pub no_operands : m.frame.operands ≡ []
+  pub no_callers : m.callers.items ≡ []
+  pub core_is : m.core ≡ core
+  pub no_lines : m.lines ≡ []
+  pub nothing_spent : m.spent ≡ 0

@@ -1,0 +1,293 @@
+//! What one instruction does.
+ghost use Rattle.std.specs.Prelude.{◌≡◌, ◌<◌, false, true, IfOk, OnErr, option_map, slice_get, length};
+ghost use Rattle.kb_vm.specs.Action.{Does, IsReady, IsCallable, MayLackMemory, is_stop};
+ghost use Rattle.kb_vm.specs.Callee.{declared_by};
+ghost use Rattle.kb_vm.specs.Effect.{effect, pushed, pushed_at, pushed_context, dropped, doubled};
+ghost use Rattle.kb_vm.specs.Effect.{swapped, made};
+ghost use Rattle.kb_vm.specs.Effect.{with_one, with_two, branched, entered, called};
+ghost use Rattle.kb_vm.specs.Found.{callee_of};
+ghost use Rattle.kb_vm.specs.Operand.{arg_of};
+ghost use Rattle.kb_vm.specs.Values.{size_of};
+ghost use Rattle.kb_vm.specs.declared.values.One.TheVariants.{Show};
+ghost use Rattle.kb_vm.specs.declared.values.Two.TheVariants.{Join};
+ghost use Rattle.kb_core.specs.declared.arg.Arg.TheVariants as arg;
+
+use crate::arena::Arena;
+use crate::commands::{Commands, Found, Linked};
+use crate::given::{Given, fits};
+use crate::operands::{Operand, Operands};
+use crate::trap::Trap;
+use crate::values::{One, Two, context, made_of_one, made_of_two, size_of};
+use kb_code::Instr;
+use kb_context::{NoMemory, Text};
+use kb_core::Core;
+
+/// What follows an instruction.
+#[derive(Drop)]
+pub(crate) enum Action<'r> {
+    /// The handler can't go on.
+    Stop(Trap),
+    /// The handler ends.
+    Leave,
+    /// The next instruction.
+    Next,
+    /// The instruction at this place, if it is a later one.
+    Goto(usize),
+    /// A command of this name, which is called with the topmost operands.
+    Enter(&'r Text, Found<'r>),
+}
+
+/// Puts a value on top.
+fn push<'r, 'a>(operands: &mut Operands<'a>, value: Operand<'a>) -> Action<'r>
+    ensures { Does (pushed (arg_of value.entry) operands.old) result operands.new }
+{
+    if operands.len() < 64 {
+        operands.push(value);
+        Action::Next
+    } else {
+        Action::Stop(Trap::BadCode)
+    }
+}
+
+/// Puts a text of the handler on top.
+fn push_text<'r: 'a, 'a>(operands: &mut Operands<'a>, texts: &'r [Text], index: u16) -> Action<'r>
+    ensures { Does (pushed_at (option_map arg.Text (slice_get texts.now index)) operands.old)
+        result operands.new }
+{
+    match texts.get(usize::from(index)) {
+        Some(text) => push(operands, Operand::Text(text.as_str())),
+        None => Action::Stop(Trap::BadCode),
+    }
+}
+
+/// Puts an argument on top.
+fn push_arg<'r, 'a>(operands: &mut Operands<'a>, args: &Given<'a>, index: u16) -> Action<'r>
+    ensures { Does (pushed_at (slice_get args.now index) operands.old) result operands.new }
+{
+    match args.get(usize::from(index)) {
+        Some(value) => push(operands, value),
+        None => Action::Stop(Trap::BadCode),
+    }
+}
+
+/// Puts the value of a context key on top.
+fn push_context<'r, 'a>(
+    arena: &'a Arena,
+    operands: &mut Operands<'a>,
+    core: &Core,
+    texts: &'r [Text],
+    index: u16,
+) -> Result<Action<'r>, NoMemory>
+    ensures does { IfOk result (λ a. Does (pushed_context core.now (slice_get texts.now index) operands.old)
+        a operands.new) }
+    ensures memory { OnErr result (is_stop (pushed_context core.now (slice_get texts.now index) operands.old)
+        ≡ false) }
+{
+    if operands.len() >= 64 {
+        return Ok(Action::Stop(Trap::BadCode));
+    }
+    match texts.get(usize::from(index)) {
+        Some(key) => {
+            let value = context(arena, &core.scopes, key.as_str())?;
+            Ok(push(operands, value))
+        }
+        None => Ok(Action::Stop(Trap::BadCode)),
+    }
+}
+
+/// Drops the topmost operand.
+fn drop_top<'r, 'a>(operands: &mut Operands<'a>) -> Action<'r>
+    ensures { Does (dropped operands.old) result operands.new }
+{
+    match operands.pop() {
+        Some(_) => Action::Next,
+        None => Action::Stop(Trap::MissingOperand),
+    }
+}
+
+/// Puts the topmost operand on top once more.
+fn double<'r, 'a>(operands: &mut Operands<'a>) -> Action<'r>
+    ensures { Does (doubled operands.old) result operands.new }
+{
+    let Some(x) = operands.pop() else {
+        return Action::Stop(Trap::MissingOperand);
+    };
+    if operands.len() < 63 {
+        operands.push(x);
+        operands.push(x);
+        Action::Next
+    } else {
+        Action::Stop(Trap::BadCode)
+    }
+}
+
+/// Exchanges the two topmost operands.
+fn swap<'r, 'a>(operands: &mut Operands<'a>) -> Action<'r>
+    ensures { Does (swapped operands.old) result operands.new }
+{
+    let (Some(y), Some(x)) = (operands.pop(), operands.pop()) else {
+        return Action::Stop(Trap::MissingOperand);
+    };
+    operands.push(y);
+    operands.push(x);
+    Action::Next
+}
+
+/// Puts what was made on top.
+fn put<'r, 'a>(operands: &mut Operands<'a>, value: Option<Operand<'a>>) -> Action<'r>
+    requires { length operands.old < 64 }
+    ensures { Does (made (option_map arg_of value.entry) operands.old) result operands.new }
+{
+    match value {
+        Some(value) => {
+            operands.push(value);
+            Action::Next
+        }
+        None => Action::Stop(Trap::WrongArgument),
+    }
+}
+
+/// Takes one operand, and puts what is made of it in its place.
+fn apply_one<'r, 'a>(
+    arena: &'a Arena,
+    operands: &mut Operands<'a>,
+    what: One,
+) -> Result<Action<'r>, NoMemory>
+    ensures does { IfOk result (λ a. Does (with_one what operands.old) a operands.new) }
+    ensures shows { OnErr result (what ≡ Show) }
+    ensures memory { OnErr result (is_stop (with_one what operands.old) ≡ false) }
+{
+    let Some(x) = operands.pop() else {
+        return Ok(Action::Stop(Trap::MissingOperand));
+    };
+    let value = made_of_one(arena, what, x)?;
+    Ok(put(operands, value))
+}
+
+/// Takes two operands, and puts what is made of them in their place.
+fn apply_two<'r, 'a>(
+    arena: &'a Arena,
+    operands: &mut Operands<'a>,
+    what: Two,
+) -> Result<Action<'r>, NoMemory>
+    ensures does { IfOk result (λ a. Does (with_two what operands.old) a operands.new) }
+    ensures joins { OnErr result (what ≡ Join) }
+    ensures memory { OnErr result (is_stop (with_two what operands.old) ≡ false) }
+{
+    let Some(y) = operands.pop() else {
+        return Ok(Action::Stop(Trap::MissingOperand));
+    };
+    let Some(x) = operands.pop() else {
+        return Ok(Action::Stop(Trap::MissingOperand));
+    };
+    let value = made_of_two(arena, what, x, y)?;
+    Ok(put(operands, value))
+}
+
+/// Takes a truth value, and goes on at a place if it is false.
+fn branch<'r, 'a>(operands: &mut Operands<'a>, to: u16) -> Action<'r>
+    ensures { Does (branched to operands.old) result operands.new }
+{
+    match operands.pop() {
+        None => Action::Stop(Trap::MissingOperand),
+        Some(Operand::Truth(true)) => Action::Next,
+        Some(Operand::Truth(false)) => Action::Goto(usize::from(to)),
+        Some(_) => Action::Stop(Trap::WrongArgument),
+    }
+}
+
+/// Calls a live command from a handler of this depth.
+fn enter<'r>(operands: &Operands<'_>, depth: u8, name: &'r Text, callee: Found<'r>) -> Action<'r>
+    ensures does { Does (entered depth name.now (callee_of callee.entry) operands.now) result operands.now }
+    ensures ready { (table : _) → IsCallable table (callee_of callee.entry)
+        → IsReady table result operands.now }
+{
+    let count = callee.params();
+    if operands.len() < count {
+        return Action::Stop(Trap::MissingOperand);
+    }
+    if !fits(&callee, operands.topmost(count)) {
+        return Action::Stop(Trap::WrongArgument);
+    }
+    if callee.depth() < depth {
+        Action::Enter(name, callee)
+    } else {
+        Action::Stop(Trap::TooDeep)
+    }
+}
+
+/// Calls the command that a handler's list of calls names at an index.
+fn call<'r, L: Commands>(
+    commands: &'r L,
+    handler: &Linked<'r>,
+    operands: &Operands<'_>,
+    index: u16,
+) -> Action<'r>
+    ensures does { Does (called (L.live commands.now) handler.now.signature.depth
+        (slice_get handler.now.calls index) operands.now) result operands.now }
+    ensures ready { IsReady (L.live commands.now) result operands.now }
+{
+    if usize::from(index) >= handler.handler().calls().len() {
+        return Action::Stop(Trap::UnknownCommand);
+    }
+    let (name, native) = handler.call(usize::from(index));
+    match commands.command(name.as_str(), native) {
+        Some(callee) => enter(
+            operands,
+            handler.handler().signature().depth(),
+            name,
+            callee,
+        ),
+        None => Action::Stop(Trap::UnknownCommand),
+    }
+}
+
+/// One instruction of a handler that runs on these arguments.
+pub(crate) fn perform<'r: 'a, 'a, L: Commands>(
+    arena: &'a Arena,
+    commands: &'r L,
+    handler: &Linked<'r>,
+    args: &Given<'a>,
+    core: &Core,
+    operands: &mut Operands<'a>,
+    instr: Instr,
+) -> Result<Action<'r>, NoMemory>
+    ensures does { IfOk result (λ a. Does (effect (L.live commands.now) handler.now args.now core.now
+        operands.old instr) a operands.new) }
+    ensures ready { IfOk result (λ a. IsReady (L.live commands.now) a operands.new) }
+    ensures memory { OnErr result (MayLackMemory instr (effect (L.live commands.now) handler.now args.now
+        core.now operands.old instr)) }
+{
+    match instr {
+        Instr::Return => Ok(Action::Leave),
+        Instr::Text(n) => Ok(push_text(operands, handler.handler().texts(), n)),
+        Instr::Num(n) => Ok(push(operands, Operand::Number(i64::from(n)))),
+        Instr::Truth(truth) => Ok(push(operands, Operand::Truth(truth))),
+        Instr::Arg(n) => Ok(push_arg(operands, args, n)),
+        Instr::Drop => Ok(drop_top(operands)),
+        Instr::Dup => Ok(double(operands)),
+        Instr::Swap => Ok(swap(operands)),
+        Instr::Add => apply_two(arena, operands, Two::Add),
+        Instr::Sub => apply_two(arena, operands, Two::Sub),
+        Instr::Less => apply_two(arena, operands, Two::Less),
+        Instr::Same => apply_two(arena, operands, Two::Same),
+        Instr::Not => apply_one(arena, operands, One::Not),
+        Instr::Join => apply_two(arena, operands, Two::Join),
+        Instr::Show => apply_one(arena, operands, One::Show),
+        Instr::Size => apply_one(arena, operands, One::Size),
+        Instr::IsTrue => apply_one(arena, operands, One::IsTrue),
+        Instr::Number => apply_one(arena, operands, One::AsNumber),
+        Instr::Jump(to) => Ok(Action::Goto(usize::from(to))),
+        Instr::JumpIfFalse(to) => Ok(branch(operands, to)),
+        Instr::Call(n) => Ok(call(commands, handler, operands, n)),
+        Instr::Context(n) => push_context(arena, operands, core, handler.handler().texts(), n),
+        Instr::Before => Ok(push(
+            operands,
+            Operand::Number(size_of(core.buffer.before.as_str())),
+        )),
+        Instr::After => Ok(push(
+            operands,
+            Operand::Number(size_of(core.buffer.after.as_str())),
+        )),
+    }
+}

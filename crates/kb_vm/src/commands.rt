@@ -1,0 +1,117 @@
+//! What the machine asks of the live commands.
+ghost use Rattle.std.specs.Prelude.{◌≡◌, ◌<◌, ℕ, List, Option, length, map, slice_get, Some, option_map};
+ghost use Rattle.kb_core.specs.Native.{Fits, named};
+ghost use Rattle.kb_core.specs.Ran.{Does};
+ghost use Rattle.kb_vm.specs.Callee.{Callee, IsLive, declared_by};
+ghost use Rattle.kb_vm.specs.Found.{callee_of};
+
+use kb_code::Handler;
+use kb_context::Text;
+use kb_core::{Args, Core, Native, Ran};
+use std::marker::Model;
+
+/// A live handler, lent, with the native that each name in its list of calls is the name of, so that a call
+/// of a native looks no name up. Contracts see the handler.
+#[derive(Drop)]
+pub struct Linked<'r> {
+    handler: &'r Handler,
+    natives: &'r [Option<Native>],
+}
+
+impl<'r> Model for Linked<'r> {
+    ghost use Rattle.std.specs.Prelude.{◌≡◌, map};
+    ghost use Rattle.kb_code.specs.Handler.{HandlerData};
+    ghost use Rattle.kb_core.specs.Native.{named};
+
+    ghost Value = { HandlerData };
+
+    ghost view = { λ l. l.handler.now };
+
+    ghost invariant = { λ l. l.natives.now ≡ map named l.handler.now.calls };
+}
+
+impl<'r> Linked<'r> {
+    /// A handler, with the native of each name in its list of calls. It takes no memory.
+    pub fn new(handler: &'r Handler, natives: &'r [Option<Native>]) -> Linked<'r>
+        requires { natives.now ≡ map named handler.now.calls }
+        ensures { result ≡ handler.now }
+    {
+        Linked { handler, natives }
+    }
+
+    /// The handler. It takes no memory.
+    pub fn handler(&self) -> &'r Handler
+        ensures { result.now ≡ self.now }
+    {
+        self.handler
+    }
+
+    /// The name at an index in the list of calls, and the native of that name, if there is one. It takes no
+    /// memory.
+    pub(crate) fn call(&self, index: usize) -> (&'r Text, Option<Native>)
+        requires { index < length self.now.calls }
+        ensures name { slice_get self.now.calls index ≡ Some result.0.now }
+        ensures native { result.1 ≡ named result.0.now }
+    {
+        (&self.handler.calls()[index], self.natives[index])
+    }
+}
+
+/// A live command: a native one, or one in code.
+#[derive(Drop)]
+pub enum Found<'r> {
+    /// A native command, for which a closure is live.
+    Plain(Native),
+    /// A handler.
+    Coded(Linked<'r>),
+}
+
+impl<'r> Found<'r> {
+    /// How many arguments the command takes. It takes no memory.
+    pub(crate) fn params(&self) -> usize
+        ensures { result ≡ length (declared_by (callee_of self.now)).params }
+    {
+        match self {
+            Found::Plain(native) => native.params().len(),
+            Found::Coded(linked) => linked.handler().signature().params().len(),
+        }
+    }
+
+    /// What a run of the command may cost at most. It takes no memory.
+    pub(crate) fn budget(&self) -> u32
+        ensures { result ≡ (declared_by (callee_of self.now)).budget }
+    {
+        match self {
+            Found::Plain(native) => native.budget(),
+            Found::Coded(linked) => linked.handler().signature().budget(),
+        }
+    }
+
+    /// How deep the calls of the command may nest. It takes no memory.
+    pub(crate) fn depth(&self) -> u8
+        ensures { result ≡ (declared_by (callee_of self.now)).depth }
+    {
+        match self {
+            Found::Plain(_) => 0,
+            Found::Coded(linked) => linked.handler().signature().depth(),
+        }
+    }
+}
+
+/// The live commands of a host, as the machine asks for them.
+pub trait Commands {
+    ghost live: { Self → List ℕ → Option Callee };
+
+    /// The live command of a name, by the native that the name is the name of, if there is one, or `None`
+    /// where none is live. It takes no memory.
+    fn command(&self, name: &str, native: Option<Native>) -> Option<Found<'_>>
+        requires { native ≡ named name.now }
+        ensures { option_map callee_of result ≡ live self.now name.now };
+
+    /// Runs the closure of a native that is live, with arguments that fit it. It costs at most the native's
+    /// budget, in instructions, or the core comes back as it was with `NoMemory`.
+    fn call(&self, native: Native, core: Core, args: Args) -> Ran
+        requires live { IsLive (live self.now) native }
+        requires fits { Fits native args }
+        ensures { Does native core args result };
+}

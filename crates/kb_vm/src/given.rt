@@ -1,0 +1,152 @@
+//! The arguments that a call gives.
+ghost use Rattle.std.specs.Prelude.{◌≡◌, ◌≤◌, length, map, IfOk, option_map, slice_get};
+ghost use Rattle.kb_core.specs.Arg.{is_of};
+ghost use Rattle.kb_core.specs.Parameter.{declared};
+ghost use Rattle.kb_core.specs.Signature.{fits};
+ghost use Rattle.kb_vm.specs.Callee.{declared_by};
+ghost use Rattle.kb_vm.specs.Found.{callee_of};
+ghost use Rattle.kb_vm.specs.Operand.{arg_of};
+
+use crate::commands::Found;
+use crate::operands::Operand;
+use kb_context::{NoMemory, Text};
+use kb_core::{Arg, Args, Kind, NamedKind, Param};
+use std::alloc::Global;
+use std::marker::Model;
+
+/// The arguments that a call gives, whose texts are lent. Contracts see their list.
+#[derive(Drop)]
+pub(crate) struct Given<'a> {
+    items: Vec<Operand<'a>>,
+}
+
+impl<'a> Model for Given<'a> {
+    ghost use Rattle.std.specs.Prelude.{List, map};
+    ghost use Rattle.kb_core.specs.declared.arg.Arg.{Arg};
+    ghost use Rattle.kb_vm.specs.Operand.{arg_of};
+
+    ghost Value = { List Arg };
+
+    ghost view = { λ g. map arg_of g.items.items };
+}
+
+impl<'a> Given<'a> {
+    /// These arguments. It takes no memory.
+    pub(crate) fn new(items: Vec<Operand<'a>>) -> Given<'a>
+        ensures { result ≡ map arg_of items.entry.items }
+    {
+        Given { items }
+    }
+
+    /// The arguments of a list, lent.
+    pub(crate) fn lent(alloc: Global, args: &'a [Arg]) -> Result<Given<'a>, NoMemory>
+        ensures { IfOk result (λ given. given ≡ args.now) }
+    {
+        let mut items = Vec::with_capacity(alloc, args.len())?;
+        for arg in args {
+            items.push(lent(arg))?;
+        }
+        Ok(Given { items })
+    }
+
+    /// The arguments, in order.
+    pub(crate) fn as_slice(&self) -> &[Operand<'a>]
+        ensures { map arg_of result.now ≡ self.now }
+    {
+        self.items.as_slice()
+    }
+
+    /// The argument at an index, or `None` past the last.
+    pub(crate) fn get(&self, index: usize) -> Option<Operand<'a>>
+        ensures { option_map arg_of result ≡ slice_get self.now index }
+    {
+        self.items.get(index).copied()
+    }
+
+    /// The arguments with texts of their own, which a closure takes.
+    pub(crate) fn owned(&self, alloc: Global) -> Result<Args, NoMemory>
+        requires { length self.now ≤ 8 }
+        ensures { IfOk result (λ args. args ≡ self.now) }
+    {
+        let mut args = Args::new(alloc);
+        for item in &self.items {
+            args.push(owned(alloc, *item)?)?;
+        }
+        Ok(args)
+    }
+}
+
+/// Whether values fit a command. It takes no memory.
+pub(crate) fn fits(callee: &Found<'_>, values: &[Operand<'_>]) -> bool
+    ensures { result ≡ fits (declared_by (callee_of callee.now)).params (map arg_of values.now) }
+{
+    match callee {
+        Found::Plain(native) => fits_named(native.params(), values),
+        Found::Coded(linked) => fits_params(linked.handler().signature().params(), values),
+    }
+}
+
+/// An argument, lent.
+fn lent(arg: &Arg) -> Operand<'_>
+    ensures { arg_of result ≡ arg.now }
+{
+    match arg {
+        Arg::Text(text) => Operand::Text(text.as_str()),
+        Arg::Number(number) => Operand::Number(*number),
+        Arg::Truth(truth) => Operand::Truth(*truth),
+    }
+}
+
+/// An operand with a text of its own.
+fn owned(alloc: Global, operand: Operand<'_>) -> Result<Arg, NoMemory>
+    ensures { IfOk result (λ arg. arg ≡ arg_of operand.entry) }
+{
+    match operand {
+        Operand::Text(text) => Ok(Arg::Text(Text::from_str(alloc, text)?)),
+        Operand::Number(number) => Ok(Arg::Number(number)),
+        Operand::Truth(truth) => Ok(Arg::Truth(truth)),
+    }
+}
+
+/// Whether a parameter of a kind takes a value.
+fn takes(kind: Kind, operand: Operand<'_>) -> bool
+    ensures { result ≡ is_of kind (arg_of operand.entry) }
+{
+    match (kind, operand) {
+        (Kind::Any, _) => true,
+        (Kind::Text, Operand::Text(_)) => true,
+        (Kind::Number, Operand::Number(_)) => true,
+        (Kind::Truth, Operand::Truth(_)) => true,
+        _ => false,
+    }
+}
+
+/// Whether values fit parameters.
+fn fits_params(params: &[Param], given: &[Operand<'_>]) -> bool
+    ensures { result ≡ fits params.now (map arg_of given.now) }
+{
+    if params.len() != given.len() {
+        return false;
+    }
+    for (i, param) in params.iter().enumerate() {
+        if !takes(param.kind, given[i]) {
+            return false;
+        }
+    }
+    true
+}
+
+/// Whether values fit parameters of a table.
+fn fits_named(params: &[NamedKind], given: &[Operand<'_>]) -> bool
+    ensures { result ≡ fits (map declared params.now) (map arg_of given.now) }
+{
+    if params.len() != given.len() {
+        return false;
+    }
+    for (i, param) in params.iter().enumerate() {
+        if !takes(param.kind, given[i]) {
+            return false;
+        }
+    }
+    true
+}

@@ -1,0 +1,19 @@
+//! The machine that runs commands in code: the meaning of a start, and a loop over frames that has it.
+#![tactic(auto)]
+
+mod action;
+mod arena;
+mod call_line;
+pub mod commands;
+mod given;
+pub mod laws;
+pub mod machine;
+mod operands;
+pub mod starting;
+pub mod trap;
+mod values;
+
+pub use commands::{Commands, Found, Linked};
+pub use machine::{End, Outcome};
+pub use starting::start;
+pub use trap::Trap;

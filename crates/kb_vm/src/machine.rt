@@ -1,0 +1,509 @@
+//! Frames, and the loop over them.
+ghost use Rattle.std.specs.Prelude.{◌≡◌, ◌≤◌, ◌<◌, ◌+◌, ◌^◌, [], true, IfOk, IfErr, slice_get};
+ghost use Rattle.kb_core.specs.Native.{budget_of, parameters_of};
+ghost use Rattle.kb_core.specs.Ran.{Does};
+ghost use Rattle.kb_core.specs.Signature.{fits};
+ghost use Rattle.kb_vm.specs.Action.{Does as Performs, HasArguments, IsCallable, IsReady};
+ghost use Rattle.kb_vm.specs.Callee.{IsLive, declared_by};
+ghost use Rattle.kb_vm.specs.Effect.{Effect, Enter, Goto};
+ghost use Rattle.kb_vm.specs.Found.{callee_of};
+ghost use Rattle.kb_vm.specs.Leave.{Left};
+ghost use Rattle.kb_vm.specs.Meaning.{World, run, first_world};
+ghost use Rattle.kb_vm.specs.Outcome.{Shows, Ends};
+ghost use Rattle.kb_vm.specs.State.{Begins, Turned, TurnedFrom, Pays, PaysFrom, after_native, after_coded};
+ghost use Rattle.kb_vm.specs.State.{rest_of, credit, after_call, fetched_at, after_instr};
+
+use crate::action::{Action, perform};
+use crate::arena::Arena;
+use crate::call_line::call_line;
+use crate::commands::{Commands, Found, Linked};
+use crate::given::Given;
+use crate::operands::Operands;
+use crate::trap::Trap;
+use kb_code::Instr;
+use kb_context::Text;
+use kb_core::{Core, Native, Ran};
+use kb_stream::Lines;
+use std::alloc::Global;
+
+/// A handler that runs, and where it is.
+#[derive(Drop)]
+pub(crate) struct Frame<'r, 'a> {
+    pub handler: Linked<'r>,
+    pub args: Given<'a>,
+    pub place: usize,
+    pub left: u32,
+    pub operands: Operands<'a>,
+}
+
+/// The state of a run: the frame of the handler that runs, and those that wait, the outermost first.
+#[derive(Drop)]
+pub(crate) struct Machine<'r, 'a> {
+    pub frame: Frame<'r, 'a>,
+    pub callers: Vec<Frame<'r, 'a>>,
+    pub core: Core,
+    pub lines: Lines,
+    pub spent: u64,
+}
+
+/// What follows a turn.
+#[derive(Drop)]
+pub(crate) enum Turn<'r, 'a> {
+    /// There is more to do.
+    On(Machine<'r, 'a>),
+    /// The outermost handler is done.
+    Ended(Machine<'r, 'a>),
+    /// The handler that runs can't go on.
+    Trapped(Machine<'r, 'a>, Trap),
+    /// Memory was refused.
+    NoMemory(Machine<'r, 'a>),
+}
+
+/// How a run ends.
+#[derive(Debug, Drop)]
+pub enum End<'r> {
+    /// The command is done.
+    Done,
+    /// Memory was refused.
+    NoMemory,
+    /// No live command has the name.
+    NotFound,
+    /// The handler of this command can't go on at this place.
+    Trap(Trap, &'r str, usize),
+}
+
+/// What a start gives.
+#[derive(Drop)]
+pub struct Outcome<'r> {
+    /// The core behind all that ran.
+    pub core: Core,
+    /// How many instructions were begun, and what natives answered as cost.
+    pub spent: u64,
+    /// A line for each call, in order.
+    pub lines: Lines,
+    /// How it ended.
+    pub finish: End<'r>,
+}
+
+/// The frame is done: its caller goes on.
+fn leave<'r, 'a>(machine: Machine<'r, 'a>) -> Turn<'r, 'a>
+    ensures { (table : _) → Left table machine.entry result }
+{
+    let Machine {
+        frame,
+        mut callers,
+        core,
+        lines,
+        spent,
+    } = machine;
+    match callers.pop() {
+        Some(caller) => Turn::On(Machine {
+            frame: caller,
+            callers,
+            core,
+            lines,
+            spent,
+        }),
+        None => Turn::Ended(Machine {
+            frame,
+            callers,
+            core,
+            lines,
+            spent,
+        }),
+    }
+}
+
+/// Runs the closure of a native on a core.
+fn run_native<L: Commands>(
+    alloc: Global,
+    commands: &L,
+    native: Native,
+    core: Core,
+    given: &Given<'_>,
+) -> Ran
+    requires live { IsLive (L.live commands.now) native }
+    requires fit { fits (parameters_of native) given.now ≡ true }
+    ensures { Does native core given.now result }
+{
+    match given.owned(alloc) {
+        Ok(args) => commands.call(native, core, args),
+        Err(refused) => Ran {
+            core,
+            cost: Err(refused),
+        },
+    }
+}
+
+/// A native is called, for which its frame has paid.
+fn enter_native<'r, 'a, L: Commands>(
+    alloc: Global,
+    commands: &'r L,
+    machine: Machine<'r, 'a>,
+    native: Native,
+    given: Given<'a>,
+) -> Turn<'r, 'a>
+    requires live { IsLive (L.live commands.now) native }
+    requires fit { fits (parameters_of native) given ≡ true }
+    requires room { machine.spent + budget_of native < 2 ^ 64 }
+    ensures turned { (w : World) → Shows w machine.entry.core machine.entry.lines machine.entry.spent
+        → TurnedFrom (L.live commands.now)
+        (after_native (L.live commands.now) machine.entry native given.entry w) result }
+    ensures pays { PaysFrom (budget_of native) machine.entry result }
+{
+    let Machine {
+        frame,
+        callers,
+        core,
+        lines,
+        spent,
+    } = machine;
+    let Ran { core, cost } = run_native(alloc, commands, native, core, &given);
+    match cost {
+        Ok(cost) => Turn::On(Machine {
+            frame,
+            callers,
+            core,
+            lines,
+            spent: spent + u64::from(cost),
+        }),
+        Err(_) => Turn::NoMemory(Machine {
+            frame,
+            callers,
+            core,
+            lines,
+            spent,
+        }),
+    }
+}
+
+/// A handler gets a frame of its own, for which its caller has paid.
+fn enter_coded<'r, 'a>(
+    alloc: Global,
+    machine: Machine<'r, 'a>,
+    handler: Linked<'r>,
+    given: Given<'a>,
+) -> Turn<'r, 'a>
+    ensures turned { (table : _) → (w : World)
+        → Shows w machine.entry.core machine.entry.lines machine.entry.spent
+        → TurnedFrom table (after_coded table machine.entry handler.entry given.entry w) result }
+    ensures pays { PaysFrom handler.entry.signature.budget machine.entry result }
+{
+    let left = handler.handler().signature().budget();
+    let Machine {
+        frame,
+        mut callers,
+        core,
+        lines,
+        spent,
+    } = machine;
+    let Ok(operands) = Operands::new(alloc) else {
+        return Turn::NoMemory(Machine {
+            frame,
+            callers,
+            core,
+            lines,
+            spent,
+        });
+    };
+    let callee = Frame {
+        handler,
+        args: given,
+        place: 0,
+        left,
+        operands,
+    };
+    if callers.push(frame).is_err() {
+        return Turn::NoMemory(Machine {
+            frame: callee,
+            callers,
+            core,
+            lines,
+            spent,
+        });
+    }
+    Turn::On(Machine {
+        frame: callee,
+        callers,
+        core,
+        lines,
+        spent,
+    })
+}
+
+/// A command is called with these arguments, for which its frame can pay: its line is written, and it runs.
+fn begin_call<'r, 'a, L: Commands>(
+    alloc: Global,
+    commands: &'r L,
+    mut machine: Machine<'r, 'a>,
+    name: &'r Text,
+    callee: Found<'r>,
+    given: Given<'a>,
+) -> Turn<'r, 'a>
+    requires callable { IsCallable (L.live commands.now) (callee_of callee) }
+    requires fit { fits (declared_by (callee_of callee)).params given ≡ true }
+    requires paid { (declared_by (callee_of callee)).budget ≤ machine.frame.left }
+    requires room { machine.spent + machine.frame.left < 2 ^ 64 }
+    requires place { machine.frame.place + 1 < 2 ^ 64 }
+    ensures turned { (w : World) → Shows w machine.entry.core machine.entry.lines machine.entry.spent
+        → TurnedFrom (L.live commands.now) (rest_of (L.live commands.now) machine.entry
+        (Enter name.now (callee_of callee.entry) given.entry machine.entry.frame.operands) w) result }
+    ensures pays { PaysFrom 0 machine.entry result }
+{
+    let Ok(()) = call_line(&mut machine.lines, name.as_str(), &given) else {
+        return Turn::NoMemory(machine);
+    };
+    machine.frame.left -= callee.budget();
+    machine.frame.place += 1;
+    match callee {
+        Found::Plain(native) => enter_native(alloc, commands, machine, native, given),
+        Found::Coded(handler) => enter_coded(alloc, machine, handler, given),
+    }
+}
+
+/// A command is called with the topmost operands, if its frame can pay for it.
+fn enter_callee<'r, 'a, L: Commands>(
+    alloc: Global,
+    commands: &'r L,
+    mut machine: Machine<'r, 'a>,
+    name: &'r Text,
+    callee: Found<'r>,
+) -> Turn<'r, 'a>
+    requires callable { IsCallable (L.live commands.now) (callee_of callee) }
+    requires arguments { HasArguments (callee_of callee) machine.frame.operands }
+    requires room { machine.spent + machine.frame.left < 2 ^ 64 }
+    requires place { machine.frame.place + 1 < 2 ^ 64 }
+    ensures turned { (w : World) → Shows w machine.entry.core machine.entry.lines machine.entry.spent
+        → TurnedFrom (L.live commands.now) (after_call (L.live commands.now) machine.entry name.now
+        (callee_of callee.entry) w) result }
+    ensures pays { PaysFrom 0 machine.entry result }
+{
+    if machine.frame.left < callee.budget() {
+        return Turn::Trapped(machine, Trap::OutOfBudget);
+    }
+    let count = callee.params();
+    let Ok(given) = machine.frame.operands.take(count) else {
+        return Turn::NoMemory(machine);
+    };
+    begin_call(alloc, commands, machine, name, callee, given)
+}
+
+/// Goes on at a place, if it is a later one.
+fn go_to<'r, 'a>(mut machine: Machine<'r, 'a>, place: usize) -> Turn<'r, 'a>
+    ensures turned { (table : _) → (w : World)
+        → Shows w machine.entry.core machine.entry.lines machine.entry.spent
+        → TurnedFrom table (rest_of table machine.entry (Goto place machine.entry.frame.operands) w) result }
+    ensures pays { PaysFrom 0 machine.entry result }
+{
+    if place <= machine.frame.place {
+        return Turn::Trapped(machine, Trap::BadCode);
+    }
+    machine.frame.place = place;
+    Turn::On(machine)
+}
+
+/// What follows an instruction.
+fn act<'r, 'a, L: Commands>(
+    alloc: Global,
+    commands: &'r L,
+    mut machine: Machine<'r, 'a>,
+    action: Action<'r>,
+) -> Turn<'r, 'a>
+    requires ready { IsReady (L.live commands.now) action machine.frame.operands }
+    requires room { machine.spent + machine.frame.left < 2 ^ 64 }
+    requires place { machine.frame.place + 1 < 2 ^ 64 }
+    ensures turned { (w : World) → (e : Effect) → Performs e action.entry machine.entry.frame.operands
+        → Shows w machine.entry.core machine.entry.lines machine.entry.spent
+        → TurnedFrom (L.live commands.now) (rest_of (L.live commands.now) machine.entry e w) result }
+    ensures pays { PaysFrom 0 machine.entry result }
+{
+    match action {
+        Action::Stop(trap) => Turn::Trapped(machine, trap),
+        Action::Leave => leave(machine),
+        Action::Next => {
+            machine.frame.place += 1;
+            Turn::On(machine)
+        }
+        Action::Goto(to) => go_to(machine, to),
+        Action::Enter(name, callee) => enter_callee(alloc, commands, machine, name, callee),
+    }
+}
+
+/// The instruction at a frame's place, if the frame may pay for it.
+fn fetch(frame: &Frame<'_, '_>) -> Result<Instr, Trap>
+    ensures instr { result ≡ fetched_at (slice_get frame.now.handler.code frame.now.place) frame.now.left }
+    ensures paid { IfOk result (λ _. 1 ≤ frame.now.left) }
+    ensures place { IfOk result (λ _. frame.now.place + 1 < 2 ^ 64) }
+{
+    let code = frame.handler.handler().code();
+    if code.len() <= frame.place {
+        return Err(Trap::BadCode);
+    }
+    if frame.left == 0 {
+        return Err(Trap::OutOfBudget);
+    }
+    Ok(code[frame.place])
+}
+
+/// Pays for the instruction at the place, and does what it says.
+fn run_instr<'r: 'a, 'a, L: Commands>(
+    alloc: Global,
+    arena: &'a Arena,
+    commands: &'r L,
+    machine: Machine<'r, 'a>,
+    instr: Instr,
+) -> Turn<'r, 'a>
+    requires room { machine.spent + credit machine < 2 ^ 64 }
+    requires paid { 1 ≤ machine.frame.left }
+    requires place { machine.frame.place + 1 < 2 ^ 64 }
+    ensures turned { (w : World) → Shows w machine.entry.core machine.entry.lines machine.entry.spent
+        → TurnedFrom (L.live commands.now) (after_instr (L.live commands.now) machine.entry instr w) result }
+    ensures pays { Pays machine.entry result }
+{
+    let Machine {
+        frame,
+        callers,
+        core,
+        lines,
+        spent,
+    } = machine;
+    let Frame {
+        handler,
+        args,
+        place,
+        left,
+        mut operands,
+    } = frame;
+    let action = perform(
+        arena,
+        commands,
+        &handler,
+        &args,
+        &core,
+        &mut operands,
+        instr,
+    );
+    let machine = Machine {
+        frame: Frame {
+            handler,
+            args,
+            place,
+            left: left - 1,
+            operands,
+        },
+        callers,
+        core,
+        lines,
+        spent: spent + 1,
+    };
+    match action {
+        Ok(action) => act(alloc, commands, machine, action),
+        Err(_) => Turn::NoMemory(machine),
+    }
+}
+
+/// One turn: one instruction, and what follows it.
+fn take_turn<'r: 'a, 'a, L: Commands>(
+    alloc: Global,
+    arena: &'a Arena,
+    commands: &'r L,
+    machine: Machine<'r, 'a>,
+) -> Turn<'r, 'a>
+    requires { machine.spent + credit machine < 2 ^ 64 }
+    ensures turned { Turned (L.live commands.now) machine.entry result }
+    ensures pays { Pays machine.entry result }
+{
+    match fetch(&machine.frame) {
+        Ok(instr) => run_instr(alloc, arena, commands, machine, instr),
+        Err(trap) => Turn::Trapped(machine, trap),
+    }
+}
+
+/// The machine at the start of a handler.
+fn begin<'r, 'a>(
+    alloc: Global,
+    handler: Linked<'r>,
+    args: Given<'a>,
+    core: Core,
+) -> Result<Machine<'r, 'a>, Core>
+    ensures ok { IfOk result (Begins handler.entry args.entry core) }
+    ensures err { IfErr result (λ back. back ≡ core) }
+{
+    let left = handler.handler().signature().budget();
+    match Operands::new(alloc) {
+        Ok(operands) => Ok(Machine {
+            frame: Frame {
+                handler,
+                args,
+                place: 0,
+                left,
+                operands,
+            },
+            callers: Vec::new(alloc),
+            core,
+            lines: Lines::new(alloc),
+            spent: 0,
+        }),
+        Err(_) => Err(core),
+    }
+}
+
+/// Runs a handler from the start, with arguments that fit it.
+pub(crate) fn run_handler<'r: 'a, 'a, L: Commands>(
+    alloc: Global,
+    arena: &'a Arena,
+    commands: &'r L,
+    handler: Linked<'r>,
+    args: Given<'a>,
+    core: Core,
+) -> Outcome<'r>
+    ensures ends { Ends (run (L.live commands.now) handler.entry args.entry
+        handler.entry.signature.budget 0 [] (first_world core)) result result.finish }
+    ensures bound { result.spent ≤ handler.entry.signature.budget }
+{
+    let mut machine = match begin(alloc, handler, args, core) {
+        Ok(machine) => machine,
+        Err(core) => {
+            return Outcome {
+                core,
+                spent: 0,
+                lines: Lines::new(alloc),
+                finish: End::NoMemory,
+            };
+        }
+    };
+    loop {
+        match take_turn(alloc, arena, commands, machine) {
+            Turn::On(next) => machine = next,
+            Turn::Ended(last) => return ended_with(last, End::Done),
+            Turn::Trapped(last, trap) => {
+                let command = last.frame.handler.handler().command().as_str();
+                let place = last.frame.place;
+                return ended_with(last, End::Trap(trap, command, place));
+            }
+            Turn::NoMemory(last) => return ended_with(last, End::NoMemory),
+        }
+    }
+}
+
+/// What a machine leaves.
+fn ended_with<'r, 'a>(machine: Machine<'r, 'a>, finish: End<'r>) -> Outcome<'r>
+    ensures core { result.core ≡ machine.entry.core }
+    ensures spent { result.spent ≡ machine.entry.spent }
+    ensures lines { result.lines ≡ machine.entry.lines }
+    ensures finish { result.finish ≡ finish.entry }
+{
+    let Machine {
+        frame: _,
+        callers: _,
+        core,
+        lines,
+        spent,
+    } = machine;
+    Outcome {
+        core,
+        spent,
+        lines,
+        finish,
+    }
+}

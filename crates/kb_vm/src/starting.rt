@@ -1,0 +1,111 @@
+//! The start of a command.
+ghost use Rattle.std.specs.Prelude.{◌≡◌, ◌≤◌, [], IfSome, true};
+ghost use Rattle.kb_core.specs.Native.{budget_of, parameters_of};
+ghost use Rattle.kb_core.specs.Signature.{fits};
+ghost use Rattle.kb_vm.specs.Action.{IsCallable};
+ghost use Rattle.kb_vm.specs.Callee.{IsLive, declared_by};
+ghost use Rattle.kb_vm.specs.Found.{callee_of};
+ghost use Rattle.kb_vm.specs.Meaning.{Done, first_world, native_called, start_callee, start_of};
+ghost use Rattle.kb_vm.specs.Outcome.{Ends, Gives};
+
+use crate::arena::Arena;
+use crate::commands::{Commands, Found};
+use crate::given::{Given, fits};
+use crate::machine::{End, Outcome, run_handler};
+use crate::trap::Trap;
+use kb_core::{Args, Core, Native, Ran};
+use kb_stream::Lines;
+use std::alloc::Global;
+
+/// Starts a command with arguments on a core. A native costs what its closure answers. A handler runs until
+/// it ends or traps, or until memory is refused. Each instruction that is begun costs 1, also one that traps,
+/// and each native that is called what its closure answers. A callee's budget is taken from its caller's
+/// allowance whatever it costs, and so the whole costs at most the started command's budget. Arguments that
+/// don't fit the command are a trap at place 0 (our decisions).
+pub fn start<'r, L: Commands>(
+    alloc: Global,
+    commands: &'r L,
+    command: &'r str,
+    args: Args,
+    core: Core,
+) -> Outcome<'r>
+    ensures answer { Gives (start_of (L.live commands.now) command.now args core) core result }
+    ensures bound { IfSome (L.live commands.now command.now)
+        (λ callee. result.spent ≤ (declared_by callee).budget) }
+{
+    match commands.command(command, Native::named(command)) {
+        Some(callee) => start_found(alloc, commands, command, callee, args, core),
+        None => unspent(alloc, core, End::NotFound),
+    }
+}
+
+/// Nothing ran.
+fn unspent<'r>(alloc: Global, core: Core, finish: End<'r>) -> Outcome<'r>
+    ensures core { result.core ≡ core }
+    ensures spent { result.spent ≡ 0 }
+    ensures lines { result.lines ≡ [] }
+    ensures finish { result.finish ≡ finish.entry }
+{
+    Outcome {
+        core,
+        spent: 0,
+        lines: Lines::new(alloc),
+        finish,
+    }
+}
+
+/// Starts a live command.
+fn start_found<'r, L: Commands>(
+    alloc: Global,
+    commands: &'r L,
+    command: &'r str,
+    callee: Found<'r>,
+    args: Args,
+    core: Core,
+) -> Outcome<'r>
+    requires { IsCallable (L.live commands.now) (callee_of callee) }
+    ensures ends { Ends (start_callee (L.live commands.now) command.now (callee_of callee.entry) args
+        (first_world core)) result result.finish }
+    ensures bound { result.spent ≤ (declared_by (callee_of callee.entry)).budget }
+{
+    let arena = Arena::new(alloc);
+    let Ok(given) = Given::lent(alloc, args.as_slice()) else {
+        return unspent(alloc, core, End::NoMemory);
+    };
+    if !fits(&callee, given.as_slice()) {
+        return unspent(alloc, core, End::Trap(Trap::WrongArgument, command, 0));
+    }
+    match callee {
+        Found::Plain(native) => {
+            drop(given);
+            start_native(alloc, commands, native, args, core)
+        }
+        Found::Coded(handler) => run_handler(alloc, &arena, commands, handler, given, core),
+    }
+}
+
+/// Starts a native, with arguments that fit it.
+fn start_native<'r, L: Commands>(
+    alloc: Global,
+    commands: &'r L,
+    native: Native,
+    args: Args,
+    core: Core,
+) -> Outcome<'r>
+    requires live { IsLive (L.live commands.now) native }
+    requires fit { fits (parameters_of native) args ≡ true }
+    ensures ends { Ends (Done (native_called native args (first_world core))) result result.finish }
+    ensures bound { result.spent ≤ budget_of native }
+{
+    let Ran { core, cost } = commands.call(native, core, args);
+    let (spent, finish) = match cost {
+        Ok(cost) => (u64::from(cost), End::Done),
+        Err(_) => (0, End::NoMemory),
+    };
+    Outcome {
+        core,
+        spent,
+        lines: Lines::new(alloc),
+        finish,
+    }
+}
