@@ -1,4 +1,5 @@
 pub mod FoldLemmas
 pub mod FoldWritingLemmas
 pub mod LinesLemmas
+pub mod Undoing
 pub mod WritingLemmas

@@ -8,7 +8,7 @@ use Rattle.std.proofs.lemmas.Grind.{flat_map-append}
 use Rattle.std.proofs.Common.{add-one, zero-add}
 use Rattle.std.proofs.lemmas.List.{get_or_default, take-append-drop, length-append, take_more, drop_more}
 use Rattle.std.proofs.lemmas.List.Elements.{All-append, All-take, All-cons, All-nil}
-use Rattle.std.proofs.lemmas.Option.{slice_get-get_or}
+use Rattle.std.proofs.lemmas.Option.{slice_get-get_or, slice_get_within, get_or_from_slice_get}
 use Rattle.std.proofs.Math.Seq.{take-append_seam, drop-append_seam}
 use Rattle.kb_stream.specs.Lines.{cut_at, ends_of, AreLines}
 use Rattle.kb_stream.specs.Writing.{text_of_lines}
@@ -145,6 +145,14 @@ unfolding more_are
 more_seen text ends line new_text new_ends lines are utf8 made places is =
     seen _ _ (more_are text ends line new_text new_ends are utf8 made places)
     ∙ ap (λ (ls : List (List ℕ)). ls ++ line ∷ []) (sym (seen text ends are) ∙ is)
+
+-- the first of other lines, and the next of them
+pub next_added : (old now new more : List (List ℕ)) (i : ℕ) (line : List ℕ) → now ≡ old ++ take i more
+    → slice_get more i ≡ Some line → new ≡ now ++ line ∷ [] → new ≡ old ++ take (i + 1) more
+next_added old now new more i line before at is =
+    is ∙ ap (λ (ls : List (List ℕ)). ls ++ line ∷ []) before ∙ append_assoc old (take i more) (line ∷ [])
+    ∙ ap (λ (l : List ℕ). old ++ (take i more ++ l ∷ [])) (sym (get_or_from_slice_get more i line [] at))
+    ∙ ap (λ (ls : List (List ℕ)). old ++ ls) (sym (take_more more i [] (slice_get_within more i line at)))
 
 -- fewer
 pub fewer_are : (text ends : List ℕ) (lines : List (List ℕ)) (n end : ℕ) → Hold text ends lines

@@ -20,3 +20,7 @@ pub record AreLines (text ends : List ℕ) : Type 0 where
   pub text_is : text ≡ text_of_lines lines
   pub ends_are : ends ≡ ends_of 0 lines
   pub texts : All IsUtf8 lines
+
+-- the old lines come first
+abbrev pub Begins : List (List ℕ) → List (List ℕ) → Type 0
+Begins old new = take (length old) new ≡ old

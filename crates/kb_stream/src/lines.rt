@@ -117,6 +117,34 @@ impl Lines {
         Ok(())
     }
 
+    /// Adds copies of other lines at the end. Without memory the lines stay as they were.
+    pub fn append(&mut self, more: &Lines) -> Result<(), NoMemory>
+        ensures ok { OnOk result (self.new ≡ self.old ++ more.now) }
+        ensures err { OnErr result (self.new ≡ self.old) }
+    {
+        let mark = self.len();
+        for place in 0..more.len() {
+            let line = more.get(place).unwrap();
+            match self.push_copy(line) {
+                Ok(()) => {}
+                Err(refused) => {
+                    self.truncate(mark);
+                    return Err(refused);
+                }
+            }
+        }
+        Ok(())
+    }
+
+    /// Adds a copy of a line at the end. Without memory the lines stay as they were.
+    fn push_copy(&mut self, line: &str) -> Result<(), NoMemory>
+        ensures ok { OnOk result (self.new ≡ self.old ++ line.now ∷ []) }
+        ensures err { OnErr result (self.new ≡ self.old) }
+    {
+        append(&mut self.text, &mut self.ends, line)?;
+        Ok(())
+    }
+
     /// Takes all lines away but the first ones, as many as `len`. It takes no memory.
     pub fn truncate(&mut self, len: usize)
         ensures { self.new ≡ take len self.old }

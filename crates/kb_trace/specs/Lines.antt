@@ -68,6 +68,12 @@ bad_arguments_line command = codes "bad arguments " ++ command
 abbrev pub unread_line : ℕ → List ℕ
 unread_line number = codes "unread line " ++ decimal number
 
+-- trap 83 OutOfBudget x.hi 2
+abbrev pub trap_line : ℕ → List ℕ → ℕ → List ℕ
+trap_line number command place =
+    codes "trap " ++ (decimal number ++ (codes " " ++ (fault_name number
+    ++ (codes " " ++ (command ++ (codes " " ++ decimal place))))))
+
 -- a text as JSON writes it
 abbrev pub json_string : List ℕ → List ℕ
 json_string text = compact_text (string text)

@@ -4,7 +4,7 @@ ghost use Rattle.std.specs.Prelude.{◌≡◌, [], ◌∷◌, ◌++◌, IfOk, On
 ghost use Rattle.kb_trace.specs.Lines as line;
 
 use json::Writer;
-use kb_context::{NoMemory, Refusal};
+use kb_context::{NoMemory, Refusal, fault_name};
 use kb_core::Buffer;
 use kb_keys::{Keystroke, write_strokes};
 use kb_stream::Lines;
@@ -203,6 +203,22 @@ pub fn unread_line(lines: &mut Lines, number: u64) -> Result<(), NoMemory>
 {
     let mut text = lines.begin_line();
     write!(text, "unread line {number}")?;
+    lines.push(text)
+}
+
+/// `trap NUMBER NAME COMMAND PLACE`, for a handler that can't go on at one of its instructions.
+pub fn trap_line(
+    lines: &mut Lines,
+    number: u32,
+    command: &str,
+    place: usize,
+) -> Result<(), NoMemory>
+    ensures ok { OnOk result (lines.new ≡ lines.old ++ line.trap_line number command.now place ∷ []) }
+    ensures err { OnErr result (lines.new ≡ lines.old) }
+{
+    let mut text = lines.begin_line();
+    let name = fault_name(number);
+    write!(text, "trap {number} {name} {command} {place}")?;
     lines.push(text)
 }
 

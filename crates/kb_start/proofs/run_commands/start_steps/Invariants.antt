@@ -1,8 +1,8 @@
 use Rattle.std.proofs.Common.{◌≡◌, drop, map}
-use Rattle.kb_session.specs.RunCommands.{planned}
-use Rattle.kb_session.specs.Session.{Begins}
-use Rattle.kb_session.specs.Start.{behind, run_all}
-use Rattle.kb_session.proofs.run_commands.start_steps.Given as goal
+use Rattle.kb_start.specs.RunCommands.{planned}
+use Rattle.kb_stream.specs.Lines.{Begins}
+use Rattle.kb_start.specs.Start.{behind, run_all}
+use Rattle.kb_start.proofs.run_commands.start_steps.Given as goal
 
 abbrev pub invariant-loop-step : goal.invariant-loop-step
 invariant-loop-step g l =

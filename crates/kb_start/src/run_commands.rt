@@ -3,14 +3,15 @@
 ghost use Rattle.std.specs.Prelude.{◌≡◌, IfOk, OnErr, map, option_map};
 ghost use Rattle.serde_json.specs.View.{view, items_view};
 ghost use Rattle.kb_json.specs.Parts.{each, listed};
-ghost use Rattle.kb_session.specs.RunCommands.{planned, planned_for, planned_in, few, elements_given};
-ghost use Rattle.kb_session.specs.RunCommands.{plan_of};
-ghost use Rattle.kb_session.specs.Session.{Begins};
-ghost use Rattle.kb_session.specs.Start.{started, behind, run_one, run_all, run_plan};
+ghost use Rattle.kb_start.specs.RunCommands.{planned, planned_for, planned_in, few, elements_given};
+ghost use Rattle.kb_start.specs.RunCommands.{plan_of};
+ghost use Rattle.kb_stream.specs.Lines.{Begins};
+ghost use Rattle.kb_start.specs.Start.{started, behind, run_one, run_all, run_plan};
 
-use crate::start::{Finish, start_native};
+use crate::held_core::HeldCore;
+use crate::start::{Finish, start_live};
 use kb_context::NoMemory;
-use kb_registry::{HeldCore, HostCommand, Registry};
+use kb_registry::{HostCommand, Registry};
 use kb_stream::Lines;
 use kb_trace::lines;
 use serde_json::Value;
@@ -29,7 +30,7 @@ pub struct Step<'j> {
 /// Starts the commands of the list that `runCommands` is given, in order, up to the first that isn't found or
 /// whose arguments don't fit, and adds their lines. The list is read before any of them starts: where it has
 /// another shape, none does. Where memory is refused, the old lines still come first.
-#[tactic(auto, using(crate::proofs::Undoing::undoing))]
+#[tactic(auto, using(kb_stream::proofs::Undoing::undoing))]
 pub(crate) fn start_list<C: HostCommand>(
     alloc: Global,
     given: Option<&Value>,
@@ -50,7 +51,7 @@ pub(crate) fn start_list<C: HostCommand>(
 }
 
 /// Starts the commands in order, up to the first that doesn't run.
-#[tactic(auto, using(crate::proofs::Undoing::undoing_all))]
+#[tactic(auto, using(kb_stream::proofs::Undoing::undoing_all))]
 fn start_steps<C: HostCommand>(
     alloc: Global,
     steps: &[Step<'_>],
@@ -72,7 +73,7 @@ fn start_steps<C: HostCommand>(
 }
 
 /// Starts one command of a list, behind a line of its own.
-#[tactic(auto, using(crate::proofs::Undoing::undoing))]
+#[tactic(auto, using(kb_stream::proofs::Undoing::undoing))]
 fn start_step<C: HostCommand>(
     alloc: Global,
     step: &Step<'_>,
@@ -85,7 +86,7 @@ fn start_step<C: HostCommand>(
     ensures err { OnErr result (Begins trace.old trace.new) }
 {
     lines::run_line(trace, step.command)?;
-    start_native(alloc, step.command, step.given, registry, core, trace)
+    start_live(alloc, step.command, step.given, registry, core, trace)
 }
 
 /// The commands of the list that is given, or `None` where that is no object with a list `commands` of at

@@ -1,8 +1,8 @@
 use Rattle.std.proofs.Common.{◌≡◌, ◌++◌, drop, map, option_map}
 use Rattle.serde_json.specs.View.{items_view}
 use Rattle.kb_json.specs.Parts.{each, listed}
-use Rattle.kb_session.specs.RunCommands.{planned, planned_in}
-use Rattle.kb_session.proofs.run_commands.read_elements.Given as goal
+use Rattle.kb_start.specs.RunCommands.{planned, planned_in}
+use Rattle.kb_start.proofs.run_commands.read_elements.Given as goal
 
 -- the commands so far, and then those that are left
 abbrev pub invariant-loop-element : goal.invariant-loop-element

@@ -1,14 +1,32 @@
-//! A core that stays in its place while native commands run on it.
+//! A core that stays in its place while commands run on it.
 ghost use Rattle.std.specs.Prelude.{◌≡◌, ◌≤◌, OnOk, OnErr, IfOk};
 ghost use Rattle.kb_core.specs.Core.{core_after};
 ghost use Rattle.kb_core.specs.Native.{Fits, budget_of};
+ghost use Rattle.kb_start.specs.HeldCore.{outcome};
+ghost use Rattle.kb_vm.specs.Meaning.{start_of};
+ghost use Rattle.kb_vm.specs.Outcome.{Gives};
 
-use crate::command::HostCommand;
+use kb_codes::Commands;
 use kb_context::{NoMemory, Scopes};
 use kb_core::{Args, Core, Ran};
+use kb_registry::HostCommand;
+use kb_stream::Lines;
+use kb_vm::{End, Outcome, start};
+use std::alloc::Global;
 use std::marker::Model;
 
-/// A core that native commands run on where it is held. A command takes the core and gives it back,
+/// What a start of a live command gives beside its core.
+#[derive(Drop)]
+pub struct Ended<'r> {
+    /// How many instructions were begun, and what natives answered as cost.
+    pub spent: u64,
+    /// A line for each call, in order.
+    pub lines: Lines,
+    /// How it ended.
+    pub finish: End<'r>,
+}
+
+/// A core that commands run on where it is held. A command takes the core and gives it back,
 /// and no other core could stand in its place meanwhile. Contracts see the core, which is there
 /// between all calls.
 #[derive(Debug, Drop)]
@@ -20,7 +38,7 @@ impl Model for HeldCore {
     ghost use Rattle.std.specs.Prelude.{IsSome};
     ghost use Rattle.kb_core.specs.declared.run.Core.{Core};
     ghost use Rattle.kb_core.specs.contracts.run.Core as whole;
-    ghost use Rattle.kb_registry.specs.HeldCore.{held};
+    ghost use Rattle.kb_start.specs.HeldCore.{held};
 
     ghost Value = { Core };
 
@@ -33,7 +51,7 @@ impl Model for HeldCore {
 
 impl HeldCore {
     ghost use Rattle.std.specs.Borrow.{sem};
-    ghost use Rattle.kb_registry.specs.HeldCoreLoan.{LendsScopes};
+    ghost use Rattle.kb_start.specs.HeldCoreLoan.{LendsScopes};
 
     /// Holds a core. It takes no memory.
     pub fn new(core: Core) -> HeldCore
@@ -60,6 +78,31 @@ impl HeldCore {
         let Ran { core, cost } = command.call(self.core.take().unwrap(), args);
         self.core = Some(core);
         cost
+    }
+
+    /// Starts a live command with arguments, as `kb_vm::start` does, on the core that is held.
+    pub fn start<'r, L: Commands>(
+        &mut self,
+        alloc: Global,
+        commands: &'r L,
+        command: &'r str,
+        args: Args,
+    ) -> Ended<'r>
+        ensures { Gives (start_of (L.live commands.now) command.now args self.old) self.old
+            (outcome self.new result) }
+    {
+        let Outcome {
+            core,
+            spent,
+            lines,
+            finish,
+        } = start(alloc, commands, command, args, self.core.take().unwrap());
+        self.core = Some(core);
+        Ended {
+            spent,
+            lines,
+            finish,
+        }
     }
 
     /// The scopes of the core, lent to be changed in place. It takes no memory.

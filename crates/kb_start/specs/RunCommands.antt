@@ -5,7 +5,7 @@ use Rattle.serde_json.specs.Data.{Data, null, boolean, number, string, array, ob
 use Rattle.serde_json.specs.Find.{get, as_str}
 use Rattle.serde_json.specs.View.{view}
 use Rattle.kb_json.specs.Parts.{each, elements_of}
-use Rattle.kb_session.specs.declared.run_commands.Step.{Step}
+use Rattle.kb_start.specs.declared.run_commands.Step.{Step}
 
 -- the command that runs others
 abbrev pub run_commands : List ℕ

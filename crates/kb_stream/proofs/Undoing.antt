@@ -1,9 +1,9 @@
--- A trace that goes back to what it was.
+-- Lines that go back to what they were.
 use Rattle.std.proofs.Common.{◌≡◌, ℕ, List, ◌++◌, sym, ap, ◌∙◌, length, take, drop, append-nil, append_assoc}
 use Rattle.std.proofs.Common.{[]}
 use Rattle.std.proofs.Math.Seq.{take-append_seam}
 use Rattle.std.proofs.lemmas.List.{take-append-drop}
-use Rattle.kb_session.specs.Session.{Begins}
+use Rattle.kb_stream.specs.Lines.{Begins}
 
 pub begins_same : (old new : List (List ℕ)) → new ≡ old → Begins old new
 begins_same old new same =

@@ -2,7 +2,7 @@
 use Rattle.std.specs.Borrow.{Lends, MutBor, Fml}
 use Rattle.kb_context.specs.Scopes.{ScopesData}
 use Rattle.kb_context.specs.contracts.scopes.Scopes as lent
-use Rattle.kb_registry.specs.contracts.held_core.HeldCore as holder
+use Rattle.kb_start.specs.contracts.held_core.HeldCore as holder
 use Rattle.kb_core.specs.declared.run.Core.{Core}
 use Rattle.kb_core.specs.Core.{with_scopes}
 

@@ -1,0 +1,4 @@
+pub mod HeldCore
+pub mod HeldCoreLoan
+pub mod RunCommands
+pub mod Start

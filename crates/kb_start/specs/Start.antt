@@ -1,0 +1,85 @@
+-- The start of a command: the core that it leaves, its lines, and how it ended.
+use Rattle.std.specs.Prelude.{ℕ, List, [], ◌∷◌, ◌++◌, Option, Some, None, bytes_eq, if◌then◌else◌}
+use Rattle.serde_json.specs.Data.{Data}
+use Rattle.kb_codes.specs.Callee.{Callee, Table, declared_by}
+use Rattle.kb_core.specs.Reading.{arguments_for}
+use Rattle.kb_core.specs.declared.arg.Arg.{Arg}
+use Rattle.kb_core.specs.declared.run.Core.{Core}
+use Rattle.kb_registry.specs.Live.{Live, callee}
+use Rattle.kb_start.specs.RunCommands.{Planned, plan_of, run_commands}
+use Rattle.kb_start.specs.declared.start.Finish.{Finish}
+use Rattle.kb_start.specs.declared.start.Finish.TheVariants.{Done, NotFound, BadArguments, Trapped}
+use Rattle.kb_trace.specs.Lines as line
+use Rattle.kb_vm.specs.Meaning as answer
+use Rattle.kb_vm.specs.Meaning.{Answer, first_world, start_callee}
+use Rattle.kb_vm.specs.Trap.{number_of}
+
+pub record Started : Type 0 where
+  pub core : Core
+  pub lines : List (List ℕ)
+  pub finish : Finish
+
+abbrev pub started : Core → List (List ℕ) → Finish → Started
+started core lines finish = record { core = core; lines = lines; finish = finish }
+
+-- behind other lines
+abbrev pub behind : List (List ℕ) → Started → Started
+behind lines p = started p.core (lines ++ p.lines) p.finish
+
+-- arguments don't fit a command
+abbrev pub unfit : List ℕ → Core → Started
+unfit command core = started core (line.bad_arguments_line command ∷ []) BadArguments
+
+-- a command ran, and the last line says how that ended
+abbrev pub ran : Answer → Started
+ran (answer.Done w) = started w.core (w.lines ++ line.done_line w.core.buffer ∷ []) Done
+ran (answer.Stuck trap command place w) =
+    started w.core (w.lines ++ line.trap_line (number_of trap) command place ∷ []) Trapped
+
+-- a live command runs where arguments fit it
+abbrev pub started_with : Table → List ℕ → Callee → Option (List Arg) → Core → Started
+started_with table command callee None core = unfit command core
+started_with table command callee (Some args) core =
+    ran (start_callee table command callee args (first_world core))
+
+-- there is such a live command, or not
+abbrev pub started_as : Table → List ℕ → Option Callee → Option Data → Core → Started
+started_as table command None given core = started core (line.not_found_line command ∷ []) NotFound
+started_as table command (Some callee) given core =
+    started_with table command callee (arguments_for (declared_by callee).params given) core
+
+-- the live commands by their identifiers
+abbrev pub live_table : Live → Table
+live_table live identifier = callee identifier live
+
+-- a live command, by its identifier and the arguments that are given with it
+abbrev pub start_live : List ℕ → Option Data → Live → Core → Started
+start_live command given live core = started_as (live_table live) command (callee command live) given core
+
+-- what comes behind a start, unless that broke off
+abbrev pub and_then : Finish → Started → Started → Started
+and_then Done p q = started q.core (p.lines ++ q.lines) q.finish
+and_then NotFound p q = p
+and_then BadArguments p q = p
+and_then Trapped p q = p
+
+-- one command of a list
+abbrev pub run_one : Planned → Live → Core → Started
+run_one p live core = behind (line.run_line p.command ∷ []) (start_live p.command p.given live core)
+
+-- the commands of a list, in order, up to the first that doesn't run
+abbrev pub run_all : List Planned → Live → Core → Started
+run_all [] live core = started core [] Done
+run_all (p ∷ ps) live core =
+    and_then (run_one p live core).finish (run_one p live core) (run_all ps live (run_one p live core).core)
+
+-- the list is read as a whole or not
+abbrev pub run_plan : Option (List Planned) → Live → Core → Started
+run_plan None live core = unfit run_commands core
+run_plan (Some ps) live core = run_all ps live core
+
+-- a command; `runCommands` is the engine's own
+unfoldable pub start_of : List ℕ → Option Data → Live → Core → Started
+start_of command given live core =
+    if bytes_eq command run_commands then run_plan (plan_of given) live core
+    else start_live command given live core
