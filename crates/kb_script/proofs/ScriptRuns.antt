@@ -6,32 +6,21 @@ use Rattle.std.specs.Prelude.{Option, Some, None, option_map, option_to_list, Re
 use Rattle.std.specs.Io.KnownBytes.{Appends, Keeps}
 use Rattle.kb_context.specs.declared.failure.Failure.{Failure}
 use Rattle.kb_context.specs.declared.failure.Failure.TheVariants.{NoMemory, Fault}
-use Rattle.kb_rules.specs.declared.origin.Origin.TheVariants.{User}
 use Rattle.kb_rules.specs.declared.unread.UnreadAt.{UnreadAt}
-use Rattle.kb_context.specs.declared.refusal.Refusal.{Refusal}
 use Rattle.kb_core.specs.declared.native.Native.{Native}
-use Rattle.kb_files.specs.RuleFile.{rules_in}
-use Rattle.kb_rules.specs.RuleList.{Listed}
-use Rattle.kb_registry.specs.Live.{registration_fault, holder}
-use Rattle.kb_registry.specs.declared.fault.RegistryFault.{RegistryFault}
 use Rattle.kb_script.specs.Script.{line_said, said_from, said_of, lines_of, bare}
 use Rattle.kb_script.specs.ScriptRun.{RunsSaid, BreaksOff, BreaksSaid, MemoryRefused, NothingRan, marked}
-use Rattle.kb_script.specs.Shelf.{Stand, Said, move, move_unless, told_by, Halts, beside}
+use Rattle.kb_script.specs.Shelf.{Stand, Said, move, move_unless, Halts, beside}
 use Rattle.kb_script.proofs.BareLemmas.{bare_line, bare_from, bare_marked}
 use Rattle.kb_script.proofs.ShelfLemmas.{halts_same, halted}
 use Rattle.kb_session.specs.Session.{halt}
-use Rattle.kb_session.specs.State.{State, Told, happens, reload, register, dispose, step, step_unless, step_on}
-use Rattle.kb_session.specs.State.{taken_unless, reloaded, refusal_of, registering, disposing, disposing_unless}
-use Rattle.kb_code.specs.Handler.{HandlerData}
-use Rattle.kb_codes.specs.Live.{caller_of}
-use Rattle.kb_trace.specs.declared.event.Event.{Event}
-use Rattle.kb_trace.specs.declared.event.Event.TheVariants as event
-use Rattle.kb_stream.specs.Fold.{Traced, after_all, fold}
+use Rattle.kb_session.specs.State.{State}
+use Rattle.kb_stream.specs.Fold.{Traced, after_all, fold, nothing}
 use Rattle.kb_stream.specs.FoldWriting.{RunsAndWrites, StopsAndWrites, LacksLines}
 use Rattle.kb_stream.specs.Writing.{text_of_lines, AppendsPart}
 use Rattle.kb_stream.specs.declared.writing.WriteRefused.{WriteRefused}
 use Rattle.std.proofs.lemmas.List.{length-append, map-append}
-use Rattle.kb_stream.proofs.FoldLemmas.{after_all-one, fold-one}
+use Rattle.kb_stream.proofs.FoldLemmas.{after_all-one, fold-one, fold-still}
 use Rattle.kb_stream.proofs.FoldWritingLemmas as f
 
 -- what was said ran, and then more of it broke off
@@ -47,18 +36,15 @@ fail_before : (failure : Failure WriteRefused) (xs ys : List Said) (old new : Tr
 fail_before NoMemory xs ys old new a b p = f.stop_before move Halts xs ys old new a b p
 fail_before (Fault refused) xs ys old new a b p = f.lack_before move xs ys old new a b p
 
--- of what is said the first ran, with some marks for its reloads, the rest is left, and the session still runs
+-- of what is said the first ran, with some marks for its reloads, and the rest is left
 pub record RunsUpTo (said : List Said) (old now : Traced Stand) (before written : Option (List ℕ))
     (rest : List Said) : Type 0 where
   pub done : List Said
   pub whole : said ≡ map bare done ++ rest
   pub ran : RunsAndWrites move done old now before written
-  pub running : now.state.state.stopped ≡ false
 
-pub up_to_start : (said : List Said) (old : Traced Stand) (a : Option (List ℕ)) → old.state.state.stopped ≡ false
-    → RunsUpTo said old old a a said
-up_to_start said old a running =
-    record { done = []; whole = refl; ran = f.write_none move old a; running = running }
+pub up_to_start : (said : List Said) (old : Traced Stand) (a : Option (List ℕ)) → RunsUpTo said old old a a said
+up_to_start said old a = record { done = []; whole = refl; ran = f.write_none move old a }
 
 line_first : (number : ℕ) (lines : List (List ℕ)) (line : List ℕ) (more : List (List ℕ)) → lines ≡ line ∷ more
     → said_from number lines ≡ option_to_list (line_said number line) ++ said_from (number + 1) more
@@ -67,8 +53,8 @@ line_first number lines line more e = ap (λ (ls : List (List ℕ)). said_from n
 pub up_to_step : (said : List Said) (old now new : Traced Stand) (a b c : Option (List ℕ)) (number : ℕ)
     (lines more : List (List ℕ)) (line : List ℕ) → RunsUpTo said old now a b (said_from number lines)
     → lines ≡ line ∷ more → RunsSaid (option_to_list (line_said number line)) now new b c
-    → new.state.state.stopped ≡ false → RunsUpTo said old new a c (said_from (number + 1) more)
-up_to_step said old now new a b c number lines more line p e q running =
+    → RunsUpTo said old new a c (said_from (number + 1) more)
+up_to_step said old now new a b c number lines more line p e q =
     let here = option_to_list (line_said number line) in
     let after = said_from (number + 1) more in
     record {
@@ -78,7 +64,6 @@ up_to_step said old now new a b c number lines more line p e q running =
           ∙ ap (λ (xs : List Said). (map bare p.done ++ xs) ++ after) (sym q.tells)
           ∙ ap (λ (xs : List Said). xs ++ after) (sym (map-append bare p.done q.said));
       ran = f.write_more move p.done q.said old now new a b c p.ran q.ran;
-      running = running;
     }
 
 pub up_to_end : (said : List Said) (old now : Traced Stand) (a b : Option (List ℕ))
@@ -88,6 +73,23 @@ up_to_end said old now a b p = record {
   tells = sym (p.whole ∙ append-nil (map bare p.done));
   ran = p.ran;
 }
+
+-- a session that is stopped takes nothing
+move_stopped : (said : List Said) (s : Stand) → s.state.stopped ≡ true → fold move said s ≡ nothing s
+move_stopped = fold-still move (λ s. s.state.stopped ≡ true) (λ x s h. ap (λ b. move_unless b x s) h)
+
+-- so it did all that is said, where it was stopped on the way
+pub up_to_halt : (said : List Said) (old now : Traced Stand) (a b : Option (List ℕ)) (number : ℕ)
+    (more : List (List ℕ)) → RunsUpTo said old now a b (said_from number more)
+    → now.state.state.stopped ≡ true → RunsSaid said old now a b
+up_to_halt said old now a b number more p stopped =
+    let rest = said_from number more in
+    record {
+      said = p.done ++ rest;
+      tells = map-append bare p.done rest ∙ ap (λ (xs : List Said). map bare p.done ++ xs) (bare_from number more)
+          ∙ sym p.whole;
+      ran = f.write_rest move p.done rest old now a b p.ran (move_stopped rest now.state stopped);
+    }
 
 pub up_to_fail : (said : List Said) (old now new : Traced Stand) (a b c : Option (List ℕ)) (number : ℕ)
     (lines more : List (List ℕ)) (line : List ℕ) (failure : Failure WriteRefused)
@@ -183,57 +185,6 @@ line_stops number line old new a halts same = record {
   tells = bare_line number line;
   breaks = stops_now (option_to_list (line_said number line)) old new a halts same;
 }
-
--- a session that takes what it is told runs on
-taken_runs : (refusal : Option Refusal) (e : Event) (s : State)
-    → (taken_unless refusal e s).state.stopped ≡ s.stopped
-taken_runs (Some refusal) e s = refl
-taken_runs None (event.Key key) s = refl
-taken_runs None (event.Focus name) s = refl
-taken_runs None (event.SetKey name key value) s = refl
-taken_runs None (event.UnsetKey name key) s = refl
-taken_runs None (event.Unread number) s = refl
-taken_runs None event.NoClosure s = refl
-
-reloaded_runs : (rules : Result Listed Refusal) (s : State) → (reloaded rules s).state.stopped ≡ s.stopped
-reloaded_runs (Ok user) s = refl
-reloaded_runs (Err refusal) s = refl
-
-registering_runs : (fault : Option RegistryFault) (native : Native) (s : State)
-    → (registering fault native s).state.stopped ≡ s.stopped
-registering_runs None native s = refl
-registering_runs (Some fault) native s = refl
-
-unless_runs : (caller : Option HandlerData) (native : Native) (number : ℕ) (s : State)
-    → (disposing_unless caller native number s).state.stopped ≡ s.stopped
-unless_runs None native number s = refl
-unless_runs (Some caller) native number s = refl
-
-disposing_runs : (native : Option Native) (number : ℕ) (s : State)
-    → (disposing native number s).state.stopped ≡ s.stopped
-disposing_runs None number s = refl
-disposing_runs (Some native) number s = unless_runs (caller_of native s.live.code) native number s
-
-step_on_runs : (told : Told) (s : State) → (step_on told s).state.stopped ≡ s.stopped
-step_on_runs (happens e) s = taken_runs (refusal_of e s) e s
-step_on_runs (reload bytes marks) s = reloaded_runs (rules_in marks User bytes) s
-step_on_runs (register native) s = registering_runs (registration_fault native s.live) native s
-step_on_runs (dispose number) s = disposing_runs (holder number s.live) number s
-
-step_runs : (told : Told) (s : State) → s.stopped ≡ false → (step told s).state.stopped ≡ false
-step_runs told s running =
-    subst (λ b. (step_unless b told s).state.stopped ≡ false) (sym running) (step_on_runs told s ∙ running)
-
-move_runs : (said : Said) (s : Stand) → s.state.stopped ≡ false → (move said s).state.state.stopped ≡ false
-move_runs said s running =
-    subst (λ b. (move_unless b said s).state.state.stopped ≡ false) (sym running)
-    (step_runs (told_by said s.shelf) s.state running)
-
-pub runs_on : (said : Option Said) (old new : Traced Stand) → new ≡ after_all move (option_to_list said) old
-    → old.state.state.stopped ≡ false → new.state.state.stopped ≡ false
-runs_on None old new session running = ap (λ s. s.state.state.stopped) session ∙ running
-runs_on (Some said) old new session running =
-    ap (λ s. s.state.state.stopped) session ∙ move_runs said old.state running
 
 pub ruleset one_line = (line_stops)
 

@@ -8,3 +8,4 @@ script_number script.Stopped = 97
 script_number script.TooLong = 100
 script_number script.ReadFailed = 101
 script_number script.WriteFailed = 102
+script_number script.Trapped = 103

@@ -7,6 +7,7 @@ use Rattle.kb_context.specs.declared.failure.Failure.TheVariants.{NoMemory, Faul
 use Rattle.kb_rules.specs.declared.unread.UnreadAt.{UnreadAt}
 use Rattle.kb_script.specs.declared.fault.ScriptFault.{ScriptFault}
 use Rattle.kb_script.specs.declared.fault.ScriptFault.TheVariants.{Stopped, TooLong, ReadFailed, WriteFailed}
+use Rattle.kb_script.specs.declared.fault.ScriptFault.TheVariants.{Trapped}
 use Rattle.kb_script.specs.Script.{said_of, bare}
 use Rattle.kb_script.specs.Shelf.{Stand, Said, tells, takes, move, Halts}
 use Rattle.kb_session.specs.State.{Told, reload}
@@ -31,6 +32,19 @@ pub record Ran (had left : Option (List ℕ)) (old new : Traced Stand) (before a
   pub said : List Said
   pub tells : map bare said ≡ said_of script
   pub ran : RunsAndWrites move said old new before after
+  pub runs_on : new.state.state.stopped ≡ false
+
+-- a handler couldn't go on in one of the lines, which stopped the session, so that nothing behind it was done; the
+-- writer got the lines of all that was
+pub record WasTrapped (had left : Option (List ℕ)) (old new : Traced Stand) (before after : Option (List ℕ))
+    : Type 0 where
+  pub script : List ℕ
+  pub read : IsRead had left script_limit script
+  pub was_running : old.state.state.stopped ≡ false
+  pub said : List Said
+  pub tells : map bare said ≡ said_of script
+  pub ran : RunsAndWrites move said old new before after
+  pub stopped : new.state.state.stopped ≡ true
 
 -- nothing ran, and nothing is written
 pub record NothingRan (old new : Traced Stand) (before after : Option (List ℕ)) : Type 0 where
@@ -82,6 +96,7 @@ Fails (Fault TooLong) had left old new before after =
 Fails (Fault ReadFailed) had left old new before after =
     NotRead (Fault read.Failed) had left old new before after
 Fails (Fault WriteFailed) had left old new before after = LinesLacked had left old new before after
+Fails (Fault Trapped) had left old new before after = WasTrapped had left old new before after
 
 -- what an answer leaves
 abbrev pub Answers : Result (Unit {0}) (Failure ScriptFault) → Option (List ℕ) → Option (List ℕ)

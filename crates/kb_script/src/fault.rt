@@ -16,6 +16,9 @@ pub enum ScriptFault {
     /// The writer failed, or took nothing.
     #[error("the trace can't be written")]
     WriteFailed,
+    /// A handler couldn't go on, which stopped the session.
+    #[error("a handler trapped")]
+    Trapped,
 }
 
 impl ScriptFault {
@@ -31,6 +34,7 @@ impl ScriptFault {
             ScriptFault::TooLong => 100,
             ScriptFault::ReadFailed => 101,
             ScriptFault::WriteFailed => 102,
+            ScriptFault::Trapped => 103,
         }
     }
 }

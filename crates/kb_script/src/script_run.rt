@@ -29,8 +29,9 @@ pub const SCRIPT_LIMIT: usize = 16_777_216;
 /// Errors: `ReadFailed`, `TooLong` (past `SCRIPT_LIMIT` bytes) and `Stopped` (the session was
 /// stopped before), after which nothing was run or written; `WriteFailed`, after which the writer
 /// has a part of the lines, and no line of the script behind the one that could not be written was
-/// run; `NoMemory`, after which the session is stopped, the writer has all lines that the script
-/// added to the trace, and no closure of the shelf is lost.
+/// run; `Trapped`, where a handler couldn't go on: the session is stopped, the writer has all lines that the
+/// script added to the trace, of which that handler's is the last; `NoMemory`, after which the session is
+/// stopped, the writer has all lines that the script added to the trace, and no closure of the shelf is lost.
 pub fn run_script<R: Read, W: Write, C: HostCommand>(
     alloc: Global,
     reader: &mut R,
@@ -59,13 +60,14 @@ pub fn run_script<R: Read, W: Write, C: HostCommand>(
         return Err(Failure::Fault(ScriptFault::Stopped));
     }
     match run_lines(alloc, script.as_slice(), writer, session, shelf) {
+        Ok(()) if session.is_stopped() => Err(Failure::Fault(ScriptFault::Trapped)),
         Ok(()) => Ok(()),
         Err(Failure::NoMemory) => Err(Failure::NoMemory),
         Err(Failure::Fault(WriteRefused)) => Err(Failure::Fault(ScriptFault::WriteFailed)),
     }
 }
 
-/// Runs the lines of a script, the first of which has the number 1.
+/// Runs the lines of a script, the first of which has the number 1, up to one that stops the session.
 #[tactic(auto, using(crate::proofs::ScriptRuns::progress))]
 fn run_lines<W: Write, C: HostCommand>(
     alloc: Global,
@@ -91,6 +93,7 @@ fn run_lines<W: Write, C: HostCommand>(
         let (line, after) = split_line(rest);
         run_line(alloc, number, line, writer, session, shelf)?;
         match after {
+            Some(_) if session.is_stopped() => return Ok(()),
             Some(after) => rest = after,
             None => return Ok(()),
         }
@@ -114,7 +117,6 @@ fn run_line<W: Write, C: HostCommand>(
         (beside session.old (map C.stands_for shelf.old.items))
         (beside session.new (map C.stands_for shelf.new.items))
         (W.contents writer.old) (W.contents writer.new)) }
-    ensures on { OnOk result (session.new.state.stopped ≡ false) }
     ensures err { IfErr result (λ failure. BreaksSaid failure
         (option_to_list (script.line_said number line.now))
         (beside session.old (map C.stands_for shelf.old.items))

@@ -1,8 +1,10 @@
 -- A run of events goes on, ends and stops.
 use Rattle.std.proofs.Common.{◌≡◌, true, false, List, [], ◌∷◌, refl, sym, ap, ◌∙◌}
+use Rattle.std.specs.Prelude.{◌||◌}
 use Rattle.kb_session.specs.declared.fault.SessionFault.{SessionFault}
 use Rattle.kb_session.specs.declared.fault.SessionFault.TheVariants as fault
 use Rattle.kb_session.specs.Session.{took, halt, half_done, Halts, HaltsAt, FailsAt, FailsAmong}
+use Rattle.kb_session.specs.Session.{is_left, is_late}
 use Rattle.kb_session.specs.State.{State, Told, happens, reload, register, dispose, step_unless, next, out_of}
 use Rattle.kb_stream.specs.Fold.{Traced, nothing, fold, after_all}
 use Rattle.kb_stream.proofs.FoldLemmas.{fold-still, RunsUpTo, run_start, run_step, run_end}
@@ -18,16 +20,38 @@ pub stopped-all : (told : List Told) (old : Traced State) → old.state.stopped 
 stopped-all told old h = run_end next old old told told (run_start next old told)
     (stopped-fold told old.state h)
 
+-- ---- which of what is told is left for a session that is stopped
+
+left_now : (rest : List Told) (event : Told) (s : State) → s.stopped ≡ false
+    → is_left (event ∷ rest) s ≡ is_left rest (next event s).state
+left_now rest event s running = ap (λ b. b || is_left rest (next event s).state) running
+
 pub one_more : (old now new : Traced State) (events rest : List Told) (event : Told)
     → RunsUpTo next old events now (event ∷ rest)
     → new ≡ took event now → RunsUpTo next old events new rest
 one_more old now new events rest event runs is = run_step next old now new events rest event runs is
 
+pub still_left : (old now new : Traced State) (events rest : List Told) (event : Told)
+    → is_left events old.state ≡ is_left (event ∷ rest) now.state → now.state.stopped ≡ false
+    → new ≡ took event now → is_left events old.state ≡ is_left rest new.state
+still_left old now new events rest event left running is =
+    left ∙ left_now rest event now.state running ∙ ap (λ s. is_left rest s.state) (sym is)
+
 pub all_run : (old now : Traced State) (events : List Told) → RunsUpTo next old events now []
     → now ≡ after_all next events old
 all_run old now events runs = run_end next old now events [] runs refl
 
-pub ruleset progress = (run_start, one_more, all_run, stopped-all)
+-- a run that took all of its events came in time
+pub in_time : (old now : Traced State) (events : List Told) → old.state.stopped ≡ false
+    → is_left events old.state ≡ is_left [] now.state → is_late events old.state ≡ false
+in_time old now events running left = ap (λ b. b || is_left events old.state) running ∙ left
+
+-- a run of a session that was stopped didn't
+pub too_late : (old : Traced State) (events : List Told) → old.state.stopped ≡ true
+    → is_late events old.state ≡ true
+too_late old events stopped = ap (λ b. b || is_left events old.state) stopped
+
+pub ruleset progress = (run_start, one_more, still_left, all_run, in_time, stopped-all, too_late)
 
 halt_halts : (old new : Traced State) → new ≡ halt old → Halts old.state new.state × (new.trace ≡ old.trace)
 halt_halts old new is = (
@@ -52,14 +76,16 @@ halts_at (dispose number) old new h = halt_halts old new h
 
 -- the fault of an event is the fault of the run
 pub runs_fail : (old now new : Traced State) (events rest : List Told) (event : Told) (f : SessionFault)
-    → RunsUpTo next old events now rest
+    → RunsUpTo next old events now (event ∷ rest)
+    → is_left events old.state ≡ is_left (event ∷ rest) now.state
     → old.state.stopped ≡ false → FailsAt f event now new → FailsAmong f events old new
-runs_fail old now new events rest event (fault.Refused refusal) runs running fails = fails
-runs_fail old now new events rest event fault.NoMemory runs running fails =
+runs_fail old now new events rest event (fault.Refused refusal) runs left running fails = fails
+runs_fail old now new events rest event fault.NoMemory runs left running fails =
     let h = halts_at event now new fails.1 in
-    (running, run_stop next Halts old now new events rest runs h.0 h.1)
-runs_fail old now new events rest event fault.Stopped runs running fails = (
-  ap (λ s. s.state.stopped) fails.1 ∙ fails.0,
+    (running, run_stop next Halts old now new events (event ∷ rest) runs h.0 h.1)
+runs_fail old now new events rest event fault.Stopped runs left running fails = (
+  ap (λ b. b || is_left events old.state) running ∙ left
+      ∙ ap (λ b. b || is_left rest (next event now.state).state) fails.0,
   fails.1
-      ∙ run_end next old now events rest runs (stopped-fold rest now.state fails.0),
+      ∙ run_end next old now events (event ∷ rest) runs (stopped-fold (event ∷ rest) now.state fails.0),
 )

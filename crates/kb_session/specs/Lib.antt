@@ -1,5 +1,4 @@
 pub mod Fault
-pub mod RunCommands
+pub mod Press
 pub mod Session
-pub mod Start
 pub mod State

@@ -1,5 +1,5 @@
 -- What the calls of a session do to it.
-use Rattle.std.specs.Prelude.{◌≡◌, ℕ, true, false, List, [], ◌∷◌, length, take, Result, Ok, Err}
+use Rattle.std.specs.Prelude.{◌≡◌, ◌||◌, ℕ, ◌+◌, Option, Some, None, Bool, true, false, List, [], ◌∷◌, length, take, Result, Ok, Err}
 use Rattle.kb_context.specs.Failure.{Fails}
 use Rattle.kb_context.specs.Reading.{◌>>=◌, seen}
 use Rattle.kb_context.specs.Refusal.{numbered, refused_for}
@@ -10,20 +10,24 @@ use Rattle.kb_core.specs.declared.native.Native.{Native}
 use Rattle.kb_core.specs.declared.run.Core.{Core}
 use Rattle.kb_keys.specs.declared.keystroke.Keystroke.{Keystroke}
 use Rattle.kb_bindings.specs.Load as load
-use Rattle.kb_bindings.specs.Load.{Files, LoadMarks, held_by, marks_told}
+use Rattle.kb_bindings.specs.Load.{Files, LoadMarks, held_by, handlers_of, marks_told}
 use Rattle.kb_bindings.specs.Sources.{Sources}
 use Rattle.kb_session.specs.State.{State, Told, happens, Answered, did, refused, step, step_on, out_of, next}
 use Rattle.kb_session.specs.State.{loaded_state}
 use Rattle.kb_bindings.specs.Fault.{refused_by, refused_file}
 use Rattle.kb_bindings.specs.declared.fault.LoadFault.{LoadFault}
+use Rattle.kb_bindings.specs.declared.fault.LoadFile.{LoadFile}
 use Rattle.kb_bindings.specs.declared.fault.LoadFile.TheVariants as file
+use Rattle.kb_bindings.specs.declared.inputs.HandlerFiles.{HandlerFiles}
+use Rattle.kb_code.specs.Handler.{HandlerData}
 use Rattle.kb_registry.specs.Fault as registry
-use Rattle.kb_registry.specs.Live.{Live, fresh, all_registered}
+use Rattle.kb_registry.specs.Live.{Live, fresh, all_registered, code_fault, with_code}
 use Rattle.kb_registry.specs.declared.fault.RegistryFault.{RegistryFault}
 use Rattle.kb_session.specs.declared.fault.SessionFault.{SessionFault}
 use Rattle.kb_session.specs.declared.fault.SessionFault.TheVariants.{Refused, NoMemory, Stopped}
 use Rattle.kb_bindings.specs.declared.unread.UnreadIn.{UnreadIn}
 use Rattle.kb_stream.specs.Fold.{Traced, after, after_all, StopsAmong}
+use Rattle.kb_stream.specs.Lines.{Begins}
 use Rattle.kb_trace.specs.declared.event.Answer.{Answer}
 use Rattle.kb_trace.specs.declared.event.Answer.TheVariants as answer
 use Rattle.kb_trace.specs.declared.event.Event.TheVariants as event
@@ -37,18 +41,36 @@ abbrev pub natives_held : List Native → Result Live LoadFault
 natives_held natives =
     refused_by file.Natives (numbered registry.number_of (all_registered natives (fresh 1000000)))
 
+-- behind them the handlers of extensions, which are numbered from a number, unless one has a name that is taken
+abbrev pub unless_refused : Option RegistryFault → ℕ → Result Live LoadFault → Result Live LoadFault
+unless_refused None number rest = rest
+unless_refused (Some fault) number rest =
+    Err (refused_file (file.Handlers number) (refused_for (registry.number_of fault)))
+
+abbrev pub codes_held : ℕ → List (List HandlerData) → Live → Result Live LoadFault
+codes_held number [] live = Ok live
+codes_held number (handlers ∷ rest) live =
+    unless_refused (code_fault handlers live) number
+    (codes_held (number + 1) rest (with_code number handlers live))
+
+-- the commands that are live at first
+abbrev pub live_held : List Native → List (List HandlerData) → Result Live LoadFault
+live_held natives handlers = natives_held natives >>= λ live. codes_held 0 handlers live
+
 abbrev pub loaded_session : ScopesData → Sources → Live → Seen
 loaded_session scopes sources live = record { state = loaded_state scopes sources live; trace = [] }
 
 -- what files load, for the marks of their patterns, with closures for these natives: a session, or the first
--- fault
-abbrev pub loaded : LoadMarks → Files → List Native → Result Seen LoadFault
-loaded marks files natives =
-    load.loaded marks files >>= λ l. seen (loaded_session l.scopes l.bindings) (natives_held natives)
+-- fault; files of handlers are read or not
+abbrev pub loaded : HandlerFiles → LoadMarks → Files → List Native → Result Seen LoadFault
+loaded reads marks files natives =
+    load.loaded reads marks files
+    >>= λ l. seen (loaded_session l.scopes l.bindings) (live_held natives l.handlers)
 
 -- the same without what is loaded: no fault hangs on marks
-abbrev pub load_held : Files → List Native → Result Live LoadFault
-load_held files natives = held_by files >>= λ held. natives_held natives
+abbrev pub load_held : HandlerFiles → Files → List Native → Result Live LoadFault
+load_held reads files natives =
+    held_by reads files >>= λ held. live_held natives (handlers_of held.rules.extensions)
 
 -- the first list of unread patterns that a session tells, that of its load
 abbrev pub first_list : List (List UnreadIn) → List UnreadIn
@@ -61,9 +83,9 @@ marks_by files session = marks_told files (first_list session.state.unread)
 
 -- a load answered what its files load for the marks that its session tells, or their fault, which is one for
 -- all marks, or was refused memory
-abbrev pub Loads : Files → List Native → Result Seen (Failure LoadFault) → Type 0
-Loads files natives (Ok session) = loaded (marks_by files session) files natives ≡ Ok session
-Loads files natives (Err failure) = Fails failure (load_held files natives)
+abbrev pub Loads : HandlerFiles → Files → List Native → Result Seen (Failure LoadFault) → Type 0
+Loads reads files natives (Ok session) = loaded reads (marks_by files session) files natives ≡ Ok session
+Loads reads files natives (Err failure) = Fails failure (load_held reads files natives)
 
 abbrev pub answered : Answer → Answered
 answered answer.Did = did
@@ -111,28 +133,33 @@ RefusesAt (Refused refusal) told old new = Answers told old (refused refusal) ne
 RefusesAt NoMemory told old new = FailsAt NoMemory told old new
 RefusesAt Stopped told old new = FailsAt Stopped told old new
 
--- the fault of a run: memory was refused in one of the events, or the session was stopped, and takes nothing
+-- whether one of these is left for a session that is stopped, by a handler that can't go on
+abbrev pub is_left : List Told → State → Bool
+is_left [] s = false
+is_left (told ∷ rest) s = s.stopped || is_left rest (next told s).state
+
+-- whether a run meets a session that is stopped: before it, or before one of what is told
+abbrev pub is_late : List Told → State → Bool
+is_late told s = s.stopped || is_left told s
+
+-- the fault of a run: memory was refused in one of the events, or one of them, or the run, came too late
 abbrev pub FailsAmong : SessionFault → List Told → Seen → Seen → Type 0
 FailsAmong (Refused refusal) told old new = ⊥
 FailsAmong NoMemory told old new = (old.state.stopped ≡ false) × StopsAmong next Halts told old new
-FailsAmong Stopped told old new = (new.state.stopped ≡ true) × (new ≡ after_all next told old)
+FailsAmong Stopped told old new = (is_late told old.state ≡ true) × (new ≡ after_all next told old)
 
 -- ---- for private functions
 
--- why a load failed whose closures could not all be registered
-abbrev pub load_failure : Failure RegistryFault → Failure LoadFault
-load_failure failure.NoMemory = failure.NoMemory
-load_failure (failure.Fault fault) =
-    failure.Fault (refused_file file.Natives (refused_for (registry.number_of fault)))
+-- why a load failed whose commands, of a file, could not all be registered
+abbrev pub load_failure : LoadFile → Failure RegistryFault → Failure LoadFault
+load_failure of_file failure.NoMemory = failure.NoMemory
+load_failure of_file (failure.Fault fault) =
+    failure.Fault (refused_file of_file (refused_for (registry.number_of fault)))
 
 -- a session that is running took what it was told, and this is its answer
 abbrev pub Does : Told → Seen → Answer → Seen → Type 0
 Does told old a new =
     ((step_on told old.state).answer ≡ answered a) × (new ≡ after (out_of (step_on told old.state)) old)
-
--- the old lines come first
-abbrev pub Begins : List (List ℕ) → List (List ℕ) → Type 0
-Begins old new = take (length old) new ≡ old
 
 -- nothing but lines was added
 abbrev pub Undone : Seen → Seen → Type 0

@@ -24,7 +24,10 @@ use Rattle.kb_rules.specs.RuleList.{Listed}
 use Rattle.kb_rules.specs.declared.origin.Origin.TheVariants.{User}
 use Rattle.kb_rules.specs.declared.unread.UnreadAt.{UnreadAt}
 use Rattle.kb_bindings.specs.Sources.{Sources, with_user_rules, pressed, still_pressed}
-use Rattle.kb_session.specs.Start.{Started, press_started}
+use Rattle.kb_session.specs.Press.{press_started}
+use Rattle.kb_start.specs.Start.{Started}
+use Rattle.kb_start.specs.declared.start.Finish.{Finish}
+use Rattle.kb_start.specs.declared.start.Finish.TheVariants.{Done, NotFound, BadArguments, Trapped}
 use Rattle.kb_bindings.specs.Unread.{in_rules, unread_of}
 use Rattle.kb_bindings.specs.declared.unread.UnreadIn.{UnreadIn}
 use Rattle.kb_stream.specs.Fold.{Out}
@@ -87,9 +90,17 @@ left_lines (key ∷ keys) = line.left_line (key ∷ keys) ∷ []
 abbrev pub leave : List ℕ → State → Stepped
 leave last s = stepped (record s { pressed = [] }) (left_lines s.pressed ++ last ∷ []) did
 
+-- a handler that can't go on stops the session
+abbrev pub stops : Finish → Bool
+stops Done = false
+stops NotFound = false
+stops BadArguments = false
+stops Trapped = true
+
 -- a press starts what it starts, and leaves some keystrokes pressed
 abbrev pub begun : Started → List Keystroke → State → Stepped
-begun p pressed s = stepped (record s { core = p.core; pressed = pressed }) p.lines did
+begun p pressed s =
+    stepped (record s { core = p.core; pressed = pressed; stopped = stops p.finish }) p.lines did
 
 -- a press looks at what the focus sees at that moment
 abbrev pub press : Keystroke → State → Stepped

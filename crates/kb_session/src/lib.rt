@@ -3,10 +3,7 @@
 
 pub mod fault;
 mod press;
-mod run_commands;
 pub mod session;
-pub mod start;
 
 pub use fault::SessionFault;
 pub use session::Session;
-pub use start::Finish;

@@ -1,24 +1,27 @@
 //! A press: the rule that it starts, and the lines of that.
-ghost use Rattle.std.specs.Prelude.{◌≡◌, ◌++◌, OnOk, OnErr, string_bytes};
-ghost use Rattle.kb_session.specs.Session.{Begins};
+ghost use Rattle.std.specs.Prelude.{◌≡◌, [], ◌∷◌, ◌++◌, IfOk, OnOk, OnErr, option_map, string_bytes};
+ghost use Rattle.serde_json.specs.View.{view};
+ghost use Rattle.kb_stream.specs.Lines.{Begins};
 ghost use Rattle.kb_bindings.specs.Sources.{pressed, still_pressed};
-ghost use Rattle.kb_session.specs.Start.{press_started, rule_started};
+ghost use Rattle.kb_start.specs.declared.start.Finish.TheVariants.{Done};
+ghost use Rattle.kb_session.specs.Press.{press_started, rule_started};
 ghost use Rattle.kb_trace.specs.Lines as line;
 
-use crate::start::start_command;
 use kb_bindings::Bindings;
 use kb_context::NoMemory;
 use kb_keys::Keystroke;
-use kb_registry::{HeldCore, HostCommand, Registry};
+use kb_registry::{HostCommand, Registry};
 use kb_resolve::{ChordState, Pressed};
-use kb_rules::Rule;
+use kb_rules::{Json, Rule};
+use kb_start::{Finish, HeldCore, start_command};
 use kb_stream::Lines;
 use kb_trace::lines;
+use serde_json::Value;
 use std::alloc::Global;
 
 /// Presses a key, which may start a rule's command, and adds the lines of that. Where memory is refused,
 /// the old lines still come first.
-#[tactic(auto, using(crate::proofs::Undoing::undoing))]
+#[tactic(auto, using(kb_stream::proofs::Undoing::undoing))]
 pub(crate) fn press_key<C: HostCommand>(
     alloc: Global,
     key: Keystroke,
@@ -27,13 +30,16 @@ pub(crate) fn press_key<C: HostCommand>(
     chord: &mut ChordState,
     bindings: &Bindings,
     trace: &mut Lines,
-) -> Result<(), NoMemory>
+) -> Result<Finish, NoMemory>
     ensures core { let does = pressed chord.old key core.old.scopes bindings.now in
         let p = press_started (line.key_text chord.old key) does registry.now core.old in
         OnOk result (core.new ≡ p.core) }
     ensures trace { let does = pressed chord.old key core.old.scopes bindings.now in
         let p = press_started (line.key_text chord.old key) does registry.now core.old in
         OnOk result (trace.new ≡ trace.old ++ p.lines) }
+    ensures finish { let does = pressed chord.old key core.old.scopes bindings.now in
+        let p = press_started (line.key_text chord.old key) does registry.now core.old in
+        IfOk result (λ finish. finish ≡ p.finish) }
     ensures pressed { OnOk result (chord.new ≡ still_pressed chord.old key core.old.scopes bindings.now) }
     ensures err { OnErr result (Begins trace.old trace.new) }
 {
@@ -41,14 +47,24 @@ pub(crate) fn press_key<C: HostCommand>(
     let text = lines::key_text(trace, chord.pressed(), *key)?;
     match bindings.press(chord, *key, &core.core().scopes)? {
         Pressed::Start(rule) => start_rule(alloc, text, rule, registry, core, trace),
-        Pressed::More => lines::ended(trace, text, ": chord"),
-        Pressed::Left => lines::ended(trace, text, ": left"),
-        Pressed::Unbound => lines::ended(trace, text, ": unbound"),
+        Pressed::More => done_with(trace, text, ": chord"),
+        Pressed::Left => done_with(trace, text, ": left"),
+        Pressed::Unbound => done_with(trace, text, ": unbound"),
     }
 }
 
+/// Adds the line that a text begins and another one ends: nothing starts.
+fn done_with(trace: &mut Lines, text: String, end: &str) -> Result<Finish, NoMemory>
+    ensures ok { OnOk result (trace.new ≡ trace.old ++ (string_bytes text ++ end.now) ∷ []) }
+    ensures finish { IfOk result (λ finish. finish ≡ Done) }
+    ensures err { OnErr result (trace.new ≡ trace.old) }
+{
+    lines::ended(trace, text, end)?;
+    Ok(Finish::Done)
+}
+
 /// Starts the command of a rule, and adds its lines, the first of which begins with a text.
-#[tactic(auto, using(crate::proofs::Undoing::undoing_behind))]
+#[tactic(auto, using(kb_stream::proofs::Undoing::undoing_behind))]
 fn start_rule<C: HostCommand>(
     alloc: Global,
     text: String,
@@ -56,20 +72,33 @@ fn start_rule<C: HostCommand>(
     registry: &Registry<C>,
     core: &mut HeldCore,
     trace: &mut Lines,
-) -> Result<(), NoMemory>
+) -> Result<Finish, NoMemory>
     ensures core { let text = string_bytes text in
         let p = rule_started text rule.now.command rule.now.args registry.now core.old in
         OnOk result (core.new ≡ p.core) }
     ensures trace { let text = string_bytes text in
         let p = rule_started text rule.now.command rule.now.args registry.now core.old in
         OnOk result (trace.new ≡ trace.old ++ p.lines) }
+    ensures finish { let text = string_bytes text in
+        let p = rule_started text rule.now.command rule.now.args registry.now core.old in
+        IfOk result (λ finish. finish ≡ p.finish) }
     ensures err { OnErr result (Begins trace.old trace.new) }
 {
     let command = rule.command.as_str();
     if command.is_empty() {
-        return lines::ended(trace, text, ": no action");
+        return done_with(trace, text, ": no action");
     }
     lines::start_line(trace, text, command)?;
-    start_command(alloc, command, rule.args.as_ref(), registry, core, trace)?;
-    Ok(())
+    let given = value_of(rule.args.as_ref());
+    start_command(alloc, command, given, registry, core, trace)
+}
+
+/// The value that is given with a command, lent. It takes no memory.
+fn value_of(given: Option<&Json>) -> Option<&Value>
+    ensures { option_map (λ v. view v.now) result ≡ option_map (λ json. json.now) given.entry }
+{
+    match given {
+        Some(json) => Some(json.as_value()),
+        None => None,
+    }
 }

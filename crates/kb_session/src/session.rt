@@ -1,16 +1,15 @@
 //! A session: its state, what it is told and does, and the trace of that.
 ghost use Rattle.std.specs.Prelude.{◌≡◌, false, [], ◌∷◌, ◌++◌, take, map};
 ghost use Rattle.std.specs.Prelude.{OnOk, OnErr, IfOk, IfErr};
-ghost use Rattle.kb_context.specs.Failure.{Gives};
 ghost use Rattle.kb_context.specs.Refusal.{refused_for};
 ghost use Rattle.kb_context.specs.ScopeFault.{number_of};
 ghost use Rattle.kb_rules.specs.RuleList.{AreRightlyMarked};
 ghost use Rattle.kb_bindings.specs.Load.{files_of, MarksAreRight};
-ghost use Rattle.kb_session.specs.Session.{Loads, Takes, Does, halt, Undone, HalfDone, natives_held};
-ghost use Rattle.kb_session.specs.Session.{FailsAt, FailsAmong};
+ghost use Rattle.kb_session.specs.Session.{Loads, Takes, Does, halt, Undone, HalfDone};
+ghost use Rattle.kb_bindings.specs.declared.inputs.HandlerFiles.TheVariants.{Ignored, Raw};
+ghost use Rattle.kb_session.specs.Session.{FailsAt, FailsAmong, is_late};
 ghost use Rattle.kb_bindings.specs.Sources.{source_of};
-ghost use Rattle.kb_session.specs.State.{happens, reload, next, left_lines, with_user};
-ghost use Rattle.kb_bindings.specs.Unread.{unread_of};
+ghost use Rattle.kb_session.specs.State.{happens, reload, next, left_lines, with_user, stops};
 ghost use Rattle.kb_bindings.specs.Warning.{warnings_of};
 ghost use Rattle.kb_session.specs.declared.fault.SessionFault.TheVariants.{NoMemory};
 ghost use Rattle.kb_stream.specs.Fold.{after_all};
@@ -18,17 +17,18 @@ ghost use Rattle.kb_trace.specs.Lines as line;
 
 use crate::fault::{SessionFault, fault_in};
 use crate::press::press_key;
-use crate::session::closures::register_all;
+use crate::session::loading::prepare;
 use kb_bindings::{
-    Bindings, Inputs, LoadFault, Loaded, UnreadIn, Warning, load_files, unread_rules,
+    Bindings, HandlerFiles, Inputs, LoadFault, Loaded, UnreadIn, Warning, load_files, unread_rules,
 };
 use kb_context::{ContextValue, Failure, NoMemory, Refusal, ScopeFault, Seq};
 use kb_core::Core;
 use kb_files::read_rules;
 use kb_keys::Keystroke;
-use kb_registry::{HeldCore, HostCommand, Registry};
+use kb_registry::{HostCommand, Registry};
 use kb_resolve::ChordState;
 use kb_rules::{Origin, RuleList};
+use kb_start::{Finish, HeldCore};
 use kb_stream::Lines;
 use kb_trace::{Answer, Event, lines};
 use std::alloc::Global;
@@ -36,13 +36,14 @@ use std::collections::VecDeque;
 use std::marker::Model;
 
 mod closures;
+mod loading;
 
 /// A session of the engine, over the host's closures for native commands. Contracts see its state (the core
 /// with its text and scopes, what binds keys, which natives have a closure that is live, the
 /// keystrokes of the chord that is open, whether it is stopped, and which patterns weren't read in the
 /// load and in each reload), and the trace that led to it. Once
-/// memory was refused it is stopped for good: each later call answers `Stopped`, and `trace` gives the lines
-/// up to the one call that was refused memory.
+/// memory was refused, or a handler couldn't go on, it is stopped for good: each later call answers `Stopped`,
+/// and `trace` gives the lines up to the one call that was refused memory, or up to the handler's trap.
 #[derive(Drop)]
 pub struct Session<C: HostCommand> {
     core: HeldCore,
@@ -96,26 +97,59 @@ impl<C: HostCommand> Model for Session<C> {
 impl<C: HostCommand> Session<C> {
     /// A session of these files, without text and trace, in which these closures are registered in order,
     /// with the tickets from 1 on. All extensions are enabled. At most 1,000,000 closures are registered in a
-    /// session's life (our decision).
+    /// session's life (our decision). Extensions' files of handlers aren't read.
     ///
     /// Errors: the first file that is refused, and why, in this order (our decision): the layout (1 to 4, 40,
     /// 41, 21, 22), the default rules, the user's rules (1 to 4, 41 each), more than 100 extensions (44), the
     /// manifests in load order (1 to 4, 40, 41), an extension that repeats the identifier of an earlier one
     /// (91), one that depends on an extension that isn't before it (90), two closures for one native (70); or
     /// refused memory. The closures are then dropped.
-    #[tactic(auto, using(crate::proofs::LoadLemmas::loading))]
     pub fn load(
         alloc: Global,
         inputs: Inputs<'_>,
         natives: Vec<C>,
     ) -> Result<Session<C>, Failure<LoadFault>>
-        ensures read { Loads (files_of inputs.entry) (map C.stands_for natives.items) result }
+        ensures read { Loads Ignored (files_of inputs.entry) (map C.stands_for natives.items) result }
 
         // A pattern is told as unread only where `regex` doesn't read it, and isn't told only where it does.
         ensures right { IfOk result (λ session. MarksAreRight (files_of inputs.entry) session.state.sources) }
     {
-        let Loaded { scopes, bindings } = load_files(alloc, inputs)?;
-        let (registry, unread) = prepare(alloc, &bindings, natives)?;
+        Session::loaded(alloc, inputs, HandlerFiles::Ignored, natives)
+    }
+
+    /// The same with the handlers of the extensions' files of handlers, whose code nobody verifies. They are
+    /// live from the start. One that can't go on stops the session.
+    ///
+    /// Errors: as those of `load`, but that behind each manifest its file of handlers is read (1 to 4, 40 to
+    /// 44, 50 to 52), and that last, in load order, come handlers one of which has a name that is taken (70).
+    pub fn load_raw(
+        alloc: Global,
+        inputs: Inputs<'_>,
+        natives: Vec<C>,
+    ) -> Result<Session<C>, Failure<LoadFault>>
+        ensures read { Loads Raw (files_of inputs.entry) (map C.stands_for natives.items) result }
+        ensures right { IfOk result (λ session. MarksAreRight (files_of inputs.entry) session.state.sources) }
+    {
+        Session::loaded(alloc, inputs, HandlerFiles::Raw, natives)
+    }
+
+    /// A session of these files, with or without those of handlers.
+    #[tactic(auto, using(crate::proofs::LoadLemmas::loading))]
+    fn loaded(
+        alloc: Global,
+        inputs: Inputs<'_>,
+        files: HandlerFiles,
+        natives: Vec<C>,
+    ) -> Result<Session<C>, Failure<LoadFault>>
+        ensures read { Loads files (files_of inputs.entry) (map C.stands_for natives.items) result }
+        ensures right { IfOk result (λ session. MarksAreRight (files_of inputs.entry) session.state.sources) }
+    {
+        let Loaded {
+            scopes,
+            bindings,
+            handlers,
+        } = load_files(alloc, inputs, files)?;
+        let (registry, unread) = prepare(alloc, &bindings, handlers, natives)?;
         Ok(Session {
             core: HeldCore::new(Core::new(alloc, scopes)),
             bindings,
@@ -161,7 +195,8 @@ impl<C: HostCommand> Session<C> {
         self.unread.as_slice()
     }
 
-    /// Whether memory was refused, so that each call answers `Stopped`. It takes no memory.
+    /// Whether memory was refused or a handler couldn't go on, so that each call answers `Stopped`. It takes
+    /// no memory.
     pub fn is_stopped(&self) -> bool
         ensures { result ≡ self.now.state.stopped }
     {
@@ -177,7 +212,7 @@ impl<C: HostCommand> Session<C> {
         self.stopped = true;
     }
 
-    /// Handles one event.
+    /// Handles one event. A handler that can't go on has its line, and stops the session (our decision).
     ///
     /// Errors: `Stopped` where the session was stopped before; `NoMemory` where memory was refused: the
     /// session is stopped and else as before, but for the core and the chord where the event is a press.
@@ -229,11 +264,12 @@ impl<C: HostCommand> Session<C> {
 
     /// Handles the events in order.
     ///
-    /// Errors: `Stopped` where the session was stopped before; `NoMemory` where memory was refused
-    /// in an event: no later one is handled, and the session is stopped.
+    /// Errors: `Stopped` where the session was stopped before, or a handler that couldn't go on stopped it and
+    /// an event is left; `NoMemory` where memory was refused in an event: no later one is handled, and the
+    /// session is stopped.
     #[tactic(auto, using(crate::proofs::Runs::progress))]
     pub fn run(&mut self, events: Vec<Event>) -> Result<(), SessionFault>
-        ensures running { OnOk result (self.old.state.stopped ≡ false) }
+        ensures running { OnOk result (is_late (map happens events.items) self.old.state ≡ false) }
         ensures ok { OnOk result (self.new ≡ after_all next (map happens events.items) self.old) }
         ensures err { IfErr result (λ fault. FailsAmong fault (map happens events.items) self.old self.new) }
     {
@@ -269,7 +305,7 @@ impl<C: HostCommand> Session<C> {
         ensures ok { IfOk result (λ answer. Does (happens (Event.Key key)) self.old answer self.new) }
         ensures err { OnErr result (HalfDone self.old self.new) }
     {
-        press_key(
+        let finish = press_key(
             self.alloc,
             key,
             &self.registry,
@@ -278,12 +314,13 @@ impl<C: HostCommand> Session<C> {
             &self.bindings,
             &mut self.trace,
         )?;
+        self.stopped = stops(finish);
         Ok(Answer::Did)
     }
 
     /// Gives the focus to a scope. A chord that is open is left (our decision). The lines come first, since
     /// they take memory and the rest doesn't.
-    #[tactic(auto, using(crate::proofs::Undoing::undoing))]
+    #[tactic(auto, using(kb_stream::proofs::Undoing::undoing))]
     fn focus(&mut self, scope: &str) -> Result<Answer, NoMemory>
         ensures ok { IfOk result (λ answer. Does (happens (Event.Focus scope.now)) self.old answer self.new) }
         ensures err { OnErr result (Undone self.old self.new) }
@@ -302,7 +339,7 @@ impl<C: HostCommand> Session<C> {
 
     /// Gives a key a value in a scope. A chord that is open stays (our decision). The line comes first, since
     /// what is done can't be undone.
-    #[tactic(auto, using(crate::proofs::Undoing::undoing))]
+    #[tactic(auto, using(kb_stream::proofs::Undoing::undoing))]
     fn set_key(&mut self, scope: &str, key: &str, value: ContextValue) -> Result<Answer, NoMemory>
         ensures ok { IfOk result (λ answer.
             Does (happens (Event.SetKey scope.now key.now value)) self.old answer self.new) }
@@ -318,7 +355,7 @@ impl<C: HostCommand> Session<C> {
 
     /// Takes a key out of a scope. A chord that is open stays (our decision). The line comes first, since it
     /// takes memory and the rest doesn't.
-    #[tactic(auto, using(crate::proofs::Undoing::undoing))]
+    #[tactic(auto, using(kb_stream::proofs::Undoing::undoing))]
     fn unset_key(&mut self, scope: &str, key: &str) -> Result<Answer, NoMemory>
         ensures ok { IfOk result (λ answer.
             Does (happens (Event.UnsetKey scope.now key.now)) self.old answer self.new) }
@@ -333,7 +370,7 @@ impl<C: HostCommand> Session<C> {
     }
 
     /// Notes that the host has no closure to be registered (98).
-    #[tactic(auto, using(crate::proofs::Undoing::undoing))]
+    #[tactic(auto, using(kb_stream::proofs::Undoing::undoing))]
     fn note_no_closure(&mut self) -> Result<Answer, NoMemory>
         ensures ok { IfOk result (λ answer. Does (happens Event.NoClosure) self.old answer self.new) }
         ensures err { OnErr result (Undone self.old self.new) }
@@ -341,7 +378,7 @@ impl<C: HostCommand> Session<C> {
         self.refuse(Refusal::of(98))
     }
 
-    #[tactic(auto, using(crate::proofs::Undoing::undoing))]
+    #[tactic(auto, using(kb_stream::proofs::Undoing::undoing))]
     fn note_unread(&mut self, number: u64) -> Result<Answer, NoMemory>
         ensures ok { IfOk result (λ answer. Does (happens (Event.Unread number)) self.old answer self.new) }
         ensures err { OnErr result (Undone self.old self.new) }
@@ -364,7 +401,7 @@ impl<C: HostCommand> Session<C> {
     }
 
     /// Notes that the user's rules were read anew, which leaves a chord.
-    #[tactic(auto, using(crate::proofs::Undoing::undoing))]
+    #[tactic(auto, using(kb_stream::proofs::Undoing::undoing))]
     fn note_reload(&mut self) -> Result<(), NoMemory>
         ensures ok { OnOk result (self.new ≡ record self.old {
           trace = self.old.trace ++ (left_lines self.old.state.pressed ++ line.reloaded_line ∷ []);
@@ -398,7 +435,7 @@ impl<C: HostCommand> Session<C> {
         Ok(Answer::Refused(refusal))
     }
 
-    #[tactic(auto, using(crate::proofs::Undoing::undoing))]
+    #[tactic(auto, using(kb_stream::proofs::Undoing::undoing))]
     fn reload(&mut self, bytes: &[u8]) -> Result<Answer, NoMemory>
         ensures ok { IfOk result (λ answer.
             Does (reload bytes.now self.new.state.sources.user.unread) self.old answer self.new) }
@@ -416,7 +453,7 @@ impl<C: HostCommand> Session<C> {
     }
 
     /// Takes rules of the user in the place of those that it has. What takes memory comes first.
-    #[tactic(auto, using(crate::proofs::Undoing::undoing))]
+    #[tactic(auto, using(kb_stream::proofs::Undoing::undoing))]
     fn take_rules(&mut self, user: RuleList) -> Result<(), NoMemory>
         ensures ok { OnOk result (self.new ≡ record self.old {
           state = record (with_user user self.old.state) { pressed = [] };
@@ -434,26 +471,12 @@ impl<C: HostCommand> Session<C> {
     }
 }
 
-/// What a session has at first beside its files: the closures that are live, and the lists of unread
-/// patterns. One call makes both, so that little stands to be dropped where one is refused.
-fn prepare<C: HostCommand>(
-    alloc: Global,
-    bindings: &Bindings,
-    natives: Vec<C>,
-) -> Result<(Registry<C>, Seq<Seq<UnreadIn>>), Failure<LoadFault>>
-    ensures live { Gives (λ made. made.0) result (natives_held (map C.stands_for natives.items)) }
-    ensures unread { IfOk result (λ made. made.1 ≡ unread_of bindings.now ∷ []) }
+/// Whether a start that ended so stops the session. It takes no memory.
+fn stops(finish: Finish) -> bool
+    ensures { result ≡ stops finish }
 {
-    let registry = register_all(alloc, natives)?;
-    let unread = first_list(alloc, bindings)?;
-    Ok((registry, unread))
-}
-
-/// The lists of unread patterns that a session has at first: that of its load.
-fn first_list(alloc: Global, bindings: &Bindings) -> Result<Seq<Seq<UnreadIn>>, NoMemory>
-    ensures { IfOk result (λ lists. lists ≡ unread_of bindings.now ∷ []) }
-{
-    let mut lists = Seq::new(alloc);
-    lists.push(bindings.unread(alloc)?)?;
-    Ok(lists)
+    match finish {
+        Finish::Trapped => true,
+        Finish::Done | Finish::NotFound | Finish::BadArguments => false,
+    }
 }

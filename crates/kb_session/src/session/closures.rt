@@ -1,25 +1,19 @@
-//! The host's closures: their registration at the load and while a session runs, and its end.
-ghost use Rattle.std.specs.Prelude.{◌≡◌, ◌<◌, false, [], ◌∷◌, ◌++◌, map, Some, None};
+//! The host's closures: their registration while a session runs, and its end.
+ghost use Rattle.std.specs.Prelude.{◌≡◌, ◌<◌, false, [], ◌∷◌, ◌++◌, Some, None};
 ghost use Rattle.std.specs.Prelude.{IfOk, IfErr, OnOk, OnErr};
-ghost use Rattle.kb_context.specs.Failure.{Gives};
 ghost use Rattle.kb_context.specs.Refusal.{refused_for};
 ghost use Rattle.kb_codes.specs.Live.{caller_of};
 ghost use Rattle.kb_registry.specs.Live.{registration_fault, holder};
-ghost use Rattle.kb_session.specs.Session.{Answers, RefusesAt, natives_held, load_failure};
+ghost use Rattle.kb_session.specs.Session.{Answers, RefusesAt};
 ghost use Rattle.kb_session.specs.State.{Told, register, dispose, ticket, gave, refuse, step_on};
 ghost use Rattle.kb_trace.specs.Lines as line;
 
 use crate::fault::SessionFault;
 use crate::session::Session;
-use kb_bindings::{LoadFault, LoadFile};
-use kb_context::{Failure, NoMemory, Refusal};
+use kb_context::{NoMemory, Refusal};
 use kb_core::Native;
-use kb_registry::{HostCommand, Registry, RegistryFault, Ticket};
+use kb_registry::{HostCommand, RegistryFault, Ticket};
 use kb_trace::lines;
-use std::alloc::Global;
-
-/// How many closures may be registered in a session's life (our decision).
-const REGISTRATION_LIMIT: u64 = 1_000_000;
 
 impl<C: HostCommand> Session<C> {
     /// Registers a closure, which is live from then on, and gives its ticket. A chord that is open stays (our
@@ -100,7 +94,7 @@ impl<C: HostCommand> Session<C> {
 
     /// Registers a closure that nothing forbids. The line comes first, since it is taken back where the
     /// closure can't be held.
-    #[tactic(auto, using(crate::proofs::Undoing::undoing))]
+    #[tactic(auto, using(kb_stream::proofs::Undoing::undoing))]
     fn admit(&mut self, command: C) -> Result<Ticket, (C, SessionFault)>
         requires running { self.old.state.stopped ≡ false }
         requires allowed { registration_fault (C.stands_for command) self.old.state.live ≡ None }
@@ -150,36 +144,5 @@ impl<C: HostCommand> Session<C> {
     {
         lines::refused_line(&mut self.trace, &refusal)?;
         Ok(refusal)
-    }
-}
-
-/// A registry in which these closures are registered in order. Where one is refused, all are dropped.
-#[tactic(auto, using(crate::proofs::LoadLemmas::registering))]
-pub(crate) fn register_all<C: HostCommand>(
-    alloc: Global,
-    natives: Vec<C>,
-) -> Result<Registry<C>, Failure<LoadFault>>
-    ensures { Gives (λ live. live) result (natives_held (map C.stands_for natives.items)) }
-{
-    let mut registry = Registry::new(alloc, REGISTRATION_LIMIT)?;
-    for command in natives {
-        match registry.register(command) {
-            Ok(_) => {}
-            Err((_, failure)) => return Err(load_failure(failure)),
-        }
-    }
-    Ok(registry)
-}
-
-/// Why a load failed whose closures could not all be registered. It takes no memory.
-fn load_failure(failure: Failure<RegistryFault>) -> Failure<LoadFault>
-    ensures { result ≡ load_failure failure }
-{
-    match failure {
-        Failure::NoMemory => Failure::NoMemory,
-        Failure::Fault(fault) => Failure::Fault(LoadFault {
-            file: LoadFile::Natives,
-            refusal: Refusal::of(fault.number()),
-        }),
     }
 }

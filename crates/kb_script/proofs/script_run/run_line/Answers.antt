@@ -1,5 +1,5 @@
 use Rattle.std.proofs.Common.{rules}
-use Rattle.kb_script.proofs.ScriptRuns.{runs_on, line_on, line_lacks}
+use Rattle.kb_script.proofs.ScriptRuns.{line_on, line_lacks}
 use Rattle.kb_script.proofs.script_run.run_line.Goals as goal
 
 pub returns-in-Ok-write_from-clause-ok : goal.returns-in-Ok-write_from-clause-ok
@@ -7,9 +7,6 @@ returns-in-Ok-write_from-clause-ok g c =
     line_on c.obey.new.session.state.sources.user.unread c.args.number c.args.line.now _ _ _ _ c.len-before.result
     c.in-Ok.ensures.ok (search rules)
     c.in-Ok-write_from.ensures.ok
-
-pub returns-in-Ok-write_from-clause-on : goal.returns-in-Ok-write_from-clause-on
-returns-in-Ok-write_from-clause-on g c = runs_on _ _ _ c.in-Ok.ensures.ok c.requires
 
 pub returns-in-Err-write_from-clause-err : goal.returns-in-Err-write_from-clause-err
 returns-in-Err-write_from-clause-err g c =

@@ -6,4 +6,5 @@ pub returns-in_err-handle-clause-err : goal.returns-in_err-handle-clause-err
 returns-in_err-handle-clause-err g c =
     let p = err_from_is_err_and c.from_residual.result c.from_residual.ensures.1 in
     rw (p.1, p.2)
-    (runs_fail _ _ _ _ _ _ _ c.loop-event.invariant.0 c.loop-event.invariant.1 c.in_err-handle.ensures.err)
+    (runs_fail _ _ _ _ _ _ _ c.loop-event.invariant.0 c.loop-event.invariant.2
+    c.loop-event.invariant.1 c.in_err-handle.ensures.err)

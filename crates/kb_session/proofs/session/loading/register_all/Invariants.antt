@@ -1,7 +1,7 @@
 use Rattle.std.proofs.Common.{◌≡◌, map}
 use Rattle.std.specs.Vec.Iter.{into_iter_items}
 use Rattle.kb_registry.specs.Live.{all_registered, fresh}
-use Rattle.kb_session.proofs.session.closures.register_all.Given as goal
+use Rattle.kb_session.proofs.session.loading.register_all.Given as goal
 
 -- those that are left give what all give
 abbrev pub invariant-loop-command : goal.invariant-loop-command
