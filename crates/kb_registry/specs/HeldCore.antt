@@ -1,8 +1,0 @@
--- The core that is held.
-use Rattle.std.specs.Prelude.{Option, [], unwrap_or}
-use Rattle.kb_core.specs.declared.run.Core.{Core}
-use Rattle.kb_core.specs.Core.{new_core}
-
--- the core that is there, as it is between all calls; where there is none, no text and no scopes stand for it
-abbrev pub held : Option Core → Core
-held core = unwrap_or core (new_core (record { scopes = []; focus = 0 }))
