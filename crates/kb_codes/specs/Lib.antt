@@ -4,3 +4,5 @@ pub mod Links
 pub mod Names
 pub mod Group
 pub mod Place
+pub mod Callee
+pub mod Found

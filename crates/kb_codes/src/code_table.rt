@@ -1,16 +1,17 @@
 //! Which handlers are live, by extension and by name.
 ghost use Rattle.std.specs.Prelude.{◌≡◌, ◌≤◌, ◌||◌, ◌++◌, ◌∷◌, [], Some, None, OnOk, OnErr, IfOk};
-ghost use Rattle.std.specs.Prelude.{IfSome, IfErr, option_map, option_copied, is_some, length, take, drop};
+ghost use Rattle.std.specs.Prelude.{IfErr, option_copied, is_some, length, take, drop};
 ghost use Rattle.std.specs.List.{AllZip};
 ghost use Rattle.kb_context.specs.Failure.{IsRefusal, IsRefusalOrMemory};
 ghost use Rattle.kb_codes.specs.Group.{IsGroup, FindsFirst, is_kept};
 ghost use Rattle.kb_codes.specs.Live.{handlers_in, handler_named, is_reserved, codes_fault};
-ghost use Rattle.kb_codes.specs.Live.{group_of, with_group, with_handlers, without_group, caller_of, natives_of};
+ghost use Rattle.kb_codes.specs.Live.{group_of, with_group, with_handlers, without_group, caller_of};
 ghost use Rattle.kb_codes.specs.Live.{Group as GroupData};
 ghost use Rattle.kb_codes.specs.Place.{IsPlaceOf};
 ghost use Rattle.kb_context.specs.declared.failure.Failure.TheVariants as failure;
 
-use crate::codes::{Codes, Linked};
+use crate::codes::Codes;
+use crate::commands::Linked;
 use crate::fault::CodesFault;
 use crate::group::{Group, links_of};
 use crate::links::Links;
@@ -52,9 +53,7 @@ impl CodeTable {
     /// The live handler of a name, with what its calls are, lent. It takes no memory.
     #[tactic(auto, using(crate::proofs::Groups::passed, crate::proofs::Groups::met))]
     pub fn linked(&self, name: &str) -> Option<Linked<'_>>
-        ensures handler { option_map (λ l. l.handler.now) result
-            ≡ handler_named name.now (handlers_in self.now) }
-        ensures natives { IfSome result (λ l. l.natives.now ≡ natives_of l.handler.now) }
+        ensures { result ≡ handler_named name.now (handlers_in self.now) }
     {
         for group in self.groups.as_slice() {
             match group.linked(name) {
@@ -70,7 +69,7 @@ impl CodeTable {
         ensures { option_copied result ≡ handler_named name.now (handlers_in self.now) }
     {
         match self.linked(name) {
-            Some(linked) => Some(linked.handler),
+            Some(linked) => Some(linked.handler()),
             None => None,
         }
     }

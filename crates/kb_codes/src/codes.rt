@@ -1,9 +1,8 @@
-//! Code that an extension brings, and a live handler that is lent.
+//! Code that an extension brings.
 ghost use Rattle.std.specs.Prelude.{◌≡◌};
 
 use kb_code::Handler;
 use kb_context::Seq;
-use kb_core::Native;
 use std::marker::Model;
 
 /// The handlers of one extension, in file order, as they are handed to a registry and handed back.
@@ -44,14 +43,4 @@ impl Codes {
         let Codes { handlers } = self;
         handlers
     }
-}
-
-/// A live handler, lent, with the native that each name in its list of calls is the name of, so that a
-/// call of a native looks no name up.
-#[derive(Clone, Copy)]
-pub struct Linked<'a> {
-    /// The handler.
-    pub handler: &'a Handler,
-    /// For each name in its list of calls the native of that name, if there is one.
-    pub natives: &'a [Option<Native>],
 }

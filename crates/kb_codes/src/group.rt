@@ -1,11 +1,11 @@
 //! The handlers of an extension, with what is resolved once of them.
-ghost use Rattle.std.specs.Prelude.{◌≡◌, IfOk, IfSome, find, length, slice_get, option_map, option_copied};
+ghost use Rattle.std.specs.Prelude.{◌≡◌, IfOk, find, length, slice_get, option_copied};
 ghost use Rattle.std.specs.List.{AllZip};
 ghost use Rattle.kb_codes.specs.Group.{IsGroup};
 ghost use Rattle.kb_codes.specs.Links.{AreLinks};
-ghost use Rattle.kb_codes.specs.Live.{handler_named, calls_native, natives_of};
+ghost use Rattle.kb_codes.specs.Live.{handler_named, calls_native};
 
-use crate::codes::Linked;
+use crate::commands::Linked;
 use crate::links::Links;
 use crate::names::Names;
 use kb_code::Handler;
@@ -70,8 +70,7 @@ impl Group {
 
     /// The handler of a name, with its links. It takes no memory.
     pub(crate) fn linked(&self, name: &str) -> Option<Linked<'_>>
-        ensures handler { option_map (λ l. l.handler.now) result ≡ handler_named name.now self.now.handlers }
-        ensures natives { IfSome result (λ l. l.natives.now ≡ natives_of l.handler.now) }
+        ensures { result ≡ handler_named name.now self.now.handlers }
     {
         match self.names.place(name) {
             Some(place) => linked_at(self.handlers.as_slice(), self.links.as_slice(), place),
@@ -105,14 +104,10 @@ fn caller_in<'a>(handlers: &'a [Handler], links: &'a [Links], native: Native) ->
 #[tactic(auto, using(crate::proofs::GroupLemmas::as_long, crate::proofs::GroupLemmas::its_natives))]
 fn linked_at<'a>(handlers: &'a [Handler], links: &'a [Links], place: usize) -> Option<Linked<'a>>
     requires { AllZip AreLinks links.now handlers.now }
-    ensures handler { option_map (λ l. l.handler.now) result ≡ slice_get handlers.now place }
-    ensures natives { IfSome result (λ l. l.natives.now ≡ natives_of l.handler.now) }
+    ensures { result ≡ slice_get handlers.now place }
 {
     if place < handlers.len() {
-        return Some(Linked {
-            handler: &handlers[place],
-            natives: links[place].natives.as_slice(),
-        });
+        return Some(Linked::new(&handlers[place], links[place].natives.as_slice()));
     }
     None
 }

@@ -1,13 +1,15 @@
-//! Live handlers: the code of extensions, by extension and by name.
+//! Live handlers: the code of extensions, by extension and by name, and how live commands are asked for.
 #![tactic(auto)]
 
 pub mod code_table;
 pub mod codes;
+pub mod commands;
 pub mod fault;
 mod group;
 mod links;
 mod names;
 
 pub use code_table::CodeTable;
-pub use codes::{Codes, Linked};
+pub use codes::Codes;
+pub use commands::{Commands, Found, Linked};
 pub use fault::CodesFault;

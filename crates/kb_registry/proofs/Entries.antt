@@ -10,8 +10,8 @@ use Rattle.std.specs.Map.{keys_of, lookup}
 use Rattle.indexmap.specs.IndexMap.{IndexMap, get, insert_entry, Updates, IsUnchanged}
 use Rattle.indexmap.proofs.CallerLemmas.{insert_entry-new}
 use Rattle.kb_core.specs.declared.native.Native.{Native}
-use Rattle.kb_codes.specs.Live.{Group}
-use Rattle.kb_registry.specs.Live.{same_native, natives_of, is_live, without}
+use Rattle.kb_codes.specs.Live.{Group, same_native}
+use Rattle.kb_registry.specs.Live.{natives_of, is_live, without}
 use Rattle.kb_registry.specs.Place.{NoneBelow}
 use Rattle.kb_registry.specs.Sound.{plain_entries}
 

@@ -7,7 +7,8 @@ use Rattle.kb_core.specs.contracts.native.Native.{the_type}
 use Rattle.kb_core.specs.declared.native.Native.{Native}
 use Rattle.kb_core.specs.Declaration.{Declaration}
 use Rattle.kb_core.specs.Native.{declaration_of}
-use Rattle.kb_registry.specs.Live.{AreNumbered, same_native, without}
+use Rattle.kb_codes.specs.Live.{same_native}
+use Rattle.kb_registry.specs.Live.{AreNumbered, without}
 use Rattle.kb_registry.specs.Sound.{Sound, plain_entries}
 use Rattle.kb_registry.proofs.Entries.{kept_after}
 use Rattle.kb_registry.proofs.Tickets.{numbered_more, numbered_without}

@@ -2,5 +2,3 @@ pub mod Fault
 pub mod Live
 pub mod Sound
 pub mod Place
-pub mod HeldCore
-pub mod HeldCoreLoan

@@ -3,19 +3,14 @@ use Rattle.std.specs.Prelude.{◌≡◌, ℕ, ◌+◌, ◌≤◌, Bool, List, []
 use Rattle.std.specs.Prelude.{option_map, is_some, Result, Ok, Err, if◌then◌else◌, nat_eq}
 use Rattle.std.specs.List.{list_any}
 use Rattle.kb_core.specs.declared.native.Native.{Native}
-use Rattle.kb_core.specs.contracts.native.NativePartialEq.TheImpl as equality
-use Rattle.kb_core.specs.Declaration.{Declaration}
-use Rattle.kb_core.specs.Native.{named, declaration_of}
+use Rattle.kb_core.specs.Native.{named}
 use Rattle.kb_code.specs.Handler.{HandlerData}
+use Rattle.kb_codes.specs.Callee.{Callee, Plain, Coded, Table}
 use Rattle.kb_codes.specs.Live.{Group, handlers_in, handler_named, caller_of, has_taken, with_handlers}
-use Rattle.kb_codes.specs.Live.{without_group}
+use Rattle.kb_codes.specs.Live.{without_group, same_native}
 use Rattle.kb_registry.specs.declared.fault.RegistryFault.{RegistryFault}
 use Rattle.kb_registry.specs.declared.fault.RegistryFault.TheVariants.{AlreadyExists, Exhausted, StaleTicket}
 use Rattle.kb_registry.specs.declared.fault.RegistryFault.TheVariants.{InUse}
-
--- whether two natives are one, as `==` finds it
-abbrev pub same_native : Native → Native → Bool
-same_native = (equality.ghosts).eq
 
 -- a live closure: the native that it stands for, and its ticket, which is the number of its registration
 pub record Registered : Type 0 where
@@ -92,23 +87,18 @@ disposal_fault_of (Some native) live = if is_some (caller_of native live.code) t
 abbrev pub disposal_fault : ℕ → Live → Option RegistryFault
 disposal_fault ticket live = disposal_fault_of (holder ticket live) live
 
--- a live command: a native for which a closure is live, or a live handler
-pub data Callee : Type 0 where
-  Plain : Native → Callee
-  Coded : HandlerData → Callee
-
--- the live command of an identifier; a native's identifier is no handler's
-abbrev pub callee_of : Option Native → List ℕ → Live → Option Callee
-callee_of (Some native) identifier live = option_map Plain (where_live (Some native) live)
-callee_of None identifier live = option_map Coded (handler_named identifier (handlers_in live.code))
+-- the live command of an identifier, by the native that it is the identifier of, if there is one: a native for
+-- which a closure is live, or a live handler; a native's identifier is no handler's
+abbrev pub callee_by : Option Native → List ℕ → Live → Option Callee
+callee_by (Some native) identifier live = option_map Plain (where_live (Some native) live)
+callee_by None identifier live = option_map Coded (handler_named identifier (handlers_in live.code))
 
 abbrev pub callee : List ℕ → Live → Option Callee
-callee identifier live = callee_of (named identifier) identifier live
+callee identifier live = callee_by (named identifier) identifier live
 
--- what a live command declares
-abbrev pub declared : Callee → Declaration
-declared (Plain native) = declaration_of native
-declared (Coded handler) = handler.signature
+-- the live command of each identifier
+abbrev pub table_of : Live → Table
+table_of live = λ identifier. callee identifier live
 
 -- with an extension's handlers live
 abbrev pub with_code : ℕ → List HandlerData → Live → Live

@@ -4,7 +4,8 @@ use Rattle.indexmap.specs.IndexMap.{IndexMap, get}
 use Rattle.kb_core.specs.declared.native.Native.{Native}
 use Rattle.kb_core.specs.Declaration.{Declaration}
 use Rattle.kb_core.specs.Native.{declaration_of}
-use Rattle.kb_registry.specs.Live.{Registered, AreNumbered, same_native}
+use Rattle.kb_codes.specs.Live.{same_native}
+use Rattle.kb_registry.specs.Live.{Registered, AreNumbered}
 
 -- the entries as plain data
 abbrev pub plain_entries : {E : Type 0} → (E → ℕ) → List (Native × E) → List Registered

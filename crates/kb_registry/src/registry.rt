@@ -6,9 +6,11 @@ ghost use Rattle.indexmap.specs.IndexMap.{get, index_map_len};
 ghost use Rattle.kb_context.specs.Failure.{IsRefusalOrMemory};
 ghost use Rattle.kb_core.specs.Native.{Fits, declaration_of};
 ghost use Rattle.kb_core.specs.Ran.{Does};
-ghost use Rattle.kb_codes.specs.Live.{handlers_in, handler_named, natives_of, caller_of, group_of};
-ghost use Rattle.kb_registry.specs.Live.{same_native, fresh, is_live, live_native, registration_fault};
-ghost use Rattle.kb_registry.specs.Live.{registered, holder, disposed, disposal_fault, callee, declared};
+ghost use Rattle.kb_codes.specs.Callee.{declared_by};
+ghost use Rattle.kb_codes.specs.Found.{callee_of};
+ghost use Rattle.kb_codes.specs.Live.{handlers_in, handler_named, caller_of, group_of, same_native};
+ghost use Rattle.kb_registry.specs.Live.{fresh, is_live, live_native, registration_fault, registered};
+ghost use Rattle.kb_registry.specs.Live.{holder, disposed, disposal_fault, callee, callee_by, table_of};
 ghost use Rattle.kb_registry.specs.Live.{code_fault, with_code, without_code};
 ghost use Rattle.kb_registry.specs.Place.{IsPlace};
 
@@ -16,7 +18,7 @@ use crate::command::HostCommand;
 use crate::fault::RegistryFault;
 use indexmap::IndexMap;
 use kb_code::Handler;
-use kb_codes::{CodeTable, Codes, CodesFault, Linked};
+use kb_codes::{CodeTable, Codes, CodesFault, Commands, Found, Linked};
 use kb_context::{Failure, NoMemory};
 use kb_core::{Args, Core, Native, Ran, Signature};
 use std::alloc::Global;
@@ -309,7 +311,7 @@ impl<C: HostCommand> Registry<C> {
 
     /// What the live command of an identifier declares, or `None` where none is live. It takes no memory.
     pub fn signature(&self, command: &str) -> Option<&Signature>
-        ensures { option_copied result ≡ option_map declared (callee command.now self.now) }
+        ensures { option_copied result ≡ option_map declared_by (callee command.now self.now) }
     {
         match Native::named(command) {
             Some(native) => match self.entry(native) {
@@ -325,9 +327,7 @@ impl<C: HostCommand> Registry<C> {
 
     /// The live handler of a name, with what its calls are, lent. It takes no memory.
     pub fn linked(&self, command: &str) -> Option<Linked<'_>>
-        ensures handler { option_map (λ l. l.handler.now) result
-            ≡ handler_named command.now (handlers_in self.now.code) }
-        ensures natives { IfSome result (λ l. l.natives.now ≡ natives_of l.handler.now) }
+        ensures { result ≡ handler_named command.now (handlers_in self.now.code) }
     {
         self.code.linked(command)
     }
@@ -381,5 +381,34 @@ impl<C: HostCommand> Registry<C> {
             Some(native) => self.entry(native),
             None => None,
         }
+    }
+
+    /// The live command of an identifier, by the native that it is the identifier of, if there is one.
+    fn found(&self, command: &str, native: Option<Native>) -> Option<Found<'_>>
+        ensures { option_map callee_of result ≡ callee_by native command.now self.now }
+    {
+        match native {
+            Some(native) => match self.entry(native) {
+                Some(_) => Some(Found::Plain(native)),
+                None => None,
+            },
+            None => match self.code.linked(command) {
+                Some(linked) => Some(Found::Coded(linked)),
+                None => None,
+            },
+        }
+    }
+}
+
+impl<C: HostCommand> Commands for Registry<C> {
+    ghost live = { λ r. table_of r };
+
+    fn command(&self, name: &str, native: Option<Native>) -> Option<Found<'_>> {
+        self.found(name, native)
+    }
+
+    #[tactic(auto, using(crate::proofs::Lives::live_where_called))]
+    fn call(&self, native: Native, core: Core, args: Args) -> Ran {
+        Registry::call(self, native, core, args)
     }
 }

@@ -1,9 +1,10 @@
-//! What the machine asks of the live commands.
-ghost use Rattle.std.specs.Prelude.{◌≡◌, ◌<◌, ℕ, List, Option, length, map, slice_get, Some, option_map};
+//! What a machine that runs handlers asks of the live commands.
+ghost use Rattle.std.specs.Prelude.{◌≡◌, ◌<◌, ℕ, List, Option, length, slice_get, Some, option_map};
 ghost use Rattle.kb_core.specs.Native.{Fits, named};
 ghost use Rattle.kb_core.specs.Ran.{Does};
-ghost use Rattle.kb_vm.specs.Callee.{Callee, IsLive, declared_by};
-ghost use Rattle.kb_vm.specs.Found.{callee_of};
+ghost use Rattle.kb_codes.specs.Callee.{Callee, IsLive, declared_by};
+ghost use Rattle.kb_codes.specs.Found.{callee_of};
+ghost use Rattle.kb_codes.specs.Live.{natives_of};
 
 use kb_code::Handler;
 use kb_context::Text;
@@ -19,21 +20,21 @@ pub struct Linked<'r> {
 }
 
 impl<'r> Model for Linked<'r> {
-    ghost use Rattle.std.specs.Prelude.{◌≡◌, map};
+    ghost use Rattle.std.specs.Prelude.{◌≡◌};
     ghost use Rattle.kb_code.specs.Handler.{HandlerData};
-    ghost use Rattle.kb_core.specs.Native.{named};
+    ghost use Rattle.kb_codes.specs.Live.{natives_of};
 
     ghost Value = { HandlerData };
 
     ghost view = { λ l. l.handler.now };
 
-    ghost invariant = { λ l. l.natives.now ≡ map named l.handler.now.calls };
+    ghost invariant = { λ l. l.natives.now ≡ natives_of l.handler.now };
 }
 
 impl<'r> Linked<'r> {
     /// A handler, with the native of each name in its list of calls. It takes no memory.
     pub fn new(handler: &'r Handler, natives: &'r [Option<Native>]) -> Linked<'r>
-        requires { natives.now ≡ map named handler.now.calls }
+        requires { natives.now ≡ natives_of handler.now }
         ensures { result ≡ handler.now }
     {
         Linked { handler, natives }
@@ -48,7 +49,7 @@ impl<'r> Linked<'r> {
 
     /// The name at an index in the list of calls, and the native of that name, if there is one. It takes no
     /// memory.
-    pub(crate) fn call(&self, index: usize) -> (&'r Text, Option<Native>)
+    pub fn call(&self, index: usize) -> (&'r Text, Option<Native>)
         requires { index < length self.now.calls }
         ensures name { slice_get self.now.calls index ≡ Some result.0.now }
         ensures native { result.1 ≡ named result.0.now }
@@ -68,7 +69,7 @@ pub enum Found<'r> {
 
 impl<'r> Found<'r> {
     /// How many arguments the command takes. It takes no memory.
-    pub(crate) fn params(&self) -> usize
+    pub fn params(&self) -> usize
         ensures { result ≡ length (declared_by (callee_of self.now)).params }
     {
         match self {
@@ -78,7 +79,7 @@ impl<'r> Found<'r> {
     }
 
     /// What a run of the command may cost at most. It takes no memory.
-    pub(crate) fn budget(&self) -> u32
+    pub fn budget(&self) -> u32
         ensures { result ≡ (declared_by (callee_of self.now)).budget }
     {
         match self {
@@ -88,7 +89,7 @@ impl<'r> Found<'r> {
     }
 
     /// How deep the calls of the command may nest. It takes no memory.
-    pub(crate) fn depth(&self) -> u8
+    pub fn depth(&self) -> u8
         ensures { result ≡ (declared_by (callee_of self.now)).depth }
     {
         match self {
@@ -98,7 +99,7 @@ impl<'r> Found<'r> {
     }
 }
 
-/// The live commands of a host, as the machine asks for them.
+/// The live commands of a host, as a machine asks for them.
 pub trait Commands {
     ghost live: { Self → List ℕ → Option Callee };
 
