@@ -5,7 +5,7 @@ use Rattle.kb_codes.specs.Callee.{Callee, Table, declared_by}
 use Rattle.kb_core.specs.Reading.{arguments_for}
 use Rattle.kb_core.specs.declared.arg.Arg.{Arg}
 use Rattle.kb_core.specs.declared.run.Core.{Core}
-use Rattle.kb_registry.specs.Live.{Live, callee}
+use Rattle.kb_registry.specs.Live.{Live, callee, table_of}
 use Rattle.kb_start.specs.RunCommands.{Planned, plan_of, run_commands}
 use Rattle.kb_start.specs.declared.start.Finish.{Finish}
 use Rattle.kb_start.specs.declared.start.Finish.TheVariants.{Done, NotFound, BadArguments, Trapped}
@@ -48,13 +48,9 @@ started_as table command None given core = started core (line.not_found_line com
 started_as table command (Some callee) given core =
     started_with table command callee (arguments_for (declared_by callee).params given) core
 
--- the live commands by their identifiers
-abbrev pub live_table : Live → Table
-live_table live identifier = callee identifier live
-
 -- a live command, by its identifier and the arguments that are given with it
 abbrev pub start_live : List ℕ → Option Data → Live → Core → Started
-start_live command given live core = started_as (live_table live) command (callee command live) given core
+start_live command given live core = started_as (table_of live) command (callee command live) given core
 
 -- what comes behind a start, unless that broke off
 abbrev pub and_then : Finish → Started → Started → Started
