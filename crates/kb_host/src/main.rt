@@ -52,7 +52,7 @@ fn run(rt: &HostRuntime, alloc: Global) -> Result<(), HostFault> {
         defaults: b"[]",
         user: RULES,
         platform: Platform::Linux,
-        manifests: &[],
+        extensions: &[],
     };
     run_session(rt, alloc, inputs, natives)?;
     let count = count.get();

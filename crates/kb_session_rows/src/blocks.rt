@@ -32,7 +32,8 @@ impl Teller for Blocks {
         told: &mut String,
     ) -> Result<(), NoMemory> {
         match kind {
-            "session" => sessions::tell(alloc, lines, told),
+            "session" => sessions::tell(alloc, false, lines, told),
+            "raw" => sessions::tell(alloc, true, lines, told),
             _ => tell_rows(alloc, self, kind, lines, told),
         }
     }

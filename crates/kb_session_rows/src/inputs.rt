@@ -1,9 +1,12 @@
 //! The files of a session, from the lines that state them: `layout TEXT`, `defaults TEXT`, `user TEXT`, each
-//! extension's manifest as `extension TEXT`, and `platform NAME` (`linux` where there is none). More than
-//! one line of a file are parted by line feeds, and manifests, which may share a line, by ` ;; `. The host's
-//! closures are those of `natives NAME ..` and `shelf NAME ..`, each one for every native where there is no line.
+//! extension's manifest as `extension TEXT`, below it the extension's file of handlers as `handlers TEXT`, and
+//! `platform NAME` (`linux` where there is none). More than one line of a file are parted by line feeds, and
+//! manifests, which may share a line, by ` ;; `. The host's closures are those of `natives NAME ..` and `shelf
+//! NAME ..`, each one for every native where there is no line.
 use crate::host::{Command, all_commands, commands_named};
+use kb_bindings::ExtensionFiles;
 use kb_context::NoMemory;
+use kb_ending::lent;
 use kb_keys::Platform;
 use kb_row_text::bytes_of;
 use std::alloc::Global;
@@ -29,7 +32,7 @@ fn text_of<'a>(line: &'a str, file: &str) -> Option<&'a str> {
 pub(crate) fn is_of_file(line: &str) -> bool {
     let (word, _) = line.split_once(' ').unwrap_or((line, ""));
     match word {
-        "layout" | "defaults" | "user" | "extension" | "platform" => true,
+        "layout" | "defaults" | "user" | "extension" | "handlers" | "platform" => true,
         "natives" | "shelf" => true,
         _ => false,
     }
@@ -101,6 +104,41 @@ pub(crate) fn files_in(alloc: Global, lines: &str) -> Result<Files, NoMemory> {
     })
 }
 
+// The text of the handlers of an extension, by its number, if it has a line.
+fn handlers_in(alloc: Global, lines: &str, number: usize) -> Result<Option<Vec<u8>>, NoMemory> {
+    let mut text = String::new(alloc);
+    let mut is_there = false;
+    let mut extensions = 0;
+    for line in lines.lines() {
+        if let Some(manifests) = text_of(line, "extension") {
+            extensions += manifests.split(" ;; ").count();
+        }
+        if let Some(more) = text_of(line, "handlers") && extensions == number + 1 {
+            text.push_str(more)?;
+            text.push('\n')?;
+            is_there = true;
+        }
+    }
+    if is_there {
+        Ok(Some(bytes_of(alloc, &[], text.as_str())?))
+    } else {
+        Ok(None)
+    }
+}
+
+/// The files of handlers of so many extensions.
+pub(crate) fn all_handlers(
+    alloc: Global,
+    lines: &str,
+    count: usize,
+) -> Result<Vec<Option<Vec<u8>>>, NoMemory> {
+    let mut all = Vec::new(alloc);
+    for number in 0..count {
+        all.push(handlers_in(alloc, lines, number)?).map_err(NoMemory::from)?;
+    }
+    Ok(all)
+}
+
 /// The manifests that the text of extensions has.
 pub(crate) fn manifests_in(alloc: Global, extensions: &[u8]) -> Result<Vec<&[u8]>, NoMemory> {
     let mut manifests = Vec::new(alloc);
@@ -110,4 +148,21 @@ pub(crate) fn manifests_in(alloc: Global, extensions: &[u8]) -> Result<Vec<&[u8]
         }
     }
     Ok(manifests)
+}
+
+/// The files of extensions.
+pub(crate) fn extensions_of<'a>(
+    alloc: Global,
+    manifests: &[&'a [u8]],
+    handlers: &'a [Option<Vec<u8>>],
+) -> Result<Vec<ExtensionFiles<'a>>, NoMemory> {
+    let mut extensions = Vec::new(alloc);
+    for (number, package) in manifests.iter().enumerate() {
+        let files = ExtensionFiles {
+            package,
+            handlers: lent(&handlers[number]),
+        };
+        extensions.push(files).map_err(NoMemory::from)?;
+    }
+    Ok(extensions)
 }

@@ -3,10 +3,12 @@
 //! Its lines are those of the files (`inputs`), then those of the script, and below each what it writes,
 //! behind `> `. A line that begins with `? ` is none of the script's: it asks something else of the session.
 use crate::host::Command;
-use crate::inputs::{commands_in, files_in, is_of_file, manifests_in};
+use crate::inputs::{
+    all_handlers, commands_in, extensions_of, files_in, is_of_file, manifests_in,
+};
 use crate::streams::{Broken, Narrow};
-use kb_bindings::{Inputs, UnreadIn};
-use kb_context::{NoMemory, fault_name};
+use kb_bindings::{Inputs, LoadFault, UnreadIn};
+use kb_context::{Failure, NoMemory, fault_name};
 use kb_core::Native;
 use kb_ending::{Stop, WarningLine, lent, script_stop};
 use kb_keys::Keystroke;
@@ -363,14 +365,28 @@ fn tell_lines(
     play(alloc, session, shelf, lines, told)
 }
 
+fn load(
+    alloc: Global,
+    inputs: Inputs<'_>,
+    natives: Vec<Command>,
+    is_raw: bool,
+) -> Result<Session<Command>, Failure<LoadFault>> {
+    if is_raw {
+        return Session::load_raw(alloc, inputs, natives);
+    }
+    Session::load(alloc, inputs, natives)
+}
+
 fn tell_loaded(
     alloc: Global,
     inputs: Inputs<'_>,
+    is_raw: bool,
     lines: &str,
     told: &mut String,
 ) -> Result<(), NoMemory> {
     let mut shelf = commands_in(alloc, lines, "shelf")?;
-    match Session::load(alloc, inputs, commands_in(alloc, lines, "natives")?) {
+    let natives = commands_in(alloc, lines, "natives")?;
+    match load(alloc, inputs, natives, is_raw) {
         Ok(mut session) => {
             let end = tell_lines(alloc, &mut session, &mut shelf, lines, told);
             drop(session);
@@ -380,18 +396,26 @@ fn tell_loaded(
     }
 }
 
-/// Tells a session. The load is answered below the lines of the files.
-pub(crate) fn tell(alloc: Global, lines: &str, told: &mut String) -> Result<(), NoMemory> {
+/// Tells a session, or a raw one, which has the handlers of its extensions. The load is answered below the
+/// lines of the files.
+pub(crate) fn tell(
+    alloc: Global,
+    is_raw: bool,
+    lines: &str,
+    told: &mut String,
+) -> Result<(), NoMemory> {
     add_file_lines(lines, told)?;
     let files = files_in(alloc, lines)?;
     let manifests = manifests_in(alloc, lent(&files.extensions).unwrap_or(&[]))?;
+    let handlers = all_handlers(alloc, lines, manifests.len())?;
+    let extensions = extensions_of(alloc, manifests.as_slice(), handlers.as_slice())?;
     let layout = lent(&files.layout);
     let inputs = Inputs {
         layout,
         defaults: lent(&files.defaults).unwrap_or(&[]),
         user: lent(&files.user).unwrap_or(&[]),
         platform: files.platform,
-        manifests: manifests.as_slice(),
+        extensions: extensions.as_slice(),
     };
-    tell_loaded(alloc, inputs, lines, told)
+    tell_loaded(alloc, inputs, is_raw, lines, told)
 }

@@ -32,7 +32,7 @@ fn rules_alone<'a>(layout: Option<&'a [u8]>, user: &'a [u8]) -> Inputs<'a> {
         defaults: &[],
         user,
         platform: Platform::Linux,
-        manifests: &[],
+        extensions: &[],
     }
 }
 
