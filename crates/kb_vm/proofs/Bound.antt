@@ -6,7 +6,7 @@ use Rattle.kb_core.specs.declared.arg.Arg.{Arg}
 use Rattle.kb_code.specs.declared.instr.Instr.{Instr}
 use Rattle.kb_code.specs.Handler.{HandlerData}
 use Rattle.kb_vm.specs.declared.trap.Trap.TheVariants.{OutOfBudget, BadCode}
-use Rattle.kb_vm.specs.Callee.{Callee, Plain, Coded, Table, declared_by}
+use Rattle.kb_codes.specs.Callee.{Callee, Plain, Coded, Table, declared_by}
 use Rattle.kb_vm.specs.Effect.{Effect, Stop, Leave, Next, Goto, Enter, effect}
 use Rattle.kb_vm.specs.Meaning.{World, counted, with_line, Answer, Done, Stuck, and_then, fetched, Runner, run_callee}
 use Rattle.kb_vm.specs.Meaning.{follow, step, go, run}

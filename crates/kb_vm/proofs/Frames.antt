@@ -11,7 +11,7 @@ use Rattle.kb_vm.specs.declared.machine.Frame.{Frame}
 use Rattle.kb_vm.specs.declared.machine.Machine.{Machine}
 use Rattle.kb_vm.specs.declared.trap.Trap.{Trap}
 use Rattle.kb_vm.specs.declared.trap.Trap.TheVariants.{OutOfBudget, BadCode}
-use Rattle.kb_vm.specs.Callee.{Callee, Plain, Coded, Table, declared_by}
+use Rattle.kb_codes.specs.Callee.{Callee, Plain, Coded, Table, declared_by}
 use Rattle.kb_vm.specs.Effect.{Effect, Stop, Leave, Next, Goto, Enter, effect}
 use Rattle.kb_vm.specs.Meaning.{World, counted, with_line, native_called, Answer, Done, Stuck, and_then, fetched}
 use Rattle.kb_vm.specs.Meaning.{Runner, run_callee, follow, go, run}

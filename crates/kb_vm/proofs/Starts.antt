@@ -5,7 +5,7 @@ use Rattle.kb_core.specs.declared.run.Core.{Core}
 use Rattle.kb_core.specs.Signature.{fits}
 use Rattle.kb_vm.specs.declared.machine.Outcome.{Outcome}
 use Rattle.kb_vm.specs.declared.trap.Trap.TheVariants.{WrongArgument}
-use Rattle.kb_vm.specs.Callee.{Callee, Table, declared_by}
+use Rattle.kb_codes.specs.Callee.{Callee, Table, declared_by}
 use Rattle.kb_vm.specs.Meaning.{World, Answer, Stuck, run_callee, run, first_world, start_callee}
 use Rattle.kb_vm.specs.Outcome.{Shows, BeginsWith, lines_of}
 use Rattle.kb_vm.proofs.Frames.{begins_same, callee_keeps, run_keeps}

@@ -12,7 +12,7 @@ use Rattle.kb_vm.specs.declared.machine.Turn.{Turn}
 use Rattle.kb_vm.specs.declared.machine.Turn.TheVariants as turn
 use Rattle.kb_vm.specs.declared.trap.Trap.TheVariants.{OutOfBudget, BadCode}
 use Rattle.kb_vm.specs.CallLine.{call_line}
-use Rattle.kb_vm.specs.Callee.{Callee, Plain, Coded, Table, declared_by}
+use Rattle.kb_codes.specs.Callee.{Callee, Plain, Coded, Table, declared_by}
 use Rattle.kb_vm.specs.Effect.{Enter, Goto, effect}
 use Rattle.kb_vm.specs.Meaning.{World, counted, with_line, Answer, Done, Stuck, and_then, fetched, run_callee, follow, run}
 use Rattle.kb_vm.specs.Meaning.{native_called, first_world}

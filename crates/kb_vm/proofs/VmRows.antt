@@ -11,7 +11,7 @@ use Rattle.kb_vm.specs.declared.trap.Trap.{Trap}
 use Rattle.kb_vm.specs.declared.trap.Trap.TheVariants.{MissingOperand, UnknownCommand, WrongArgument, OutOfBudget}
 use Rattle.kb_vm.specs.declared.trap.Trap.TheVariants.{TooDeep, BadCode}
 use Rattle.kb_vm.specs.CallLine.{list_text}
-use Rattle.kb_vm.specs.Callee.{Plain, Coded, Table}
+use Rattle.kb_codes.specs.Callee.{Plain, Coded, Table}
 use Rattle.kb_vm.specs.Meaning.{World, Answer, Done, Stuck, run, start_of}
 
 -- a handler x.hi of this code, which may call itself and `type`, beside the native

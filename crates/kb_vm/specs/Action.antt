@@ -6,9 +6,9 @@ use Rattle.kb_code.specs.declared.instr.Instr.{Instr}
 use Rattle.kb_code.specs.declared.instr.Instr.TheVariants as i
 use Rattle.kb_vm.specs.declared.action.Action.{Action}
 use Rattle.kb_vm.specs.declared.action.Action.TheVariants as action
-use Rattle.kb_vm.specs.Callee.{Callee, Plain, Coded, Table, IsLive, declared_by}
+use Rattle.kb_codes.specs.Callee.{Callee, Plain, Coded, Table, IsLive, declared_by}
 use Rattle.kb_vm.specs.Effect.{Effect, Stop, Leave, Next, Goto, Enter, topmost}
-use Rattle.kb_vm.specs.Found.{callee_of}
+use Rattle.kb_codes.specs.Found.{callee_of}
 
 -- how many arguments a command takes
 abbrev pub arity : Callee → ℕ

@@ -18,7 +18,7 @@ use Rattle.kb_vm.specs.declared.values.One.{One}
 use Rattle.kb_vm.specs.declared.values.One.TheVariants as one
 use Rattle.kb_vm.specs.declared.values.Two.{Two}
 use Rattle.kb_vm.specs.declared.values.Two.TheVariants as two
-use Rattle.kb_vm.specs.Callee.{Callee, Table, declared_by}
+use Rattle.kb_codes.specs.Callee.{Callee, Table, declared_by}
 use Rattle.kb_vm.specs.Values.{size_of, one_of, two_of, context_arg}
 
 -- it traps, ends the handler, goes on behind itself or at another place, or enters a command that is called

@@ -3,7 +3,7 @@ use Rattle.std.specs.Prelude.{◌≡◌, ◌≤◌}
 use Rattle.kb_vm.specs.declared.machine.Machine.{Machine}
 use Rattle.kb_vm.specs.declared.machine.Turn.{Turn}
 use Rattle.kb_vm.specs.declared.machine.Turn.TheVariants as turn
-use Rattle.kb_vm.specs.Callee.{Table}
+use Rattle.kb_codes.specs.Callee.{Table}
 use Rattle.kb_vm.specs.Meaning.{World, Done}
 use Rattle.kb_vm.specs.State.{finish, rest, credit}
 

@@ -1,6 +1,4 @@
 pub mod Trap
-pub mod Callee
-pub mod Found
 pub mod Operand
 pub mod Values
 pub mod CallLine

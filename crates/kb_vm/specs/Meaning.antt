@@ -11,7 +11,7 @@ use Rattle.kb_code.specs.Handler.{HandlerData}
 use Rattle.kb_vm.specs.declared.trap.Trap.{Trap}
 use Rattle.kb_vm.specs.declared.trap.Trap.TheVariants.{WrongArgument, OutOfBudget, BadCode}
 use Rattle.kb_vm.specs.CallLine.{call_line}
-use Rattle.kb_vm.specs.Callee.{Callee, Plain, Coded, Table, declared_by}
+use Rattle.kb_codes.specs.Callee.{Callee, Plain, Coded, Table, declared_by}
 use Rattle.kb_vm.specs.Effect.{Effect, Stop, Leave, Next, Goto, Enter, effect}
 
 -- the core, and what has happened so far: lines, the number of instructions, and the natives that were called

@@ -12,7 +12,7 @@ use Rattle.kb_vm.specs.declared.machine.Frame.{Frame}
 use Rattle.kb_vm.specs.declared.machine.Machine.{Machine}
 use Rattle.kb_vm.specs.declared.machine.Turn.{Turn}
 use Rattle.kb_vm.specs.declared.machine.Turn.TheVariants as turn
-use Rattle.kb_vm.specs.Callee.{Callee, Table, declared_by}
+use Rattle.kb_codes.specs.Callee.{Callee, Table, declared_by}
 use Rattle.kb_vm.specs.Effect.{Effect, Enter, effect, topmost}
 use Rattle.kb_vm.specs.Meaning.{World, Answer, Done, Stuck, and_then, run, follow, native_called, counted}
 use Rattle.kb_vm.specs.Outcome.{Shows, BeginsWith, lines_of}

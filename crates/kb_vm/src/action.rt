@@ -1,11 +1,11 @@
 //! What one instruction does.
 ghost use Rattle.std.specs.Prelude.{◌≡◌, ◌<◌, false, true, IfOk, OnErr, option_map, slice_get, length};
 ghost use Rattle.kb_vm.specs.Action.{Does, IsReady, IsCallable, MayLackMemory, is_stop};
-ghost use Rattle.kb_vm.specs.Callee.{declared_by};
+ghost use Rattle.kb_codes.specs.Callee.{declared_by};
 ghost use Rattle.kb_vm.specs.Effect.{effect, pushed, pushed_at, pushed_context, dropped, doubled};
 ghost use Rattle.kb_vm.specs.Effect.{swapped, made};
 ghost use Rattle.kb_vm.specs.Effect.{with_one, with_two, branched, entered, called};
-ghost use Rattle.kb_vm.specs.Found.{callee_of};
+ghost use Rattle.kb_codes.specs.Found.{callee_of};
 ghost use Rattle.kb_vm.specs.Operand.{arg_of};
 ghost use Rattle.kb_vm.specs.Values.{size_of};
 ghost use Rattle.kb_vm.specs.declared.values.One.TheVariants.{Show};
@@ -13,12 +13,12 @@ ghost use Rattle.kb_vm.specs.declared.values.Two.TheVariants.{Join};
 ghost use Rattle.kb_core.specs.declared.arg.Arg.TheVariants as arg;
 
 use crate::arena::Arena;
-use crate::commands::{Commands, Found, Linked};
 use crate::given::{Given, fits};
 use crate::operands::{Operand, Operands};
 use crate::trap::Trap;
 use crate::values::{One, Two, context, made_of_one, made_of_two, size_of};
 use kb_code::Instr;
+use kb_codes::{Commands, Found, Linked};
 use kb_context::{NoMemory, Text};
 use kb_core::Core;
 

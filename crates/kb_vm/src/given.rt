@@ -3,12 +3,12 @@ ghost use Rattle.std.specs.Prelude.{◌≡◌, ◌≤◌, length, map, IfOk, opt
 ghost use Rattle.kb_core.specs.Arg.{is_of};
 ghost use Rattle.kb_core.specs.Parameter.{declared};
 ghost use Rattle.kb_core.specs.Signature.{fits};
-ghost use Rattle.kb_vm.specs.Callee.{declared_by};
-ghost use Rattle.kb_vm.specs.Found.{callee_of};
+ghost use Rattle.kb_codes.specs.Callee.{declared_by};
+ghost use Rattle.kb_codes.specs.Found.{callee_of};
 ghost use Rattle.kb_vm.specs.Operand.{arg_of};
 
-use crate::commands::Found;
 use crate::operands::Operand;
+use kb_codes::Found;
 use kb_context::{NoMemory, Text};
 use kb_core::{Arg, Args, Kind, NamedKind, Param};
 use std::alloc::Global;

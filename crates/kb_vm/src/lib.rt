@@ -4,7 +4,6 @@
 mod action;
 mod arena;
 mod call_line;
-pub mod commands;
 mod given;
 pub mod laws;
 pub mod machine;
@@ -13,7 +12,6 @@ pub mod starting;
 pub mod trap;
 mod values;
 
-pub use commands::{Commands, Found, Linked};
 pub use machine::{End, Outcome};
 pub use starting::start;
 pub use trap::Trap;
