@@ -23,7 +23,7 @@ use Rattle.kb_registry.specs.declared.fault.RegistryFault.{RegistryFault}
 use Rattle.kb_script.specs.Script.{said_of}
 use Rattle.kb_script.specs.Shelf.{move, stand}
 use Rattle.kb_bindings.specs.Sources.{Sources}
-use Rattle.kb_session.specs.Start.{start_of}
+use Rattle.kb_start.specs.Start.{start_of}
 use Rattle.kb_session.specs.State.{loaded_state}
 use Rattle.kb_stream.specs.FoldWriting.{text_of}
 use Rattle.kb_files.specs.Layout.{window_scopes}

@@ -16,7 +16,7 @@ use Rattle.kb_manifest.specs.Layout.{lacks_member, scope_of, record_of}
 use Rattle.kb_rules.specs.Entry.{when_of, keystrokes_of, condition_of, args_of}
 use Rattle.kb_rules.specs.Entry.{binding_of, terms_of, element_of}
 use Rattle.kb_files.specs.RuleFile.{rules_in}
-use Rattle.kb_session.specs.Start.{start_of}
+use Rattle.kb_start.specs.Start.{start_of}
 use Rattle.kb_when.specs.ClauseText.{clause_in}
 use Rattle.kb_when.specs.Tokenizer.{tokens_of, tokens_within}
 use Rattle.kb_rows.proofs.ModelRows.{lines, written}

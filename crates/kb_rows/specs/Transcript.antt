@@ -10,6 +10,7 @@ use Rattle.kb_script.specs.Shelf.{Said, move, stand}
 use Rattle.kb_script.specs.declared.fault.ScriptFault.{ScriptFault}
 use Rattle.kb_script.specs.declared.fault.ScriptFault.TheVariants as script
 use Rattle.kb_bindings.specs.Load.{Files}
+use Rattle.kb_bindings.specs.declared.inputs.HandlerFiles.TheVariants.{Ignored}
 use Rattle.kb_session.specs.Session.{loaded, load_held, marks_by}
 use Rattle.kb_session.specs.State.{State}
 use Rattle.kb_stream.specs.Fold.{Traced}
@@ -20,20 +21,21 @@ use Rattle.kb_stream.specs.FoldWriting.{text_of}
 -- those of reloads, have
 pub record IsTranscript (files : Files) (natives shelf : List Native) (text out : List ℕ) : Type 0 where
   pub session : Traced State
-  pub loaded_is : loaded (marks_by files session) files natives ≡ Ok session
+  pub loaded_is : loaded Ignored (marks_by files session) files natives ≡ Ok session
   pub said : List Said
   pub tells : map bare said ≡ said_of text
   pub out_is : out ≡ text_of move said (stand session.state shelf)
 
--- a script over memory, in a session that was loaded for it: no such session is stopped before
+-- a script over memory, in a session that was loaded for it: no such session is stopped before, nor by a handler
 abbrev pub FailsToRun : ScriptFault → List ℕ → Type 0
 FailsToRun script.Stopped text = ⊥
 FailsToRun script.TooLong text = 16777216 < length text
 FailsToRun script.ReadFailed text = ⊤
 FailsToRun script.WriteFailed text = ⊤
+FailsToRun script.Trapped text = ⊥
 
 -- the load failed, or the script did, or memory was refused
 abbrev pub FailsToGive : Files → List Native → List ℕ → Failure TranscriptFault → Type 0
 FailsToGive files natives text NoMemory = ⊤
-FailsToGive files natives text (Fault (Load fault)) = load_held files natives ≡ Err fault
+FailsToGive files natives text (Fault (Load fault)) = load_held Ignored files natives ≡ Err fault
 FailsToGive files natives text (Fault (Script fault)) = FailsToRun fault text

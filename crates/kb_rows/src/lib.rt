@@ -28,8 +28,8 @@ pub enum TranscriptFault {
 /// of more closures: the plain model's text, as the contracts of `load` and `run_script` give it over memory. It
 /// follows from the natives that the closures stand for, whatever these are.
 ///
-/// Errors: those of `load` and `run_script`, but for `Stopped`, which a session that was just loaded never
-/// gives, and refused memory.
+/// Errors: those of `load` and `run_script`, but for `Stopped` and `Trapped`, which a session that was just loaded
+/// without handlers never gives, and refused memory.
 pub fn transcript<C: HostCommand>(
     alloc: Global,
     inputs: Inputs<'_>,

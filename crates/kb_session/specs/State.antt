@@ -1,6 +1,6 @@
 -- The plain model of a session: its state, and what each thing that it is told does to it, with the lines and
 -- the answer.
-use Rattle.std.specs.Prelude.{ℕ, ◌+◌, Bool, true, false, List, [], ◌∷◌, ◌++◌, Option, Some, None, option_map}
+use Rattle.std.specs.Prelude.{◌≡◌, ℕ, ◌+◌, Bool, true, false, List, [], ◌∷◌, ◌++◌, Option, Some, None, option_map}
 use Rattle.std.specs.Prelude.{Result, Ok, Err}
 use Rattle.kb_context.specs.Refusal.{refused_for}
 use Rattle.kb_context.specs.ScopeFault.{number_of}
@@ -10,7 +10,7 @@ use Rattle.kb_context.specs.declared.fault.ScopeFault.{ScopeFault}
 use Rattle.kb_context.specs.declared.fault.ScopeFault.TheVariants.{UnknownScope}
 use Rattle.kb_context.specs.declared.refusal.Refusal.{Refusal}
 use Rattle.kb_code.specs.Handler.{HandlerData}
-use Rattle.kb_codes.specs.Live.{caller_of}
+use Rattle.kb_codes.specs.Live.{caller_of, handlers_in}
 use Rattle.kb_core.specs.Core.{new_core, with_scopes}
 use Rattle.kb_core.specs.Native.{name_of}
 use Rattle.kb_core.specs.declared.native.Native.{Native}
@@ -204,3 +204,12 @@ loaded_state scopes sources live = record {
   stopped = false;
   unread = unread_of sources ∷ [];
 }
+
+-- no handler is live
+abbrev pub HasNoHandler : State → Type 0
+HasNoHandler s = handlers_in s.live.code ≡ []
+
+-- nothing that it is told stops a session in which no handler is live, and it stays one
+abbrev pub RunsOn : Type 0
+RunsOn = (told : Told) (s : State) → s.stopped ≡ false → HasNoHandler s
+    → ((step told s).state.stopped ≡ false) × HasNoHandler (step told s).state

@@ -10,6 +10,7 @@ ghost use Rattle.kb_bindings.specs.declared.inputs.HandlerFiles.TheVariants.{Ign
 ghost use Rattle.kb_session.specs.Session.{FailsAt, FailsAmong, is_late};
 ghost use Rattle.kb_bindings.specs.Sources.{source_of};
 ghost use Rattle.kb_session.specs.State.{happens, reload, next, left_lines, with_user, stops};
+ghost use Rattle.kb_session.specs.State.{HasNoHandler};
 ghost use Rattle.kb_bindings.specs.Warning.{warnings_of};
 ghost use Rattle.kb_session.specs.declared.fault.SessionFault.TheVariants.{NoMemory};
 ghost use Rattle.kb_stream.specs.Fold.{after_all};
@@ -104,6 +105,7 @@ impl<C: HostCommand> Session<C> {
     /// manifests in load order (1 to 4, 40, 41), an extension that repeats the identifier of an earlier one
     /// (91), one that depends on an extension that isn't before it (90), two closures for one native (70); or
     /// refused memory. The closures are then dropped.
+    #[tactic(auto, using(crate::proofs::CalmLoads::loads_calm))]
     pub fn load(
         alloc: Global,
         inputs: Inputs<'_>,
@@ -113,6 +115,9 @@ impl<C: HostCommand> Session<C> {
 
         // A pattern is told as unread only where `regex` doesn't read it, and isn't told only where it does.
         ensures right { IfOk result (λ session. MarksAreRight (files_of inputs.entry) session.state.sources) }
+
+        // No handler is live, so that only refused memory stops the session (`laws`).
+        ensures calm { IfOk result (λ session. HasNoHandler session.state) }
     {
         Session::loaded(alloc, inputs, HandlerFiles::Ignored, natives)
     }
@@ -134,7 +139,7 @@ impl<C: HostCommand> Session<C> {
     }
 
     /// A session of these files, with or without those of handlers.
-    #[tactic(auto, using(crate::proofs::LoadLemmas::loading))]
+    #[tactic(auto, using(crate::proofs::LoadLemmas::loading, crate::proofs::FewHandlers::few_handlers))]
     fn loaded(
         alloc: Global,
         inputs: Inputs<'_>,

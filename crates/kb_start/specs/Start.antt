@@ -11,7 +11,7 @@ use Rattle.kb_start.specs.declared.start.Finish.{Finish}
 use Rattle.kb_start.specs.declared.start.Finish.TheVariants.{Done, NotFound, BadArguments, Trapped}
 use Rattle.kb_trace.specs.Lines as line
 use Rattle.kb_vm.specs.Meaning as answer
-use Rattle.kb_vm.specs.Meaning.{Answer, first_world, start_callee}
+use Rattle.kb_vm.specs.Meaning.{Answer, first_world, run, run_callee}
 use Rattle.kb_vm.specs.Trap.{number_of}
 
 pub record Started : Type 0 where
@@ -40,7 +40,7 @@ ran (answer.Stuck trap command place w) =
 abbrev pub started_with : Table → List ℕ → Callee → Option (List Arg) → Core → Started
 started_with table command callee None core = unfit command core
 started_with table command callee (Some args) core =
-    ran (start_callee table command callee args (first_world core))
+    ran (run_callee (run table) callee args (first_world core))
 
 -- there is such a live command, or not
 abbrev pub started_as : Table → List ℕ → Option Callee → Option Data → Core → Started

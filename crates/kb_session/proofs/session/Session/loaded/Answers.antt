@@ -1,11 +1,11 @@
 use Rattle.std.proofs.Common.{map}
 use Rattle.std.proofs.lemmas.Result.{err_from_is_err_and}
-use Rattle.kb_session.proofs.LoadLemmas.{natives_fail}
-use Rattle.kb_session.proofs.session.Session.load.Goals as goal
+use Rattle.kb_session.proofs.LoadLemmas.{commands_fail}
+use Rattle.kb_session.proofs.session.Session.loaded.Goals as goal
 
 pub returns-in_err-registry-clause-read : goal.returns-in_err-registry-clause-read
 returns-in_err-registry-clause-read g c =
     let failed = c.from_residual-in_err-registry in
     let p = err_from_is_err_and failed.result failed.ensures.1 in
     let natives = map g.C.HostCommand.stands_for c.args.natives.items in
-    rw (p.1, p.2) (natives_fail _ natives _ _ c.in_ok-scopes.ensures.read c.in_err-registry.ensures.live)
+    rw (p.1, p.2) (commands_fail _ _ natives _ _ c.in_ok-scopes.ensures.read c.in_err-registry.ensures.live)
