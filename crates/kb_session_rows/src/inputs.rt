@@ -113,7 +113,9 @@ fn handlers_in(alloc: Global, lines: &str, number: usize) -> Result<Option<Vec<u
         if let Some(manifests) = text_of(line, "extension") {
             extensions += manifests.split(" ;; ").count();
         }
-        if let Some(more) = text_of(line, "handlers") && extensions == number + 1 {
+        if let Some(more) = text_of(line, "handlers")
+            && extensions == number + 1
+        {
             text.push_str(more)?;
             text.push('\n')?;
             is_there = true;
@@ -134,7 +136,8 @@ pub(crate) fn all_handlers(
 ) -> Result<Vec<Option<Vec<u8>>>, NoMemory> {
     let mut all = Vec::new(alloc);
     for number in 0..count {
-        all.push(handlers_in(alloc, lines, number)?).map_err(NoMemory::from)?;
+        all.push(handlers_in(alloc, lines, number)?)
+            .map_err(NoMemory::from)?;
     }
     Ok(all)
 }
