@@ -84,7 +84,7 @@ and_then_keeps (Done v) on x keeps p = precedes_on x v (world_of (on v)) p (keep
 and_then_keeps (Stuck trap command place v) on x keeps p = p
 
 module _ (f : Runner) (keeps : Keeps f) where
-  pub callee_keeps : (callee : Callee) (args : List Arg) (w : World)
+  callee_keeps : (callee : Callee) (args : List Arg) (w : World)
       → Precedes w (world_of (run_callee f callee args w))
   callee_keeps (Plain n) args w = precedes_native n args w
   callee_keeps (Coded h) args w = keeps h args h.signature.budget 0 [] w
@@ -106,7 +106,7 @@ module _ (f : Runner) (keeps : Keeps f) where
       (precedes_on w (with_line name given w) _ (precedes_line name given w)
       (callee_keeps callee given (with_line name given w)))
 
-  follow_keeps : (h : HandlerData) (args : List Arg) (left place : ℕ) (w : World) (e : Effect)
+  pub follow_keeps : (h : HandlerData) (args : List Arg) (left place : ℕ) (w : World) (e : Effect)
       → Precedes w (world_of (follow f h args left place w e))
   follow_keeps h args left place w (Stop trap) = precedes_same w
   follow_keeps h args left place w Leave = precedes_same w

@@ -4,5 +4,6 @@ pub mod Bound
 pub mod Frames
 pub mod Refusals
 pub mod Turns
+pub mod Begun
 pub mod Starts
 pub mod VmRows

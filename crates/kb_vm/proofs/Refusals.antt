@@ -1,5 +1,5 @@
 -- The steps to which memory may be refused.
-use Rattle.std.proofs.Common.{◌≡◌, ◌⊎◌, inl, inr, ◌||◌, ℕ, Bool, true, false, List, [], ◌∷◌, ◌++◌, Option, Some, None}
+use Rattle.std.proofs.Common.{◌≡◌, ◌⊎◌, inl, inr, ◌||◌, ℕ, Bool, true, false, List, [], ◌∷◌, Option, Some, None}
 use Rattle.std.proofs.Common.{refl, sym, ap, ◌∙◌, true≢false, if◌then◌else◌, length}
 use Rattle.std.specs.Prelude.{nat_lt, slice_get, option_map, pos}
 use Rattle.kb_core.specs.declared.arg.Arg.{Arg}
@@ -20,7 +20,7 @@ use Rattle.kb_vm.specs.Effect.{dropped, doubled, swapped, made, with_one, with_t
 use Rattle.kb_vm.specs.Meaning.{World, with_step}
 use Rattle.kb_vm.specs.Memory.{makes_text, is_call, asks_memory, goes_on, RefusedLast}
 use Rattle.kb_vm.specs.State.{is_enter}
-use Rattle.kb_vm.specs.Values.{one_of, two_of, context_arg, size_of}
+use Rattle.kb_vm.specs.Values.{one_of, two_of, size_of}
 
 pushed_if : (b : Bool) (v : Arg) (operands : List Arg)
     → is_enter (if b then Next (v ∷ operands) else Stop BadCode) ≡ false

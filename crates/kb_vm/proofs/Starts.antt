@@ -1,5 +1,5 @@
 -- The start of a command, where nothing ran.
-use Rattle.std.proofs.Common.{◌≡◌, inl, ℕ, List, [], Bool, true, false, refl, sym, ap, arith, if◌then◌else◌, ◌∙◌}
+use Rattle.std.proofs.Common.{◌≡◌, inl, ℕ, List, [], Bool, false, refl, sym, ap, arith, if◌then◌else◌, ◌∙◌}
 use Rattle.kb_core.specs.declared.arg.Arg.{Arg}
 use Rattle.kb_core.specs.declared.run.Core.{Core}
 use Rattle.kb_core.specs.Signature.{fits}
@@ -8,6 +8,7 @@ use Rattle.kb_vm.specs.declared.machine.End.TheVariants as end
 use Rattle.kb_vm.specs.declared.trap.Trap.TheVariants.{WrongArgument}
 use Rattle.kb_codes.specs.Callee.{Callee, Table, declared_by}
 use Rattle.kb_vm.specs.Meaning.{World, Answer, Stuck, run_callee, run, first_world, start_callee}
+use Rattle.kb_vm.specs.Memory.{IsBegun}
 use Rattle.kb_vm.specs.Outcome.{Shows, Precedes, Ends, world_of}
 
 abbrev start_if : Table → List ℕ → Callee → List Arg → World → Bool → Answer
@@ -30,8 +31,9 @@ unspent_shows core after lines spent c l s = record {
 
 -- memory is refused before anything is done
 pub lacks_first : (core : Core) (a : Answer) (o : Outcome) → o.core ≡ core → o.lines ≡ [] → o.spent ≡ 0
-    → Precedes (first_world core) (world_of a) → Ends core a o end.NoMemory
-lacks_first core a o c l s keeps = (first_world core, unspent_shows core _ _ _ c l s, keeps, inl refl)
+    → Precedes (first_world core) (world_of a) → IsBegun a → Ends core a o end.NoMemory
+lacks_first core a o c l s keeps begun =
+    (first_world core, unspent_shows core _ _ _ c l s, keeps, inl (refl, begun))
 
 -- what an outcome takes over from a machine
 pub taken_shows : (v : World) (core : Core) (lines : List (List ℕ)) (spent : ℕ) (o : Outcome) → o.core ≡ core

@@ -116,7 +116,7 @@ instr_in : Instr → Result Instr Trap → Instr
 instr_in instr (Ok i) = i
 instr_in instr (Err trap) = instr
 
-trap_in : Trap → Result Instr Trap → Trap
+unfoldable pub trap_in : Trap → Result Instr Trap → Trap
 trap_in trap (Ok i) = trap
 trap_in trap (Err t) = t
 

@@ -20,7 +20,8 @@ pub record Step : Type 0 where
   pub left : ℕ
   pub effect : Effect
 
--- the core, and what has happened so far: lines, the instructions that were begun, and the natives that were called
+-- the core, and what has happened so far: lines, the instructions that were begun, and the natives that were
+-- called
 pub record World : Type 0 where
   pub core : Core
   pub lines : List (List ℕ)

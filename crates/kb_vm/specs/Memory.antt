@@ -4,8 +4,8 @@ use Rattle.kb_core.specs.declared.run.Core.{Core}
 use Rattle.kb_code.specs.declared.instr.Instr.{Instr}
 use Rattle.kb_code.specs.declared.instr.Instr.TheVariants as i
 use Rattle.kb_codes.specs.Callee.{declared_by}
-use Rattle.kb_vm.specs.Effect.{Effect, Stop, Leave, Next, Goto, Enter}
-use Rattle.kb_vm.specs.Meaning.{Step, World, first_world}
+use Rattle.kb_vm.specs.Effect.{Effect, Stop, Enter}
+use Rattle.kb_vm.specs.Meaning.{Step, World, Answer, Done, Stuck, first_world}
 
 -- whether an instruction makes a text
 abbrev pub makes_text : Instr → Bool
@@ -37,6 +37,12 @@ pub record MayBeRefused (s : Step) : Type 0 where
 abbrev pub RefusedLast : World → Type 0
 RefusedLast v = (before : List Step) × (s : Step) × (v.steps ≡ before ++ s ∷ []) × MayBeRefused s
 
--- where memory may be refused: before anything is done, or in the last step
-abbrev pub MayLackAt : Core → World → Type 0
-MayLackAt at_first v = (v ≡ first_world at_first) ⊎ RefusedLast v
+-- no trap comes before an instruction is begun
+abbrev pub IsBegun : Answer → Type 0
+IsBegun (Done w) = Unit {0}
+IsBegun (Stuck trap command place w) = w.steps ≡ [] → ⊥
+
+-- where memory may be refused on the way to an answer: before anything is done, or in the last step, and never in
+-- the place of a trap
+abbrev pub MayLackAt : Core → Answer → World → Type 0
+MayLackAt at_first a v = ((v ≡ first_world at_first) × IsBegun a) ⊎ RefusedLast v

@@ -36,13 +36,8 @@ Ends at_first a o end.Done = (v : World) × Shows v o.core o.lines o.spent × (a
 Ends at_first a o (end.Trap trap command place) =
     (v : World) × Shows v o.core o.lines o.spent × (a ≡ Stuck trap command.now place v)
 Ends at_first a o end.NoMemory =
-    (v : World) × Shows v o.core o.lines o.spent × Precedes v (world_of a) × MayLackAt at_first v
+    (v : World) × Shows v o.core o.lines o.spent × Precedes v (world_of a) × MayLackAt at_first a v
 Ends at_first a o end.NotFound = ⊥
-
--- what holds where memory was refused
-abbrev pub OnNoMemory : End → Type 0 → Type 0
-OnNoMemory end.NoMemory holds = holds
-OnNoMemory _ holds = Unit {0}
 
 -- where no live command has the name, nothing happens
 pub record IsNotFound (at_first : Core) (o : Outcome) : Type 0 where

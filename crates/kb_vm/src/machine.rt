@@ -1,5 +1,5 @@
 //! Frames, and the loop over them.
-ghost use Rattle.std.specs.Prelude.{◌≡◌, ◌≤◌, ◌<◌, ◌+◌, ◌^◌, [], true, IfOk, IfErr, slice_get};
+ghost use Rattle.std.specs.Prelude.{◌≡◌, ◌≤◌, ◌<◌, ◌+◌, ◌^◌, [], true, IfOk, IfErr, is_ok, slice_get};
 ghost use Rattle.kb_core.specs.Native.{budget_of, parameters_of};
 ghost use Rattle.kb_core.specs.Ran.{Does};
 ghost use Rattle.kb_core.specs.Signature.{fits};
@@ -332,20 +332,20 @@ fn act<'r, 'a, L: Commands>(
     }
 }
 
-/// The instruction at a frame's place, if the frame may pay for it.
-fn fetch(frame: &Frame<'_, '_>) -> Result<Instr, Trap>
-    ensures instr { result ≡ fetched_at (slice_get frame.now.handler.code frame.now.place) frame.now.left }
-    ensures paid { IfOk result (λ _. 1 ≤ frame.now.left) }
-    ensures place { IfOk result (λ _. frame.now.place + 1 < 2 ^ 64) }
+/// The instruction at a place of a handler, if as much is left as it costs.
+pub(crate) fn fetch(handler: &Linked<'_>, place: usize, left: u32) -> Result<Instr, Trap>
+    ensures instr { result ≡ fetched_at (slice_get handler.now.code place) left }
+    ensures paid { IfOk result (λ _. 1 ≤ left) }
+    ensures place { IfOk result (λ _. place + 1 < 2 ^ 64) }
 {
-    let code = frame.handler.handler().code();
-    if code.len() <= frame.place {
+    let code = handler.handler().code();
+    if code.len() <= place {
         return Err(Trap::BadCode);
     }
-    if frame.left == 0 {
+    if left == 0 {
         return Err(Trap::OutOfBudget);
     }
-    Ok(code[frame.place])
+    Ok(code[place])
 }
 
 /// Pays for the instruction at the place, and does what it says.
@@ -416,7 +416,8 @@ fn take_turn<'r: 'a, 'a, L: Commands>(
     ensures turned { Turned (L.live commands.now) machine.entry result }
     ensures pays { Pays machine.entry result }
 {
-    match fetch(&machine.frame) {
+    let frame = &machine.frame;
+    match fetch(&frame.handler, frame.place, frame.left) {
         Ok(instr) => run_instr(alloc, arena, commands, machine, instr),
         Err(trap) => Turn::Trapped(machine, trap),
     }
@@ -451,7 +452,7 @@ fn begin<'r, 'a>(
     }
 }
 
-/// Runs a handler from the start, with arguments that fit it.
+/// Runs a handler from the start, with arguments that fit it, where its first instruction is there.
 pub(crate) fn run_handler<'r: 'a, 'a, L: Commands>(
     alloc: Global,
     arena: &'a Arena,
@@ -460,6 +461,7 @@ pub(crate) fn run_handler<'r: 'a, 'a, L: Commands>(
     args: Given<'a>,
     core: Core,
 ) -> Outcome<'r>
+    requires { is_ok (fetched_at (slice_get handler.code 0) handler.signature.budget) ≡ true }
     ensures ends { Ends core (run (L.live commands.now) handler.entry args.entry
         handler.entry.signature.budget 0 [] (first_world core)) result result.finish }
     ensures bound { result.spent ≤ handler.entry.signature.budget }

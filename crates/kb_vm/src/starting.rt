@@ -1,16 +1,17 @@
 //! The start of a command.
-ghost use Rattle.std.specs.Prelude.{◌≡◌, ◌≤◌, [], IfSome, true};
+ghost use Rattle.std.specs.Prelude.{◌≡◌, ◌≤◌, [], IfSome, true, is_ok, slice_get};
 ghost use Rattle.kb_core.specs.Native.{budget_of, parameters_of};
 ghost use Rattle.kb_core.specs.Signature.{fits};
 ghost use Rattle.kb_vm.specs.Action.{IsCallable};
 ghost use Rattle.kb_codes.specs.Callee.{IsLive, declared_by};
 ghost use Rattle.kb_codes.specs.Found.{callee_of};
 ghost use Rattle.kb_vm.specs.Meaning.{Done, first_world, native_called, run, start_callee, start_of};
-ghost use Rattle.kb_vm.specs.Outcome.{Ends, Gives, OnNoMemory};
+ghost use Rattle.kb_vm.specs.Outcome.{Ends, Gives};
+ghost use Rattle.kb_vm.specs.State.{fetched_at};
 
 use crate::arena::Arena;
 use crate::given::{Given, args_fit};
-use crate::machine::{End, Outcome, run_handler};
+use crate::machine::{End, Outcome, fetch, run_handler};
 use crate::trap::Trap;
 use kb_codes::{Commands, Found, Linked};
 use kb_core::{Args, Core, Native, Ran};
@@ -18,11 +19,11 @@ use kb_stream::Lines;
 use std::alloc::Global;
 
 /// Starts a command with arguments on a core. A native costs what its closure answers. A handler runs until
-/// it ends or traps, or until memory is refused, which comes before anything is done, or at an instruction
-/// that makes a text or calls a command, and never in the place of a trap. Each instruction that is begun costs 1, also one that traps,
+/// it ends or traps, or until memory is refused. Each instruction that is begun costs 1, also one that traps,
 /// and each native that is called what its closure answers. A callee's budget is taken from its caller's
 /// allowance whatever it costs, and so the whole costs at most the started command's budget. Arguments that
-/// don't fit the command are a trap at place 0 (our decisions).
+/// don't fit the command are a trap at place 0. Memory is refused only before anything is done, or at an
+/// instruction that makes a text or calls a command, and never in the place of a trap (our decisions).
 pub fn start<'r, L: Commands>(
     alloc: Global,
     commands: &'r L,
@@ -33,8 +34,6 @@ pub fn start<'r, L: Commands>(
     ensures answer { Gives (start_of (L.live commands.now) command.now args core) core result }
     ensures bound { IfSome (L.live commands.now command.now)
         (λ callee. result.spent ≤ (declared_by callee).budget) }
-    ensures fit { OnNoMemory result.finish (IfSome (L.live commands.now command.now)
-        (λ callee. fits (declared_by callee).params args ≡ true)) }
 {
     match commands.command(command, Native::named(command)) {
         Some(callee) => start_found(alloc, commands, command, callee, args, core),
@@ -70,7 +69,6 @@ fn start_found<'r, L: Commands>(
     ensures ends { Ends core (start_callee (L.live commands.now) command.now (callee_of callee.entry) args
         (first_world core)) result result.finish }
     ensures bound { result.spent ≤ (declared_by (callee_of callee.entry)).budget }
-    ensures fit { OnNoMemory result.finish (fits (declared_by (callee_of callee.entry)).params args ≡ true) }
 {
     if !args_fit(&callee, &args) {
         return unspent(alloc, core, End::Trap(Trap::WrongArgument, command, 0));
@@ -89,6 +87,28 @@ fn start_handler<'r, L: Commands>(
     args: Args,
     core: Core,
 ) -> Outcome<'r>
+    ensures ends { Ends core (run (L.live commands.now) handler.entry args
+        handler.entry.signature.budget 0 [] (first_world core)) result result.finish }
+    ensures bound { result.spent ≤ handler.entry.signature.budget }
+{
+    match fetch(&handler, 0, handler.handler().signature().budget()) {
+        Ok(_) => start_begun(alloc, commands, handler, args, core),
+        Err(trap) => {
+            let command = handler.handler().command().as_str();
+            unspent(alloc, core, End::Trap(trap, command, 0))
+        }
+    }
+}
+
+/// Starts a handler whose first instruction is there.
+fn start_begun<'r, L: Commands>(
+    alloc: Global,
+    commands: &'r L,
+    handler: Linked<'r>,
+    args: Args,
+    core: Core,
+) -> Outcome<'r>
+    requires { is_ok (fetched_at (slice_get handler.code 0) handler.signature.budget) ≡ true }
     ensures ends { Ends core (run (L.live commands.now) handler.entry args
         handler.entry.signature.budget 0 [] (first_world core)) result result.finish }
     ensures bound { result.spent ≤ handler.entry.signature.budget }

@@ -2,6 +2,7 @@ use Rattle.std.proofs.Common.{inl, inr, refl, sym, subst, []}
 use Rattle.kb_vm.specs.Meaning.{run, first_world}
 use Rattle.kb_vm.specs.Outcome.{Ends, Precedes, world_of}
 use Rattle.kb_vm.proofs.Frames.{run_keeps}
+use Rattle.kb_vm.proofs.Begun.{first_begun}
 use Rattle.kb_vm.proofs.Starts.{unspent_shows, taken_shows}
 use Rattle.kb_vm.proofs.Turns.{begun, begun_shows, begun_bound}
 use Rattle.kb_vm.proofs.machine.run_handler.Goals as goal
@@ -13,7 +14,7 @@ returns-in-Err-clause-ends g c =
       w,
       unspent_shows c.args.core _ _ 0 c.in-Err.ensures.err c.new.ensures refl,
       run_keeps (g.L.Commands.live c.args.commands.now) h c.args.args h.signature.budget 0 [] w,
-      inl refl,
+      inl (refl, first_begun (g.L.Commands.live c.args.commands.now) h c.args.args w c.requires),
     )
 
 pub loop-next-init : goal.loop-next-init

@@ -13,4 +13,4 @@ returns-in-Err-clause-ends g c =
     let same : c.call-core.result.core ≡ c.args.core = search rules in
     subst (Ends c.args.core a o.result) (sym o.ensures.finish)
     (lacks_first c.args.core a o.result (o.ensures.core ∙ same) o.ensures.lines o.ensures.spent
-    (precedes_native c.args.native c.args.args w))
+    (precedes_native c.args.native c.args.args w) tt)
