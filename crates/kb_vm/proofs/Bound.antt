@@ -8,7 +8,7 @@ use Rattle.kb_code.specs.Handler.{HandlerData}
 use Rattle.kb_vm.specs.declared.trap.Trap.TheVariants.{OutOfBudget, BadCode}
 use Rattle.kb_codes.specs.Callee.{Callee, Plain, Coded, Table, declared_by}
 use Rattle.kb_vm.specs.Effect.{Effect, Stop, Leave, Next, Goto, Enter, effect}
-use Rattle.kb_vm.specs.Meaning.{World, counted, with_line, Answer, Done, Stuck, and_then, fetched, Runner, run_callee}
+use Rattle.kb_vm.specs.Meaning.{World, with_step, with_line, Answer, Done, Stuck, and_then, fetched, Runner, run_callee}
 use Rattle.kb_vm.specs.Meaning.{follow, step, go, run}
 use borrow.Author.Tests.{leb-true}
 
@@ -65,13 +65,16 @@ module _ (f g : Runner) (limit : ℕ) (same : Agree f g limit) where
   fetched_same : (table : Table) (h : HandlerData) (args : List Arg) (place : ℕ) (operands : List Arg) (w : World)
       (o : Option Instr) (left : ℕ) → left ≤ limit
       → fetched o left (λ trap. Stuck trap h.command place w) (λ instr rest.
-      follow f h args rest place (counted w) (effect table h args w.core operands instr))
+      let e = effect table h args w.core operands instr in
+      follow f h args rest place (with_step instr rest e w) e)
       ≡ fetched o left (λ trap. Stuck trap h.command place w) (λ instr rest.
-      follow g h args rest place (counted w) (effect table h args w.core operands instr))
+      let e = effect table h args w.core operands instr in
+      follow g h args rest place (with_step instr rest e w) e)
   fetched_same table h args place operands w None left le = refl
   fetched_same table h args place operands w (Some instr) zero le = refl
   fetched_same table h args place operands w (Some instr) (suc left) le =
-      follow_same h args left place (counted w) (effect table h args w.core operands instr) (omega arith)
+      let e = effect table h args w.core operands instr in
+      follow_same h args left place (with_step instr left e w) e (omega arith)
 
 -- any two bounds above the allowance
 bounds_same : (table : Table) (n m : ℕ) (h : HandlerData) (args : List Arg) (left place : ℕ) (operands : List Arg)

@@ -25,3 +25,7 @@ other_lengths_seen f g xs ys h =
 pub other_lengths_of : {Y : Type 0} (g : Y → Arg) (ps : List Param) (ys : List Y)
     → (length ps ≡ length ys → ⊥) → false ≡ fits ps (map g ys)
 other_lengths_of g ps ys h = other_lengths ps (map g ys) (λ e. h (e ∙ length-map ys g))
+
+pub other_lengths_in : {X : Type 0} (f : X → Param) (xs : List X) (args : List Arg)
+    → (length xs ≡ length args → ⊥) → false ≡ fits (map f xs) args
+other_lengths_in f xs args h = other_lengths (map f xs) args (λ e. h (sym (length-map xs f) ∙ e))

@@ -1,4 +1,4 @@
--- The frames that wait, and the lines.
+-- The frames that wait, and what has happened before.
 use Rattle.std.proofs.Common.{◌≡◌, ℕ, zero, suc, ◌+◌, ◌-◌, Bool, true, false, List, [], ◌∷◌, ◌++◌, Option, Some, None}
 use Rattle.std.proofs.Common.{nat_le, refl, sym, ap, ◌∙◌, if◌then◌else◌, append_assoc}
 use Rattle.std.specs.Prelude.{slice_get, nat_lt}
@@ -13,10 +13,11 @@ use Rattle.kb_vm.specs.declared.trap.Trap.{Trap}
 use Rattle.kb_vm.specs.declared.trap.Trap.TheVariants.{OutOfBudget, BadCode}
 use Rattle.kb_codes.specs.Callee.{Callee, Plain, Coded, Table, declared_by}
 use Rattle.kb_vm.specs.Effect.{Effect, Stop, Leave, Next, Goto, Enter, effect}
-use Rattle.kb_vm.specs.Meaning.{World, counted, with_line, native_called, Answer, Done, Stuck, and_then, fetched}
+use Rattle.kb_vm.specs.CallLine.{call_line}
+use Rattle.kb_vm.specs.Meaning.{World, with_step, with_line, native_called, Answer, Done, Stuck, and_then, fetched}
 use Rattle.kb_vm.specs.Meaning.{Runner, run_callee, follow, go, run}
-use Rattle.kb_vm.specs.Outcome.{lines_of, BeginsWith}
-use Rattle.kb_vm.specs.State.{resume, finish, rest, rest_of, after_native, after_coded, after_instr}
+use Rattle.kb_vm.specs.Outcome.{world_of, BeginsWith, Precedes}
+use Rattle.kb_vm.specs.State.{resume, finish, rest, rest_of, after_native, after_coded, after_instr, stepped}
 
 pub finish_more : (table : Table) (fs : List Frame) (f : Frame) (a : Answer)
     → finish table (fs ++ f ∷ []) a ≡ finish table fs (and_then a (resume table f))
@@ -29,55 +30,86 @@ finish_stuck table [] trap command place w = refl
 finish_stuck table (g ∷ fs) trap command place w =
     ap (λ b. and_then b (resume table g)) (finish_stuck table fs trap command place w)
 
-pub begins_same : (xs : List (List ℕ)) → BeginsWith xs xs
+-- a list is the beginning of itself, and of what goes on behind it
+begins_same : {X : Type 0} (xs : List X) → BeginsWith xs xs
 begins_same xs = ([], sym (append-nil xs))
 
-begins_more : (xs ys zs : List (List ℕ)) → BeginsWith xs (ys ++ zs) → BeginsWith xs ys
-begins_more xs ys zs b = (zs ++ b.0, b.1 ∙ append_assoc ys zs b.0)
-
-begins_on : (xs ys zs : List (List ℕ)) → BeginsWith xs ys → BeginsWith ys zs → BeginsWith xs zs
+begins_on : {X : Type 0} (xs ys zs : List X) → BeginsWith xs ys → BeginsWith ys zs → BeginsWith xs zs
 begins_on xs ys zs a b = (b.0 ++ a.0, a.1 ∙ ap (λ l. l ++ a.0) b.1 ∙ append_assoc zs b.0 a.0)
 
-pub begins_is : (xs ys zs : List (List ℕ)) → ys ≡ zs → BeginsWith xs ys → BeginsWith xs zs
-begins_is xs ys zs e b = (b.0, b.1 ∙ ap (λ l. l ++ b.0) e)
+pub precedes_same : (w : World) → Precedes w w
+precedes_same w = record {
+  lines = begins_same w.lines;
+  steps = begins_same w.steps;
+  natives = begins_same w.natives;
+}
 
--- the lines of what is run begin with those that there were
+precedes_on : (u v w : World) → Precedes u v → Precedes v w → Precedes u w
+precedes_on u v w p q = record {
+  lines = begins_on w.lines v.lines u.lines q.lines p.lines;
+  steps = begins_on w.steps v.steps u.steps q.steps p.steps;
+  natives = begins_on w.natives v.natives u.natives q.natives p.natives;
+}
+
+precedes_line : (name : List ℕ) (args : List Arg) (w : World) → Precedes w (with_line name args w)
+precedes_line name args w = record {
+  lines = (call_line name args ∷ [], refl);
+  steps = begins_same w.steps;
+  natives = begins_same w.natives;
+}
+
+precedes_step : (instr : Instr) (left : ℕ) (e : Effect) (w : World) → Precedes w (with_step instr left e w)
+precedes_step instr left e w = record {
+  lines = begins_same w.lines;
+  steps = (record { instr = instr; left = left; effect = e } ∷ [], refl);
+  natives = begins_same w.natives;
+}
+
+pub precedes_native : (n : Native) (args : List Arg) (w : World) → Precedes w (native_called n args w)
+precedes_native n args w = record {
+  lines = begins_same w.lines;
+  steps = begins_same w.steps;
+  natives = (n ∷ [], refl);
+}
+
+-- what was there stays in what is run
 abbrev Keeps : Runner → Type 0
 Keeps f = (h : HandlerData) (args : List Arg) (left place : ℕ) (operands : List Arg) (w : World)
-    → BeginsWith (lines_of (f h args left place operands w)) w.lines
+    → Precedes w (world_of (f h args left place operands w))
 
-and_then_keeps : (a : Answer) (on : World → Answer) (xs : List (List ℕ))
-    → ((v : World) → BeginsWith (lines_of (on v)) v.lines) → BeginsWith (lines_of a) xs
-    → BeginsWith (lines_of (and_then a on)) xs
-and_then_keeps (Done v) on xs keeps b = begins_on _ v.lines xs (keeps v) b
-and_then_keeps (Stuck trap command place v) on xs keeps b = b
+and_then_keeps : (a : Answer) (on : World → Answer) (x : World)
+    → ((v : World) → Precedes v (world_of (on v))) → Precedes x (world_of a)
+    → Precedes x (world_of (and_then a on))
+and_then_keeps (Done v) on x keeps p = precedes_on x v (world_of (on v)) p (keeps v)
+and_then_keeps (Stuck trap command place v) on x keeps p = p
 
 module _ (f : Runner) (keeps : Keeps f) where
-  pub callee_keeps : (callee : Callee) (args : List Arg) (w : World)
-      → BeginsWith (lines_of (run_callee f callee args w)) w.lines
-  callee_keeps (Plain n) args w = begins_same w.lines
+  callee_keeps : (callee : Callee) (args : List Arg) (w : World)
+      → Precedes w (world_of (run_callee f callee args w))
+  callee_keeps (Plain n) args w = precedes_native n args w
   callee_keeps (Coded h) args w = keeps h args h.signature.budget 0 [] w
 
   goto_keeps : (h : HandlerData) (args : List Arg) (left place to : ℕ) (operands : List Arg) (w : World) (b : Bool)
-      → BeginsWith (lines_of (if b then f h args left to operands w else Stuck BadCode h.command place w)) w.lines
-  goto_keeps h args left place to operands w false = begins_same w.lines
+      → Precedes w (world_of (if b then f h args left to operands w else Stuck BadCode h.command place w))
+  goto_keeps h args left place to operands w false = precedes_same w
   goto_keeps h args left place to operands w true = keeps h args left to operands w
 
   enter_keeps : (h : HandlerData) (args : List Arg) (left place : ℕ) (w : World) (name : List ℕ) (callee : Callee)
       (given operands : List Arg) (b : Bool)
-      → BeginsWith (lines_of (if b then and_then (run_callee f callee given (with_line name given w))
+      → Precedes w (world_of (if b then and_then (run_callee f callee given (with_line name given w))
       (λ u. f h args (left - (declared_by callee).budget) (place + 1) operands u)
-      else Stuck OutOfBudget h.command place w)) w.lines
-  enter_keeps h args left place w name callee given operands false = begins_same w.lines
+      else Stuck OutOfBudget h.command place w))
+  enter_keeps h args left place w name callee given operands false = precedes_same w
   enter_keeps h args left place w name callee given operands true =
-      and_then_keeps (run_callee f callee given (with_line name given w)) _ w.lines
+      and_then_keeps (run_callee f callee given (with_line name given w)) _ w
       (λ u. keeps h args (left - (declared_by callee).budget) (place + 1) operands u)
-      (begins_more _ w.lines _ (callee_keeps callee given (with_line name given w)))
+      (precedes_on w (with_line name given w) _ (precedes_line name given w)
+      (callee_keeps callee given (with_line name given w)))
 
-  follow_keeps : (h : HandlerData) (args : List Arg) (left place : ℕ) (w : World) (e : Effect)
-      → BeginsWith (lines_of (follow f h args left place w e)) w.lines
-  follow_keeps h args left place w (Stop trap) = begins_same w.lines
-  follow_keeps h args left place w Leave = begins_same w.lines
+  pub follow_keeps : (h : HandlerData) (args : List Arg) (left place : ℕ) (w : World) (e : Effect)
+      → Precedes w (world_of (follow f h args left place w e))
+  follow_keeps h args left place w (Stop trap) = precedes_same w
+  follow_keeps h args left place w Leave = precedes_same w
   follow_keeps h args left place w (Next operands) = keeps h args left (place + 1) operands w
   follow_keeps h args left place w (Goto to operands) =
       goto_keeps h args left place to operands w (nat_lt place to)
@@ -86,15 +118,18 @@ module _ (f : Runner) (keeps : Keeps f) where
 
   fetched_keeps : (table : Table) (h : HandlerData) (args : List Arg) (place : ℕ) (operands : List Arg) (w : World)
       (o : Option Instr) (left : ℕ)
-      → BeginsWith (lines_of (fetched o left (λ trap. Stuck trap h.command place w) (λ instr rest.
-      follow f h args rest place (counted w) (effect table h args w.core operands instr)))) w.lines
-  fetched_keeps table h args place operands w None left = begins_same w.lines
-  fetched_keeps table h args place operands w (Some instr) zero = begins_same w.lines
+      → Precedes w (world_of (fetched o left (λ trap. Stuck trap h.command place w) (λ instr rest.
+      let e = effect table h args w.core operands instr in
+      follow f h args rest place (with_step instr rest e w) e)))
+  fetched_keeps table h args place operands w None left = precedes_same w
+  fetched_keeps table h args place operands w (Some instr) zero = precedes_same w
   fetched_keeps table h args place operands w (Some instr) (suc left) =
-      follow_keeps h args left place (counted w) (effect table h args w.core operands instr)
+      let e = effect table h args w.core operands instr in
+      precedes_on w (with_step instr left e w) _ (precedes_step instr left e w)
+      (follow_keeps h args left place (with_step instr left e w) e)
 
 go_keeps : (table : Table) (n : ℕ) → Keeps (go n table)
-go_keeps table zero = λ h args left place operands w. begins_same w.lines
+go_keeps table zero = λ h args left place operands w. precedes_same w
 go_keeps table (suc n) = λ h args left place operands w.
     fetched_keeps (go n table) (go_keeps table n) table h args place operands w (slice_get h.code place) left
 
@@ -102,42 +137,44 @@ pub run_keeps : (table : Table) → Keeps (run table)
 unfolding run
 run_keeps table = λ h args left place operands w. go_keeps table (suc left) h args left place operands w
 
-resume_keeps : (table : Table) (f : Frame) (v : World) → BeginsWith (lines_of (resume table f v)) v.lines
+resume_keeps : (table : Table) (f : Frame) (v : World) → Precedes v (world_of (resume table f v))
 resume_keeps table f v = run_keeps table f.handler f.args f.left f.place f.operands v
 
-finish_keeps : (table : Table) (fs : List Frame) (a : Answer) (xs : List (List ℕ))
-    → BeginsWith (lines_of a) xs → BeginsWith (lines_of (finish table fs a)) xs
-finish_keeps table [] a xs b = b
-finish_keeps table (f ∷ fs) a xs b =
-    and_then_keeps (finish table fs a) (resume table f) xs (resume_keeps table f) (finish_keeps table fs a xs b)
+finish_keeps : (table : Table) (fs : List Frame) (a : Answer) (x : World)
+    → Precedes x (world_of a) → Precedes x (world_of (finish table fs a))
+finish_keeps table [] a x p = p
+finish_keeps table (f ∷ fs) a x p =
+    and_then_keeps (finish table fs a) (resume table f) x (resume_keeps table f) (finish_keeps table fs a x p)
 
--- what is left to do begins with the lines that there were
-pub rest_keeps : (table : Table) (m : Machine) (w : World) → BeginsWith (lines_of (rest table m w)) w.lines
-rest_keeps table m w = finish_keeps table m.callers.items _ w.lines (resume_keeps table m.frame w)
+-- what is left to do goes on from what was there
+rest_keeps : (table : Table) (m : Machine) (w : World) → Precedes w (world_of (rest table m w))
+rest_keeps table m w = finish_keeps table m.callers.items _ w (resume_keeps table m.frame w)
 
 pub native_keeps : (table : Table) (m : Machine) (n : Native) (args : List Arg) (w : World)
-    → BeginsWith (lines_of (after_native table m n args w)) w.lines
-native_keeps table m n args w = rest_keeps table m (native_called n args w)
+    → Precedes w (world_of (after_native table m n args w))
+native_keeps table m n args w =
+    precedes_on w (native_called n args w) _ (precedes_native n args w) (rest_keeps table m (native_called n args w))
 
 pub coded_keeps : (table : Table) (m : Machine) (h : HandlerData) (args : List Arg) (w : World)
-    → BeginsWith (lines_of (after_coded table m h args w)) w.lines
+    → Precedes w (world_of (after_coded table m h args w))
 coded_keeps table m h args w =
-    finish_keeps table m.callers.items _ w.lines
-    (and_then_keeps (run table h args h.signature.budget 0 [] w) (resume table m.frame) w.lines
+    finish_keeps table m.callers.items _ w
+    (and_then_keeps (run table h args h.signature.budget 0 [] w) (resume table m.frame) w
     (resume_keeps table m.frame) (run_keeps table h args h.signature.budget 0 [] w))
 
 pub rest_of_keeps : (table : Table) (m : Machine) (e : Effect) (w : World)
-    → BeginsWith (lines_of (rest_of table m e w)) w.lines
+    → Precedes w (world_of (rest_of table m e w))
 rest_of_keeps table m e w =
-    finish_keeps table m.callers.items _ w.lines
+    finish_keeps table m.callers.items _ w
     (follow_keeps (run table) (run_keeps table) m.frame.handler m.frame.args m.frame.left m.frame.place w e)
 
+-- the step is what was there, too
 pub instr_keeps : (table : Table) (m : Machine) (instr : Instr) (w : World)
-    → BeginsWith (lines_of (after_instr table m instr w)) w.lines
+    → Precedes (stepped table m instr w) (world_of (after_instr table m instr w))
 instr_keeps table m instr w =
-    finish_keeps table m.callers.items _ w.lines
+    finish_keeps table m.callers.items _ (stepped table m instr w)
     (follow_keeps (run table) (run_keeps table) m.frame.handler m.frame.args (m.frame.left - 1) m.frame.place
-    (counted w) (effect table m.frame.handler m.frame.args w.core m.frame.operands instr))
+    (stepped table m instr w) (effect table m.frame.handler m.frame.args w.core m.frame.operands instr))
 
 -- a handler gets a frame, and its caller waits
 pub coded_rest : (table : Table) (m : Machine) (h : HandlerData) (args : List Arg) (w : World) (fs : List Frame)

@@ -1,27 +1,18 @@
 -- The start of a command, where nothing ran.
-use Rattle.std.proofs.Common.{◌≡◌, ℕ, List, [], Bool, true, false, sym, ap, arith, if◌then◌else◌}
+use Rattle.std.proofs.Common.{◌≡◌, inl, ℕ, List, [], Bool, false, refl, sym, ap, arith, if◌then◌else◌, ◌∙◌}
 use Rattle.kb_core.specs.declared.arg.Arg.{Arg}
 use Rattle.kb_core.specs.declared.run.Core.{Core}
 use Rattle.kb_core.specs.Signature.{fits}
 use Rattle.kb_vm.specs.declared.machine.Outcome.{Outcome}
+use Rattle.kb_vm.specs.declared.machine.End.TheVariants as end
 use Rattle.kb_vm.specs.declared.trap.Trap.TheVariants.{WrongArgument}
 use Rattle.kb_codes.specs.Callee.{Callee, Table, declared_by}
 use Rattle.kb_vm.specs.Meaning.{World, Answer, Stuck, run_callee, run, first_world, start_callee}
-use Rattle.kb_vm.specs.Outcome.{Shows, BeginsWith, lines_of}
-use Rattle.kb_vm.proofs.Frames.{begins_same, callee_keeps, run_keeps}
+use Rattle.kb_vm.specs.Memory.{IsBegun}
+use Rattle.kb_vm.specs.Outcome.{Shows, Precedes, Ends, world_of}
 
 abbrev start_if : Table → List ℕ → Callee → List Arg → World → Bool → Answer
 start_if table name callee args w b = if b then run_callee (run table) callee args w else Stuck WrongArgument name 0 w
-
-if_keeps : (table : Table) (name : List ℕ) (callee : Callee) (args : List Arg) (w : World) (b : Bool)
-    → BeginsWith (lines_of (start_if table name callee args w b)) w.lines
-if_keeps table name callee args w false = begins_same w.lines
-if_keeps table name callee args w true = callee_keeps (run table) (run_keeps table) callee args w
-
--- what a start gives begins with the lines that there were
-pub start_keeps : (table : Table) (name : List ℕ) (callee : Callee) (args : List Arg) (w : World)
-    → BeginsWith (lines_of (start_callee table name callee args w)) w.lines
-start_keeps table name callee args w = if_keeps table name callee args w (fits (declared_by callee).params args)
 
 -- arguments that don't fit
 pub misfit : (table : Table) (name : List ℕ) (callee : Callee) (args : List Arg) (w : World)
@@ -29,11 +20,27 @@ pub misfit : (table : Table) (name : List ℕ) (callee : Callee) (args : List Ar
     → start_callee table name callee args w ≡ Stuck WrongArgument name 0 w
 misfit table name callee args w unfit = ap (start_if table name callee args w) unfit
 
-pub unspent_shows : (core : Core) (o : Outcome) → o.core ≡ core → o.lines ≡ [] → o.spent ≡ 0
-    → Shows (first_world core) o.core o.lines o.spent
-unspent_shows core o c l s = record {
+pub unspent_shows : (core after : Core) (lines : List (List ℕ)) (spent : ℕ) → after ≡ core → lines ≡ []
+    → spent ≡ 0 → Shows (first_world core) after lines spent
+unspent_shows core after lines spent c l s = record {
   core_is = sym c;
   lines_are = sym l;
   at_least = omega arith;
   at_most = omega (arith, s);
+}
+
+-- memory is refused before anything is done
+pub lacks_first : (core : Core) (a : Answer) (o : Outcome) → o.core ≡ core → o.lines ≡ [] → o.spent ≡ 0
+    → Precedes (first_world core) (world_of a) → IsBegun a → Ends core a o end.NoMemory
+lacks_first core a o c l s keeps begun =
+    (first_world core, unspent_shows core _ _ _ c l s, keeps, inl (refl, begun))
+
+-- what an outcome takes over from a machine
+pub taken_shows : (v : World) (core : Core) (lines : List (List ℕ)) (spent : ℕ) (o : Outcome) → o.core ≡ core
+    → o.lines ≡ lines → o.spent ≡ spent → Shows v core lines spent → Shows v o.core o.lines o.spent
+taken_shows v core lines spent o c l s shows = record {
+  core_is = shows.core_is ∙ sym c;
+  lines_are = shows.lines_are ∙ sym l;
+  at_least = omega (arith, s, shows.at_least);
+  at_most = omega (arith, s, shows.at_most);
 }

@@ -13,9 +13,9 @@ use Rattle.kb_vm.specs.declared.machine.Turn.TheVariants as turn
 use Rattle.kb_vm.specs.declared.trap.Trap.TheVariants.{OutOfBudget, BadCode}
 use Rattle.kb_vm.specs.CallLine.{call_line}
 use Rattle.kb_codes.specs.Callee.{Callee, Plain, Coded, Table, declared_by}
-use Rattle.kb_vm.specs.Effect.{Enter, Goto, effect}
-use Rattle.kb_vm.specs.Meaning.{World, counted, with_line, Answer, Done, Stuck, and_then, fetched, run_callee, follow, run}
-use Rattle.kb_vm.specs.Meaning.{native_called, first_world}
+use Rattle.kb_vm.specs.Effect.{Effect, Enter, Goto, effect}
+use Rattle.kb_vm.specs.Meaning.{World, with_step, with_line, Answer, Done, Stuck, and_then, fetched, run_callee, follow, run}
+use Rattle.kb_vm.specs.Meaning.{native_called, first_world, Step}
 use Rattle.kb_vm.specs.Outcome.{Shows}
 use Rattle.kb_vm.specs.State.{finish, rest, rest_of, TurnedFrom, PaysFrom, credit, Begins, fetched_at, after_instr}
 use Rattle.kb_vm.specs.Action.{IsCallable}
@@ -27,6 +27,7 @@ use Rattle.kb_core.specs.Core.{core_after}
 use Rattle.kb_core.specs.Native.{budget_of}
 use Rattle.std.specs.Prelude.{sum_by, Result, Ok, Err, is_ok}
 use Rattle.std.proofs.lemmas.List.Sums.{sum_by-append}
+use Rattle.std.proofs.lemmas.List.{length-append}
 use Rattle.kb_vm.specs.Leave.{Keeps, Left}
 use Rattle.kb_vm.proofs.Bound.{run_step}
 use Rattle.kb_vm.proofs.Frames.{finish_stuck}
@@ -88,18 +89,21 @@ line_shows w core lines more spent name given is s = record {
   at_most = s.at_most;
 }
 
-pub counted_shows : (w : World) (core : Core) (lines : List (List ℕ)) (spent : ℕ) → Shows w core lines spent
-    → Shows (counted w) core lines (spent + 1)
-counted_shows w core lines spent s = record {
-  core_is = s.core_is;
-  lines_are = s.lines_are;
-  at_least = omega (arith, s.at_least);
-  at_most = omega (arith, s.at_most);
-}
+pub step_shows : (instr : Instr) (left : ℕ) (e : Effect) (w : World) (core : Core) (lines : List (List ℕ))
+    (spent : ℕ) → Shows w core lines spent → Shows (with_step instr left e w) core lines (spent + 1)
+step_shows instr left e w core lines spent s =
+    let s' : Step = record { instr = instr; left = left; effect = e } in
+    let more = length-append w.steps (s' ∷ []) in
+    record {
+      core_is = s.core_is;
+      lines_are = s.lines_are;
+      at_least = omega (arith, s.at_least, more);
+      at_most = omega (arith, s.at_most, more);
+    }
 
 -- what is left to do, by the instruction at the place and the allowance
 at_place : Table → Machine → World → Option Instr → ℕ → Answer
-at_place table m w o left = finish table m.callers.items (fetched o left (λ trap. Stuck trap m.frame.handler.command m.frame.place w) (λ instr rest. follow (run table) m.frame.handler m.frame.args rest m.frame.place (counted w) (effect table m.frame.handler m.frame.args w.core m.frame.operands instr)))
+at_place table m w o left = finish table m.callers.items (fetched o left (λ trap. Stuck trap m.frame.handler.command m.frame.place w) (λ instr rest. let e = effect table m.frame.handler m.frame.args w.core m.frame.operands instr in follow (run table) m.frame.handler m.frame.args rest m.frame.place (with_step instr rest e w) e))
 
 rest_at : (table : Table) (m : Machine) (w : World)
     → rest table m w ≡ at_place table m w (slice_get m.frame.handler.code m.frame.place) m.frame.left
@@ -112,7 +116,7 @@ instr_in : Instr → Result Instr Trap → Instr
 instr_in instr (Ok i) = i
 instr_in instr (Err trap) = instr
 
-trap_in : Trap → Result Instr Trap → Trap
+unfoldable pub trap_in : Trap → Result Instr Trap → Trap
 trap_in trap (Ok i) = trap
 trap_in trap (Err t) = t
 

@@ -1,6 +1,8 @@
 -- Worked rows of the definitions: small commands in code, from their start.
-use Rattle.std.proofs.Common.{◌≡◌, ℕ, List, [], ◌∷◌, Option, Some, None, refl, if◌then◌else◌, codes, bytes_eq}
+use Rattle.std.proofs.Common.{◌≡◌, ℕ, List, [], ◌∷◌, Option, Some, None, refl, if◌then◌else◌, codes, bytes_eq, length}
+use Rattle.std.proofs.Common.{option_map}
 use Rattle.json.specs.Print.{print_from, escape_byte}
+use Rattle.kb_core.specs.declared.native.Native.{Native}
 use Rattle.kb_core.specs.declared.native.Native.TheVariants.{TypeText}
 use Rattle.kb_core.specs.declared.run.Core.{Core}
 use Rattle.kb_core.specs.Core.{new_core}
@@ -32,66 +34,81 @@ table budget code name =
 first : Core
 first = new_core (record { scopes = []; focus = 0 })
 
-started : ℕ → List Instr → Option Answer
-started budget code = start_of (table budget code) (codes "x.hi") [] first
+-- what a row tells of an answer: its trap with the place, and what has happened, with the number of instructions
+record Row : Type 0 where
+  trap : Option (Trap × ℕ)
+  core : Core
+  lines : List (List ℕ)
+  count : ℕ
+  natives : List Native
 
--- before anything, but for so many instructions
-after_instructions : ℕ → World
-after_instructions count = record { core = first; lines = []; count = count; natives = [] }
+row_in : Option (Trap × ℕ) → World → Row
+row_in trap w = record { trap = trap; core = w.core; lines = w.lines; count = length w.steps; natives = w.natives }
 
-stuck : Trap → ℕ → ℕ → Option Answer
-stuck trap place count = Some (Stuck trap (codes "x.hi") place (after_instructions count))
+row_of : Answer → Row
+row_of (Done w) = row_in None w
+row_of (Stuck trap command place w) = row_in (Some (trap, place)) w
+
+started : ℕ → List Instr → Option Row
+started budget code = option_map row_of (start_of (table budget code) (codes "x.hi") [] first)
+
+-- a trap at a place, before anything has happened but for so many instructions
+stuck : Trap → ℕ → ℕ → Option Row
+stuck trap place count =
+    Some (record { trap = Some (trap, place); core = first; lines = []; count = count; natives = [] })
 
 -- three instructions and a native: "hi" is typed
 types_hi : started 1004 (i.Text 0 ∷ i.Call 0 ∷ i.Return ∷ [])
-    ≡ Some (Done (record {
+    ≡ Some (record {
+      trap = None;
       core = record { buffer = record { before = codes "hi"; after = [] }; scopes = first.scopes };
       lines = codes "call type [\"hi\"]" ∷ [];
       count = 3;
       natives = TypeText ∷ [];
-    }))
-unfolding handler table first started run list_text print_from escape_byte
+    })
+unfolding handler table first row_in row_of started run list_text print_from escape_byte
 types_hi = refl
 
 -- a budget that holds the callee's, and one instruction too few behind it
 one_too_few : started 1003 (i.Text 0 ∷ i.Call 0 ∷ i.Return ∷ [])
-    ≡ Some (Stuck OutOfBudget (codes "x.hi") 2 (record {
+    ≡ Some (record {
+      trap = Some (OutOfBudget, 2);
       core = record { buffer = record { before = codes "hi"; after = [] }; scopes = first.scopes };
       lines = codes "call type [\"hi\"]" ∷ [];
       count = 2;
       natives = TypeText ∷ [];
-    }))
-unfolding handler table first started run list_text print_from escape_byte
+    })
+unfolding handler table first row_in row_of started run list_text print_from escape_byte
 one_too_few = refl
 
 -- a callee's budget is more than is left
 too_dear : started 1002 (i.Text 0 ∷ i.Call 0 ∷ i.Return ∷ []) ≡ stuck OutOfBudget 1 2
-unfolding handler table first started stuck after_instructions run
+unfolding handler table first row_in row_of started stuck run
 too_dear = refl
 
 no_operand : started 9 (i.Add ∷ []) ≡ stuck MissingOperand 0 1
-unfolding handler table first started stuck after_instructions run
+unfolding handler table first row_in row_of started stuck run
 no_operand = refl
 
 no_command : started 9 (i.Call 2 ∷ []) ≡ stuck UnknownCommand 0 1
-unfolding handler table first started stuck after_instructions run
+unfolding handler table first row_in row_of started stuck run
 no_command = refl
 
 wrong_kind : started 9 (i.Num 1 ∷ i.Call 0 ∷ []) ≡ stuck WrongArgument 1 2
-unfolding handler table first started stuck after_instructions run
+unfolding handler table first row_in row_of started stuck run
 wrong_kind = refl
 
 -- it would call itself, whose depth is its own
 too_deep : started 9 (i.Call 1 ∷ []) ≡ stuck TooDeep 0 1
-unfolding handler table first started stuck after_instructions run
+unfolding handler table first row_in row_of started stuck run
 too_deep = refl
 
 -- it goes on behind its code, for which nothing is paid
 no_code : started 9 (i.Num 1 ∷ []) ≡ stuck BadCode 1 1
-unfolding handler table first started stuck after_instructions run
+unfolding handler table first row_in row_of started stuck run
 no_code = refl
 
 -- it would jump to its own place
 no_way_back : started 9 (i.Jump 0 ∷ []) ≡ stuck BadCode 0 1
-unfolding handler table first started stuck after_instructions run
+unfolding handler table first row_in row_of started stuck run
 no_way_back = refl

@@ -3,10 +3,10 @@ use Rattle.std.specs.Prelude.{◌≡◌, ◌≤◌, ℕ, List, Bool, true, false
 use Rattle.kb_core.specs.declared.arg.Arg.{Arg}
 use Rattle.kb_core.specs.Signature.{fits}
 use Rattle.kb_code.specs.declared.instr.Instr.{Instr}
-use Rattle.kb_code.specs.declared.instr.Instr.TheVariants as i
 use Rattle.kb_vm.specs.declared.action.Action.{Action}
 use Rattle.kb_vm.specs.declared.action.Action.TheVariants as action
 use Rattle.kb_codes.specs.Callee.{Callee, Plain, Coded, Table, IsLive, declared_by}
+use Rattle.kb_vm.specs.Memory.{makes_text}
 use Rattle.kb_vm.specs.Effect.{Effect, Stop, Leave, Next, Goto, Enter, topmost}
 use Rattle.kb_codes.specs.Found.{callee_of}
 
@@ -42,13 +42,6 @@ IsReady table action.Next operands = Unit {0}
 IsReady table (action.Goto to) operands = Unit {0}
 IsReady table (action.Enter name found) operands =
     IsCallable table (callee_of found) × HasArguments (callee_of found) operands
-
--- whether an instruction makes a text, for which it asks memory
-abbrev pub makes_text : Instr → Bool
-makes_text i.Join = true
-makes_text i.Show = true
-makes_text (i.Context n) = true
-makes_text _ = false
 
 abbrev pub is_stop : Effect → Bool
 is_stop (Stop trap) = true

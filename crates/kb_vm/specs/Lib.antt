@@ -4,6 +4,7 @@ pub mod Values
 pub mod CallLine
 pub mod Effect
 pub mod Meaning
+pub mod Memory
 pub mod Action
 pub mod Outcome
 pub mod State

@@ -14,20 +14,28 @@ use Rattle.kb_vm.specs.CallLine.{call_line}
 use Rattle.kb_codes.specs.Callee.{Callee, Plain, Coded, Table, declared_by}
 use Rattle.kb_vm.specs.Effect.{Effect, Stop, Leave, Next, Goto, Enter, effect}
 
--- the core, and what has happened so far: lines, the number of instructions, and the natives that were called
+-- an instruction that is begun: what it does, and what its frame may still spend behind it
+pub record Step : Type 0 where
+  pub instr : Instr
+  pub left : ℕ
+  pub effect : Effect
+
+-- the core, and what has happened so far: lines, the instructions that were begun, and the natives that were
+-- called
 pub record World : Type 0 where
   pub core : Core
   pub lines : List (List ℕ)
-  pub count : ℕ
+  pub steps : List Step
   pub natives : List Native
 
 -- before anything has happened
 abbrev pub first_world : Core → World
-first_world core = record { core = core; lines = []; count = 0; natives = [] }
+first_world core = record { core = core; lines = []; steps = []; natives = [] }
 
--- one more instruction
-abbrev pub counted : World → World
-counted w = record w { count = w.count + 1 }
+-- one more instruction is begun
+abbrev pub with_step : Instr → ℕ → Effect → World → World
+with_step instr left e w =
+    record w { steps = w.steps ++ record { instr = instr; left = left; effect = e } ∷ [] }
 
 -- the line of a call, which is written before the callee runs
 abbrev pub with_line : List ℕ → List Arg → World → World
@@ -80,7 +88,8 @@ follow run h args left place w (Enter name callee given operands) =
 abbrev pub step : Table → Runner → Runner
 step table run h args left place operands w =
     fetched (slice_get h.code place) left (λ trap. Stuck trap h.command place w) (λ instr rest.
-    follow run h args rest place (counted w) (effect table h args w.core operands instr))
+    let e = effect table h args w.core operands instr in
+    follow run h args rest place (with_step instr rest e w) e)
 
 -- Runs a handler on. Each turn takes at least 1 from the allowance, and a callee's budget is less than the
 -- caller's allowance, so a bound above the allowance is never reached.

@@ -1,34 +1,43 @@
 -- What a start gives.
-use Rattle.std.specs.Prelude.{◌≡◌, ℕ, ◌+◌, ◌≤◌, List, [], ◌++◌, sum_by, Option, Some, None}
+use Rattle.std.specs.Prelude.{◌≡◌, ℕ, ◌+◌, ◌≤◌, List, [], ◌++◌, length, sum_by, Option, Some, None}
 use Rattle.kb_core.specs.declared.run.Core.{Core}
 use Rattle.kb_core.specs.Native.{budget_of}
 use Rattle.kb_vm.specs.declared.machine.Outcome.{Outcome}
 use Rattle.kb_vm.specs.declared.machine.End.{End}
 use Rattle.kb_vm.specs.declared.machine.End.TheVariants as end
 use Rattle.kb_vm.specs.Meaning.{World, Answer, Done, Stuck}
+use Rattle.kb_vm.specs.Memory.{MayLackAt}
 
-abbrev pub lines_of : Answer → List (List ℕ)
-lines_of (Done w) = w.lines
-lines_of (Stuck trap command place w) = w.lines
+-- what has happened, when it answers
+abbrev pub world_of : Answer → World
+world_of (Done w) = w
+world_of (Stuck trap command place w) = w
 
--- one list of lines is the beginning of another
-abbrev pub BeginsWith : List (List ℕ) → List (List ℕ) → Type 0
-BeginsWith xs ys = (zs : List (List ℕ)) × (xs ≡ ys ++ zs)
+-- one list is the beginning of another
+abbrev pub BeginsWith : {X : Type 0} → List X → List X → Type 0
+BeginsWith {X} xs ys = (zs : List X) × (xs ≡ ys ++ zs)
+
+-- a world on the way to another: what has happened in it is the beginning of what has happened there
+pub record Precedes (v w : World) : Type 0 where
+  pub lines : BeginsWith w.lines v.lines
+  pub steps : BeginsWith w.steps v.steps
+  pub natives : BeginsWith w.natives v.natives
 
 -- the world, as far as a machine holds it: each native costs a number from 0 to its budget
 pub record Shows (w : World) (core : Core) (lines : List (List ℕ)) (spent : ℕ) : Type 0 where
   pub core_is : w.core ≡ core
   pub lines_are : w.lines ≡ lines
-  pub at_least : w.count ≤ spent
-  pub at_most : spent ≤ w.count + sum_by budget_of w.natives
+  pub at_least : length w.steps ≤ spent
+  pub at_most : spent ≤ length w.steps + sum_by budget_of w.natives
 
--- an outcome gives an answer, or, where memory was refused, the beginning of its lines
-abbrev pub Ends : Answer → Outcome → End → Type 0
-Ends a o end.Done = (v : World) × Shows v o.core o.lines o.spent × (a ≡ Done v)
-Ends a o (end.Trap trap command place) =
+-- an outcome gives an answer, or, where memory was refused, what comes before it
+abbrev pub Ends : Core → Answer → Outcome → End → Type 0
+Ends at_first a o end.Done = (v : World) × Shows v o.core o.lines o.spent × (a ≡ Done v)
+Ends at_first a o (end.Trap trap command place) =
     (v : World) × Shows v o.core o.lines o.spent × (a ≡ Stuck trap command.now place v)
-Ends a o end.NoMemory = BeginsWith (lines_of a) o.lines
-Ends a o end.NotFound = ⊥
+Ends at_first a o end.NoMemory =
+    (v : World) × Shows v o.core o.lines o.spent × Precedes v (world_of a) × MayLackAt at_first a v
+Ends at_first a o end.NotFound = ⊥
 
 -- where no live command has the name, nothing happens
 pub record IsNotFound (at_first : Core) (o : Outcome) : Type 0 where
@@ -40,4 +49,4 @@ pub record IsNotFound (at_first : Core) (o : Outcome) : Type 0 where
 -- what a start gives, by its meaning
 abbrev pub Gives : Option Answer → Core → Outcome → Type 0
 Gives None core o = IsNotFound core o
-Gives (Some a) core o = Ends a o o.finish
+Gives (Some a) core o = Ends core a o o.finish

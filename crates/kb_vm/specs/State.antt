@@ -1,5 +1,5 @@
 -- What the machine's state stands for: what is left to do from it.
-use Rattle.std.specs.Prelude.{◌≡◌, ℕ, zero, suc, ◌+◌, ◌-◌, ◌≤◌, ◌<◌, List, [], ◌∷◌, sum_by}
+use Rattle.std.specs.Prelude.{◌≡◌, ℕ, zero, suc, ◌+◌, ◌-◌, ◌≤◌, ◌<◌, Bool, true, false, List, [], ◌∷◌, sum_by}
 use Rattle.std.specs.Prelude.{Option, Some, None, Result, Ok, Err, length, drop}
 use Rattle.kb_core.specs.declared.arg.Arg.{Arg}
 use Rattle.kb_core.specs.declared.native.Native.{Native}
@@ -14,8 +14,9 @@ use Rattle.kb_vm.specs.declared.machine.Turn.{Turn}
 use Rattle.kb_vm.specs.declared.machine.Turn.TheVariants as turn
 use Rattle.kb_codes.specs.Callee.{Callee, Table, declared_by}
 use Rattle.kb_vm.specs.Effect.{Effect, Enter, effect, topmost}
-use Rattle.kb_vm.specs.Meaning.{World, Answer, Done, Stuck, and_then, run, follow, native_called, counted}
-use Rattle.kb_vm.specs.Outcome.{Shows, BeginsWith, lines_of}
+use Rattle.kb_vm.specs.Meaning.{World, Answer, Done, Stuck, and_then, run, follow, native_called, with_step}
+use Rattle.kb_vm.specs.Memory.{RefusedLast, goes_on}
+use Rattle.kb_vm.specs.Outcome.{Shows, Precedes, world_of}
 
 -- what a frame goes on with
 abbrev pub resume : Table → Frame → World → Answer
@@ -40,7 +41,8 @@ TurnedFrom table a (turn.On n) = (v : World) × Shows v n.core n.lines n.spent �
 TurnedFrom table a (turn.Ended n) = (v : World) × Shows v n.core n.lines n.spent × (a ≡ Done v)
 TurnedFrom table a (turn.Trapped n trap) =
     (v : World) × Shows v n.core n.lines n.spent × (a ≡ Stuck trap n.frame.handler.command n.frame.place v)
-TurnedFrom table a (turn.NoMemory n) = BeginsWith (lines_of a) n.lines
+TurnedFrom table a (turn.NoMemory n) =
+    (v : World) × Shows v n.core n.lines n.spent × Precedes v (world_of a) × RefusedLast v
 
 -- the same, of what was left to do in any world that the machine shows
 abbrev pub Turned : Table → Machine → Turn → Type 0
@@ -93,12 +95,28 @@ fetched_at None left = Err BadCode
 fetched_at (Some instr) zero = Err OutOfBudget
 fetched_at (Some instr) (suc left) = Ok instr
 
+-- an instruction is begun
+abbrev pub stepped : Table → Machine → Instr → World → World
+stepped table m instr w =
+    let f = m.frame in
+    with_step instr (f.left - 1) (effect table f.handler f.args w.core f.operands instr) w
+
+-- whether a command is called
+abbrev pub is_enter : Effect → Bool
+is_enter (Enter name callee args operands) = true
+is_enter _ = false
+
+-- memory may be refused in the last step, if it calls a command for which its frame can pay
+abbrev pub CallMayBeRefused : ℕ → Effect → World → Type 0
+CallMayBeRefused left e w = is_enter e ≡ true → goes_on left e ≡ true → RefusedLast w
+
 -- what is left to do, where an instruction is paid for and done first
 abbrev pub after_instr : Table → Machine → Instr → World → Answer
 after_instr table m instr w =
     let f = m.frame in
     let e = effect table f.handler f.args w.core f.operands instr in
-    finish table m.callers.items (follow (run table) f.handler f.args (f.left - 1) f.place (counted w) e)
+    finish table m.callers.items
+    (follow (run table) f.handler f.args (f.left - 1) f.place (stepped table m instr w) e)
 
 -- the machine at the start of a handler
 pub record Begins (h : HandlerData) (args : List Arg) (core : Core) (m : Machine) : Type 0 where

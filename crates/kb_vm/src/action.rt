@@ -1,7 +1,6 @@
 //! What one instruction does.
 ghost use Rattle.std.specs.Prelude.{◌≡◌, ◌<◌, false, true, IfOk, OnErr, option_map, slice_get, length};
 ghost use Rattle.kb_vm.specs.Action.{Does, IsReady, IsCallable, MayLackMemory, is_stop};
-ghost use Rattle.kb_codes.specs.Callee.{declared_by};
 ghost use Rattle.kb_vm.specs.Effect.{effect, pushed, pushed_at, pushed_context, dropped, doubled};
 ghost use Rattle.kb_vm.specs.Effect.{swapped, made};
 ghost use Rattle.kb_vm.specs.Effect.{with_one, with_two, branched, entered, called};

@@ -86,6 +86,16 @@ pub(crate) fn fits(callee: &Found<'_>, values: &[Operand<'_>]) -> bool
     }
 }
 
+/// Whether arguments fit a command. It takes no memory.
+pub(crate) fn args_fit(callee: &Found<'_>, args: &Args) -> bool
+    ensures { result ≡ fits (declared_by (callee_of callee.now)).params args.now }
+{
+    match callee {
+        Found::Plain(native) => args_fit_named(native.params(), args.as_slice()),
+        Found::Coded(linked) => linked.handler().signature().fits(args),
+    }
+}
+
 /// An argument, lent.
 fn lent(arg: &Arg) -> Operand<'_>
     ensures { arg_of result ≡ arg.now }
@@ -145,6 +155,21 @@ fn fits_named(params: &[NamedKind], given: &[Operand<'_>]) -> bool
     }
     for (i, param) in params.iter().enumerate() {
         if !takes(param.kind, given[i]) {
+            return false;
+        }
+    }
+    true
+}
+
+/// Whether arguments fit parameters of a table.
+fn args_fit_named(params: &[NamedKind], args: &[Arg]) -> bool
+    ensures { result ≡ fits (map declared params.now) args.now }
+{
+    if params.len() != args.len() {
+        return false;
+    }
+    for (i, param) in params.iter().enumerate() {
+        if !takes(param.kind, lent(&args[i])) {
             return false;
         }
     }

@@ -1,5 +1,5 @@
 //! Frames, and the loop over them.
-ghost use Rattle.std.specs.Prelude.{◌≡◌, ◌≤◌, ◌<◌, ◌+◌, ◌^◌, [], true, IfOk, IfErr, slice_get};
+ghost use Rattle.std.specs.Prelude.{◌≡◌, ◌≤◌, ◌<◌, ◌+◌, ◌^◌, [], true, IfOk, IfErr, is_ok, slice_get};
 ghost use Rattle.kb_core.specs.Native.{budget_of, parameters_of};
 ghost use Rattle.kb_core.specs.Ran.{Does};
 ghost use Rattle.kb_core.specs.Signature.{fits};
@@ -10,8 +10,9 @@ ghost use Rattle.kb_codes.specs.Found.{callee_of};
 ghost use Rattle.kb_vm.specs.Leave.{Left};
 ghost use Rattle.kb_vm.specs.Meaning.{World, run, first_world};
 ghost use Rattle.kb_vm.specs.Outcome.{Shows, Ends};
+ghost use Rattle.kb_vm.specs.Memory.{RefusedLast};
 ghost use Rattle.kb_vm.specs.State.{Begins, Turned, TurnedFrom, Pays, PaysFrom, after_native, after_coded};
-ghost use Rattle.kb_vm.specs.State.{rest_of, credit, after_call, fetched_at, after_instr};
+ghost use Rattle.kb_vm.specs.State.{rest_of, credit, after_call, fetched_at, after_instr, CallMayBeRefused};
 
 use crate::action::{Action, perform};
 use crate::arena::Arena;
@@ -147,7 +148,7 @@ fn enter_native<'r, 'a, L: Commands>(
     requires fit { fits (parameters_of native) given ≡ true }
     requires room { machine.spent + budget_of native < 2 ^ 64 }
     ensures turned { (w : World) → Shows w machine.entry.core machine.entry.lines machine.entry.spent
-        → TurnedFrom (L.live commands.now)
+        → RefusedLast w → TurnedFrom (L.live commands.now)
         (after_native (L.live commands.now) machine.entry native given.entry w) result }
     ensures pays { PaysFrom (budget_of native) machine.entry result }
 {
@@ -185,7 +186,7 @@ fn enter_coded<'r, 'a>(
     given: Given<'a>,
 ) -> Turn<'r, 'a>
     ensures turned { (table : _) → (w : World)
-        → Shows w machine.entry.core machine.entry.lines machine.entry.spent
+        → Shows w machine.entry.core machine.entry.lines machine.entry.spent → RefusedLast w
         → TurnedFrom table (after_coded table machine.entry handler.entry given.entry w) result }
     ensures pays { PaysFrom handler.entry.signature.budget machine.entry result }
 {
@@ -246,7 +247,7 @@ fn begin_call<'r, 'a, L: Commands>(
     requires room { machine.spent + machine.frame.left < 2 ^ 64 }
     requires place { machine.frame.place + 1 < 2 ^ 64 }
     ensures turned { (w : World) → Shows w machine.entry.core machine.entry.lines machine.entry.spent
-        → TurnedFrom (L.live commands.now) (rest_of (L.live commands.now) machine.entry
+        → RefusedLast w → TurnedFrom (L.live commands.now) (rest_of (L.live commands.now) machine.entry
         (Enter name.now (callee_of callee.entry) given.entry machine.entry.frame.operands) w) result }
     ensures pays { PaysFrom 0 machine.entry result }
 {
@@ -274,6 +275,7 @@ fn enter_callee<'r, 'a, L: Commands>(
     requires room { machine.spent + machine.frame.left < 2 ^ 64 }
     requires place { machine.frame.place + 1 < 2 ^ 64 }
     ensures turned { (w : World) → Shows w machine.entry.core machine.entry.lines machine.entry.spent
+        → ((declared_by (callee_of callee.entry)).budget ≤ machine.entry.frame.left → RefusedLast w)
         → TurnedFrom (L.live commands.now) (after_call (L.live commands.now) machine.entry name.now
         (callee_of callee.entry) w) result }
     ensures pays { PaysFrom 0 machine.entry result }
@@ -314,6 +316,7 @@ fn act<'r, 'a, L: Commands>(
     requires place { machine.frame.place + 1 < 2 ^ 64 }
     ensures turned { (w : World) → (e : Effect) → Performs e action.entry machine.entry.frame.operands
         → Shows w machine.entry.core machine.entry.lines machine.entry.spent
+        → CallMayBeRefused machine.entry.frame.left e w
         → TurnedFrom (L.live commands.now) (rest_of (L.live commands.now) machine.entry e w) result }
     ensures pays { PaysFrom 0 machine.entry result }
 {
@@ -329,20 +332,20 @@ fn act<'r, 'a, L: Commands>(
     }
 }
 
-/// The instruction at a frame's place, if the frame may pay for it.
-fn fetch(frame: &Frame<'_, '_>) -> Result<Instr, Trap>
-    ensures instr { result ≡ fetched_at (slice_get frame.now.handler.code frame.now.place) frame.now.left }
-    ensures paid { IfOk result (λ _. 1 ≤ frame.now.left) }
-    ensures place { IfOk result (λ _. frame.now.place + 1 < 2 ^ 64) }
+/// The instruction at a place of a handler, if as much is left as it costs.
+pub(crate) fn fetch(handler: &Linked<'_>, place: usize, left: u32) -> Result<Instr, Trap>
+    ensures instr { result ≡ fetched_at (slice_get handler.now.code place) left }
+    ensures paid { IfOk result (λ _. 1 ≤ left) }
+    ensures place { IfOk result (λ _. place + 1 < 2 ^ 64) }
 {
-    let code = frame.handler.handler().code();
-    if code.len() <= frame.place {
+    let code = handler.handler().code();
+    if code.len() <= place {
         return Err(Trap::BadCode);
     }
-    if frame.left == 0 {
+    if left == 0 {
         return Err(Trap::OutOfBudget);
     }
-    Ok(code[frame.place])
+    Ok(code[place])
 }
 
 /// Pays for the instruction at the place, and does what it says.
@@ -413,7 +416,8 @@ fn take_turn<'r: 'a, 'a, L: Commands>(
     ensures turned { Turned (L.live commands.now) machine.entry result }
     ensures pays { Pays machine.entry result }
 {
-    match fetch(&machine.frame) {
+    let frame = &machine.frame;
+    match fetch(&frame.handler, frame.place, frame.left) {
         Ok(instr) => run_instr(alloc, arena, commands, machine, instr),
         Err(trap) => Turn::Trapped(machine, trap),
     }
@@ -448,7 +452,7 @@ fn begin<'r, 'a>(
     }
 }
 
-/// Runs a handler from the start, with arguments that fit it.
+/// Runs a handler from the start, with arguments that fit it, where its first instruction is there.
 pub(crate) fn run_handler<'r: 'a, 'a, L: Commands>(
     alloc: Global,
     arena: &'a Arena,
@@ -457,7 +461,8 @@ pub(crate) fn run_handler<'r: 'a, 'a, L: Commands>(
     args: Given<'a>,
     core: Core,
 ) -> Outcome<'r>
-    ensures ends { Ends (run (L.live commands.now) handler.entry args.entry
+    requires { is_ok (fetched_at (slice_get handler.code 0) handler.signature.budget) ≡ true }
+    ensures ends { Ends core (run (L.live commands.now) handler.entry args.entry
         handler.entry.signature.budget 0 [] (first_world core)) result result.finish }
     ensures bound { result.spent ≤ handler.entry.signature.budget }
 {

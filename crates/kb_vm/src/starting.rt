@@ -1,18 +1,19 @@
 //! The start of a command.
-ghost use Rattle.std.specs.Prelude.{◌≡◌, ◌≤◌, [], IfSome, true};
+ghost use Rattle.std.specs.Prelude.{◌≡◌, ◌≤◌, [], IfSome, true, is_ok, slice_get};
 ghost use Rattle.kb_core.specs.Native.{budget_of, parameters_of};
 ghost use Rattle.kb_core.specs.Signature.{fits};
 ghost use Rattle.kb_vm.specs.Action.{IsCallable};
 ghost use Rattle.kb_codes.specs.Callee.{IsLive, declared_by};
 ghost use Rattle.kb_codes.specs.Found.{callee_of};
-ghost use Rattle.kb_vm.specs.Meaning.{Done, first_world, native_called, start_callee, start_of};
+ghost use Rattle.kb_vm.specs.Meaning.{Done, first_world, native_called, run, start_callee, start_of};
 ghost use Rattle.kb_vm.specs.Outcome.{Ends, Gives};
+ghost use Rattle.kb_vm.specs.State.{fetched_at};
 
 use crate::arena::Arena;
-use crate::given::{Given, fits};
-use crate::machine::{End, Outcome, run_handler};
+use crate::given::{Given, args_fit};
+use crate::machine::{End, Outcome, fetch, run_handler};
 use crate::trap::Trap;
-use kb_codes::{Commands, Found};
+use kb_codes::{Commands, Found, Linked};
 use kb_core::{Args, Core, Native, Ran};
 use kb_stream::Lines;
 use std::alloc::Global;
@@ -21,7 +22,8 @@ use std::alloc::Global;
 /// it ends or traps, or until memory is refused. Each instruction that is begun costs 1, also one that traps,
 /// and each native that is called what its closure answers. A callee's budget is taken from its caller's
 /// allowance whatever it costs, and so the whole costs at most the started command's budget. Arguments that
-/// don't fit the command are a trap at place 0 (our decisions).
+/// don't fit the command are a trap at place 0. Memory is refused only before anything is done, or at an
+/// instruction that makes a text or calls a command, and never in the place of a trap (our decisions).
 pub fn start<'r, L: Commands>(
     alloc: Global,
     commands: &'r L,
@@ -54,7 +56,7 @@ fn unspent<'r>(alloc: Global, core: Core, finish: End<'r>) -> Outcome<'r>
     }
 }
 
-/// Starts a live command.
+/// Starts a live command. Arguments that don't fit are told before memory is asked for.
 fn start_found<'r, L: Commands>(
     alloc: Global,
     commands: &'r L,
@@ -64,24 +66,58 @@ fn start_found<'r, L: Commands>(
     core: Core,
 ) -> Outcome<'r>
     requires { IsCallable (L.live commands.now) (callee_of callee) }
-    ensures ends { Ends (start_callee (L.live commands.now) command.now (callee_of callee.entry) args
+    ensures ends { Ends core (start_callee (L.live commands.now) command.now (callee_of callee.entry) args
         (first_world core)) result result.finish }
     ensures bound { result.spent ≤ (declared_by (callee_of callee.entry)).budget }
+{
+    if !args_fit(&callee, &args) {
+        return unspent(alloc, core, End::Trap(Trap::WrongArgument, command, 0));
+    }
+    match callee {
+        Found::Plain(native) => start_native(alloc, commands, native, args, core),
+        Found::Coded(handler) => start_handler(alloc, commands, handler, args, core),
+    }
+}
+
+/// Starts a handler, with arguments that fit it.
+fn start_handler<'r, L: Commands>(
+    alloc: Global,
+    commands: &'r L,
+    handler: Linked<'r>,
+    args: Args,
+    core: Core,
+) -> Outcome<'r>
+    ensures ends { Ends core (run (L.live commands.now) handler.entry args
+        handler.entry.signature.budget 0 [] (first_world core)) result result.finish }
+    ensures bound { result.spent ≤ handler.entry.signature.budget }
+{
+    match fetch(&handler, 0, handler.handler().signature().budget()) {
+        Ok(_) => start_begun(alloc, commands, handler, args, core),
+        Err(trap) => {
+            let command = handler.handler().command().as_str();
+            unspent(alloc, core, End::Trap(trap, command, 0))
+        }
+    }
+}
+
+/// Starts a handler whose first instruction is there.
+fn start_begun<'r, L: Commands>(
+    alloc: Global,
+    commands: &'r L,
+    handler: Linked<'r>,
+    args: Args,
+    core: Core,
+) -> Outcome<'r>
+    requires { is_ok (fetched_at (slice_get handler.code 0) handler.signature.budget) ≡ true }
+    ensures ends { Ends core (run (L.live commands.now) handler.entry args
+        handler.entry.signature.budget 0 [] (first_world core)) result result.finish }
+    ensures bound { result.spent ≤ handler.entry.signature.budget }
 {
     let arena = Arena::new(alloc);
     let Ok(given) = Given::lent(alloc, args.as_slice()) else {
         return unspent(alloc, core, End::NoMemory);
     };
-    if !fits(&callee, given.as_slice()) {
-        return unspent(alloc, core, End::Trap(Trap::WrongArgument, command, 0));
-    }
-    match callee {
-        Found::Plain(native) => {
-            drop(given);
-            start_native(alloc, commands, native, args, core)
-        }
-        Found::Coded(handler) => run_handler(alloc, &arena, commands, handler, given, core),
-    }
+    run_handler(alloc, &arena, commands, handler, given, core)
 }
 
 /// Starts a native, with arguments that fit it.
@@ -94,18 +130,17 @@ fn start_native<'r, L: Commands>(
 ) -> Outcome<'r>
     requires live { IsLive (L.live commands.now) native }
     requires fit { fits (parameters_of native) args ≡ true }
-    ensures ends { Ends (Done (native_called native args (first_world core))) result result.finish }
+    ensures ends { Ends core (Done (native_called native args (first_world core))) result result.finish }
     ensures bound { result.spent ≤ budget_of native }
 {
     let Ran { core, cost } = commands.call(native, core, args);
-    let (spent, finish) = match cost {
-        Ok(cost) => (u64::from(cost), End::Done),
-        Err(_) => (0, End::NoMemory),
-    };
-    Outcome {
-        core,
-        spent,
-        lines: Lines::new(alloc),
-        finish,
+    match cost {
+        Ok(cost) => Outcome {
+            core,
+            spent: u64::from(cost),
+            lines: Lines::new(alloc),
+            finish: End::Done,
+        },
+        Err(_) => unspent(alloc, core, End::NoMemory),
     }
 }

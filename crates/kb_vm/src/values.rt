@@ -1,6 +1,5 @@
 //! What instructions make of values.
-ghost use Rattle.std.specs.Prelude.{◌≡◌, ◌<◌, ◌^◌, pos, IfOk, IfErr, option_map};
-ghost use Rattle.std.specs.Prelude.{option_copied, length, OnErr, IsSome};
+ghost use Rattle.std.specs.Prelude.{◌≡◌, pos, IfOk, option_map, length, OnErr, IsSome};
 ghost use Rattle.std.specs.Str.{chars};
 ghost use Rattle.kb_context.specs.Scopes.{context};
 ghost use Rattle.std.specs.FinMap as fin_map;

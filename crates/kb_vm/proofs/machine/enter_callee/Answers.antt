@@ -1,27 +1,31 @@
-use Rattle.std.proofs.Common.{◌<◌, ap, subst, ◌∙◌, arith, drop}
+use Rattle.std.proofs.Common.{◌<◌, ◌≤◌, ap, subst, ◌∙◌, arith, drop}
 use Rattle.kb_core.specs.Signature.{fits}
 use Rattle.kb_vm.specs.Action.{arity}
 use Rattle.kb_codes.specs.Callee.{declared_by}
 use Rattle.kb_vm.specs.Effect.{Enter, topmost}
 use Rattle.kb_codes.specs.Found.{callee_of}
 use Rattle.kb_vm.specs.State.{TurnedFrom, rest_of}
-use Rattle.kb_vm.proofs.Frames.{begins_is, rest_of_keeps}
+use Rattle.kb_vm.proofs.Frames.{rest_of_keeps}
 use Rattle.kb_vm.proofs.Turns.{entered_poor}
 use Rattle.kb_vm.proofs.machine.enter_callee.Goals as goal
 
 pub returns-then-machine-budget-clause-turned : goal.returns-then-machine-budget-clause-turned
-returns-then-machine-budget-clause-turned g c = λ w s.
+returns-then-machine-budget-clause-turned g c = λ w s refused.
     let m = c.args.machine in
     let k = callee_of c.args.callee in
     let lt : m.frame.left < (declared_by k).budget = omega (arith, c.budget.ensures) in
     (w, s, entered_poor _ m c.args.name.now k (topmost (arity k) m.frame.operands) (drop (arity k) m.frame.operands) w lt)
 
 pub returns-in_default-clause-turned : goal.returns-in_default-clause-turned
-returns-in_default-clause-turned g c = λ w s.
+returns-in_default-clause-turned g c = λ w s refused.
     let m = c.args.machine in
     let k = callee_of c.args.callee in
-    begins_is _ _ _ s.lines_are
-    (rest_of_keeps _ m (Enter c.args.name.now k (topmost (arity k) m.frame.operands) (drop (arity k) m.frame.operands)) w)
+    let paid : (declared_by k).budget ≤ m.frame.left = omega (arith, c.budget.ensures) in (
+      w,
+      s,
+      rest_of_keeps _ m (Enter c.args.name.now k (topmost (arity k) m.frame.operands) (drop (arity k) m.frame.operands)) w,
+      refused paid,
+    )
 
 pub begin_call-requires-clause-fit : goal.begin_call-requires-clause-fit
 begin_call-requires-clause-fit g c =
@@ -30,12 +34,13 @@ begin_call-requires-clause-fit g c =
     ap (fits (declared_by k).params) is ∙ c.requires.arguments.fit
 
 pub returns-clause-turned : goal.returns-clause-turned
-returns-clause-turned g c = λ w s.
+returns-clause-turned g c = λ w s refused.
     let t = g.L.Commands.live c.args.commands.now in
     let m = c.args.machine in
     let k = callee_of c.args.callee in
     let is = c.in-Ok.ensures.given ∙ ap (λ n. topmost n m.frame.operands) c.params-count.ensures in
+    let paid : (declared_by k).budget ≤ m.frame.left = omega (arith, c.budget.ensures) in
     let left = c.in-Ok.ensures.rest ∙ ap (λ n. drop n m.frame.operands) c.params-count.ensures in
     subst (λ vs. TurnedFrom t (rest_of t m (Enter c.args.name.now k vs (drop (arity k) m.frame.operands)) w) c.begin_call.result) is
     (subst (λ os. TurnedFrom t (rest_of t m (Enter c.args.name.now k c.in-Ok.given os) w) c.begin_call.result) left
-    (c.begin_call.ensures.turned w s))
+    (c.begin_call.ensures.turned w s (refused paid)))

@@ -1,13 +1,14 @@
-use Rattle.std.proofs.Common.{◌≡◌, ◌≤◌, refl, rules}
+use Rattle.std.proofs.Common.{◌≡◌, ◌≤◌, refl, sym, subst, rules}
 use Rattle.kb_core.specs.Core.{core_after}
 use Rattle.kb_core.specs.Native.{budget_of}
 use Rattle.kb_vm.specs.Meaning.{native_called}
-use Rattle.kb_vm.proofs.Frames.{begins_is, native_keeps}
+use Rattle.kb_vm.specs.Outcome.{Shows}
+use Rattle.kb_vm.proofs.Frames.{native_keeps}
 use Rattle.kb_vm.proofs.Turns.{native_shows}
 use Rattle.kb_vm.proofs.machine.enter_native.Goals as goal
 
 pub returns-in-Ok-clause-turned : goal.returns-in-Ok-clause-turned
-returns-in-Ok-clause-turned g c = λ w s.
+returns-in-Ok-clause-turned g c = λ w s refused.
     let m = c.args.machine in
     let does : (c.run_native-core.result.core ≡ core_after c.args.native c.args.given m.core) × (c.in-Ok.cost ≤ budget_of c.args.native) = search rules in (
       native_called c.args.native c.args.given w,
@@ -16,5 +17,11 @@ returns-in-Ok-clause-turned g c = λ w s.
     )
 
 pub returns-clause-turned : goal.returns-clause-turned
-returns-clause-turned g c = λ w s.
-    begins_is _ _ _ s.lines_are (native_keeps _ c.args.machine c.args.native c.args.given w)
+returns-clause-turned g c = λ w s refused.
+    let m = c.args.machine in
+    let same : c.run_native-core.result.core ≡ m.core = search rules in (
+      w,
+      subst (λ core. Shows w core m.lines m.spent) (sym same) s,
+      native_keeps _ m c.args.native c.args.given w,
+      refused,
+    )

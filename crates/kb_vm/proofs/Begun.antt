@@ -1,0 +1,60 @@
+-- A handler whose first instruction is there, or isn't.
+use Rattle.std.proofs.Common.{◌≡◌, ◌∙◌, ℕ, zero, suc, true, List, [], ◌∷◌, ◌++◌, Option, Some, None, sym, ap, subst}
+use Rattle.std.proofs.Common.{true≢false}
+use Rattle.std.specs.Prelude.{slice_get, is_ok, Result, Ok, Err}
+use Rattle.kb_core.specs.declared.arg.Arg.{Arg}
+use Rattle.kb_code.specs.declared.instr.Instr.{Instr}
+use Rattle.kb_code.specs.Handler.{HandlerData}
+use Rattle.kb_codes.specs.Callee.{Table}
+use Rattle.kb_vm.specs.declared.trap.Trap.{Trap}
+use Rattle.kb_vm.specs.Effect.{effect}
+use Rattle.kb_vm.specs.Meaning.{Step, World, Answer, Done, Stuck, fetched, follow, with_step, run}
+use Rattle.kb_vm.specs.Memory.{IsBegun}
+use Rattle.kb_vm.specs.Outcome.{BeginsWith, world_of}
+use Rattle.kb_vm.specs.State.{fetched_at}
+use Rattle.kb_vm.proofs.Bound.{run_step}
+use Rattle.kb_vm.proofs.Frames.{follow_keeps, run_keeps}
+use Rattle.kb_vm.proofs.Turns.{trap_in}
+
+grows : (xs : List Step) (s : Step) (zs : List Step) → (xs ++ s ∷ []) ++ zs ≡ [] → ⊥
+grows [] s zs e = cc
+grows (x ∷ xs) s zs e = cc
+
+begun_after : (a : Answer) (xs : List Step) (s : Step) → BeginsWith (world_of a).steps (xs ++ s ∷ []) → IsBegun a
+begun_after (Done w) xs s b = tt
+begun_after (Stuck trap command place w) xs s b = λ none. grows xs s b.0 (sym b.1 ∙ none)
+
+module _ (table : Table) (h : HandlerData) (args : List Arg) (w : World) where
+  abbrev at_first : Option Instr → ℕ → Answer
+  at_first o left =
+      fetched o left (λ trap. Stuck trap h.command 0 w) (λ instr rest.
+      let e = effect table h args w.core [] instr in
+      follow (run table) h args rest 0 (with_step instr rest e w) e)
+
+  begun_by : (o : Option Instr) (left : ℕ) → is_ok (fetched_at o left) ≡ true → IsBegun (at_first o left)
+  begun_by None left ok = absurd (true≢false (sym ok))
+  begun_by (Some instr) zero ok = absurd (true≢false (sym ok))
+  begun_by (Some instr) (suc left) ok =
+      let e = effect table h args w.core [] instr in
+      begun_after _ w.steps (record { instr = instr; left = left; effect = e })
+      (follow_keeps (run table) (run_keeps table) h args left 0 (with_step instr left e w) e).steps
+
+  -- a first instruction is begun
+  pub first_begun : is_ok (fetched_at (slice_get h.code 0) h.signature.budget) ≡ true
+      → IsBegun (run table h args h.signature.budget 0 [] w)
+  first_begun ok =
+      subst IsBegun (sym (run_step table h args h.signature.budget 0 [] w))
+      (begun_by (slice_get h.code 0) h.signature.budget ok)
+
+  stuck_by : (o : Option Instr) (left : ℕ) (trap : Trap) → Err trap ≡ fetched_at o left
+      → at_first o left ≡ Stuck trap h.command 0 w
+  unfolding trap_in
+  stuck_by None left trap e = ap (λ t. Stuck t h.command 0 w) (sym (ap (trap_in trap) e))
+  stuck_by (Some instr) zero trap e = ap (λ t. Stuck t h.command 0 w) (sym (ap (trap_in trap) e))
+  stuck_by (Some instr) (suc left) trap e = absurd (true≢false (sym (ap is_ok e)))
+
+  -- and without one it is stuck
+  pub first_stuck : (trap : Trap) → Err trap ≡ fetched_at (slice_get h.code 0) h.signature.budget
+      → run table h args h.signature.budget 0 [] w ≡ Stuck trap h.command 0 w
+  first_stuck trap e =
+      run_step table h args h.signature.budget 0 [] w ∙ stuck_by (slice_get h.code 0) h.signature.budget trap e

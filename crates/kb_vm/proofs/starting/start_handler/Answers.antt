@@ -1,0 +1,31 @@
+use Rattle.std.proofs.Common.{◌≡◌, ◌∙◌, ap, sym, subst, [], rules}
+use Rattle.std.specs.Prelude.{is_ok, slice_get}
+use Rattle.kb_vm.specs.Meaning.{Stuck, first_world, run}
+use Rattle.kb_vm.specs.Outcome.{Ends}
+use Rattle.kb_vm.specs.State.{fetched_at}
+use Rattle.kb_vm.proofs.Begun.{first_stuck}
+use Rattle.kb_vm.proofs.Starts.{unspent_shows}
+use Rattle.kb_vm.proofs.starting.start_handler.Goals as goal
+
+pub start_begun-requires : goal.start_begun-requires
+start_begun-requires g c =
+    let code = c.args.handler.code in
+    let left : c.budget.result ≡ c.args.handler.signature.budget = search rules in
+    ap (λ n. is_ok (fetched_at (slice_get code 0) n)) (sym left) ∙ sym (ap is_ok c.in-Ok.ensures.instr)
+
+pub returns-in-Err-clause-ends : goal.returns-in-Err-clause-ends
+returns-in-Err-clause-ends g c =
+    let t = g.L.Commands.live c.args.commands.now in
+    let h = c.args.handler in
+    let w = first_world c.args.core in
+    let a = run t h c.args.args h.signature.budget 0 [] w in
+    let o = c.unspent in
+    let left : c.budget.result ≡ h.signature.budget = search rules in
+    let named : c.as_str-command.result.now ≡ h.command = search rules in
+    let stuck = first_stuck t h c.args.args w c.in-Err.trap
+    (c.in-Err.ensures.instr ∙ ap (λ n. fetched_at (slice_get h.code 0) n) left) in
+    subst (Ends c.args.core a o.result) (sym o.ensures.finish) (
+      w,
+      unspent_shows c.args.core _ _ _ o.ensures.core o.ensures.lines o.ensures.spent,
+      stuck ∙ ap (λ name. Stuck c.in-Err.trap name 0 w) (sym named),
+    )
