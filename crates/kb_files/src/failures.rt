@@ -2,10 +2,12 @@
 ghost use Rattle.std.specs.Prelude.{◌≡◌};
 ghost use Rattle.kb_context.specs.ScopeFault as scope;
 ghost use Rattle.kb_jsonc.specs.Fault as text;
+ghost use Rattle.kb_handlers.specs.Fault as handlers;
 ghost use Rattle.kb_json.specs.FileFault as shape;
 ghost use Rattle.kb_files.specs.Value.{numbered_failure};
 
 use kb_context::{Failure, Refusal, ScopeFault};
+use kb_handlers::HandlersFault;
 use kb_json::FileFault;
 use kb_jsonc::JsoncFault;
 
@@ -26,6 +28,16 @@ pub(crate) fn shape_failure(failure: Failure<FileFault>) -> Failure<Refusal>
     match failure {
         Failure::NoMemory => Failure::NoMemory,
         Failure::Fault(misfit) => Failure::Fault(Refusal::of(misfit.number())),
+    }
+}
+
+/// Why a JSON value gave no handlers.
+pub(crate) fn handlers_failure(failure: Failure<HandlersFault>) -> Failure<Refusal>
+    ensures { result ≡ numbered_failure handlers.number_of failure }
+{
+    match failure {
+        Failure::NoMemory => Failure::NoMemory,
+        Failure::Fault(wrong) => Failure::Fault(Refusal::of(wrong.number())),
     }
 }
 
