@@ -73,7 +73,7 @@ fn start_steps<C: HostCommand>(
 }
 
 /// Starts one command of a list, behind a line of its own.
-#[tactic(auto, using(kb_stream::proofs::Undoing::undoing))]
+#[tactic(auto, using(kb_stream::proofs::Undoing::undoing_behind))]
 fn start_step<C: HostCommand>(
     alloc: Global,
     step: &Step<'_>,

@@ -1,7 +1,8 @@
 //! The start of a command.
 ghost use Rattle.std.specs.Prelude.{◌≡◌, IfOk, OnErr, Some, option_map};
 ghost use Rattle.serde_json.specs.View.{view};
-ghost use Rattle.kb_codes.specs.Callee.{Table, Plain, declared_by};
+ghost use Rattle.kb_codes.specs.Callee.{Table, Plain, Coded};
+ghost use Rattle.kb_core.specs.declared.run.Core.{Core};
 ghost use Rattle.kb_registry.specs.Live.{callee};
 ghost use Rattle.kb_start.specs.HeldCore.{outcome};
 ghost use Rattle.kb_vm.specs.Meaning.{Answer};
@@ -11,9 +12,10 @@ ghost use Rattle.kb_start.specs.Start.{started, started_as, behind, ran, start_o
 
 use crate::held_core::{Ended, HeldCore};
 use crate::run_commands::start_list;
+use kb_code::Handler;
 use kb_codes::{Commands, Found};
 use kb_context::NoMemory;
-use kb_core::{Core, Native, Signature};
+use kb_core::{Core, Native};
 use kb_registry::{HostCommand, Registry};
 use kb_stream::Lines;
 use kb_trace::lines;
@@ -75,8 +77,8 @@ pub(crate) fn start_live<C: HostCommand>(
     }
     match registry.command(command, Native::named(command)) {
         Some(Found::Coded(handler)) => {
-            let signature = handler.handler().signature();
-            run_handler(alloc, command, signature, given, registry, core, trace)
+            let handler = handler.handler();
+            run_handler(alloc, command, handler, given, registry, core, trace)
         }
         Some(Found::Plain(_)) => unreachable!(),
         None => {
@@ -110,23 +112,23 @@ fn run_native<C: HostCommand>(
     Ok(Finish::Done)
 }
 
-/// Runs a live handler, which declares a signature, where arguments fit it, and adds the lines of that.
+/// Runs a live handler, where arguments fit it, and adds the lines of that.
 fn run_handler<C: HostCommand>(
     alloc: Global,
     command: &str,
-    signature: &Signature,
+    handler: &Handler,
     given: Option<&Value>,
     registry: &Registry<C>,
     core: &mut HeldCore,
     trace: &mut Lines,
 ) -> Result<Finish, NoMemory>
-    requires { option_map declared_by (callee command.now registry.now) ≡ Some signature.now }
+    requires { callee command.now registry.now ≡ Some (Coded handler.now) }
     ensures ok { let given = option_map (λ v. view v.now) given.entry in
         IfOk result (λ finish. started core.new trace.new finish
         ≡ behind trace.old (start_live command.now given registry.now core.old)) }
     ensures err { OnErr result (Begins trace.old trace.new) }
 {
-    let Some(args) = signature.read_args(alloc, given)? else {
+    let Some(args) = handler.signature().read_args(alloc, given)? else {
         lines::bad_arguments_line(trace, command)?;
         return Ok(Finish::BadArguments);
     };
@@ -136,8 +138,9 @@ fn run_handler<C: HostCommand>(
 
 /// Adds the lines of a start that ended, on the core that it left.
 fn note_end(ended: &Ended<'_>, core: &Core, trace: &mut Lines) -> Result<Finish, NoMemory>
-    requires { (answer : Answer) × Ends answer (outcome core.now ended.now) ended.now.finish }
-    ensures ok { (answer : Answer) → Ends answer (outcome core.now ended.now) ended.now.finish
+    requires { (first : Core) × (answer : Answer) × Ends first answer (outcome core.now ended.now) ended.now.finish }
+    ensures ok { (first : Core) → (answer : Answer)
+        → Ends first answer (outcome core.now ended.now) ended.now.finish
         → IfOk result (λ finish. started core.now trace.new finish ≡ behind trace.old (ran answer)) }
     ensures err { OnErr result (Begins trace.old trace.new) }
 {
