@@ -3,9 +3,9 @@ use Rattle.std.proofs.Common.{◌≡◌, ◌≤◌, ℕ, ◌+◌, List, [], ◌�
 use Rattle.std.proofs.Common.{◌<◌, nat_lt, Some, None, arith, true, false, get_or, length-append, take-append-drop}
 use Rattle.std.proofs.lemmas.Bool.Decides.{nat_tests}
 use Rattle.std.proofs.lemmas.List.{length-map, map-append, take_more, drop_more}
-use Rattle.std.specs.Borrow.{Bor}
 use Rattle.std.specs.Prelude.{Result, Ok, Err, Option, Bool, IfOk, MatchResult, if◌then◌else◌}
 use Rattle.std.specs.Str.{str_eq_ignore_ascii_case}
+use Rattle.kb_code.specs.Handler.{HandlerData}
 use Rattle.kb_context.specs.Failure.{Fails, Gives}
 use Rattle.kb_context.specs.Reading.{◌>>=◌, seen}
 use Rattle.kb_context.specs.Refusal.{refused_for}
@@ -25,11 +25,19 @@ use Rattle.kb_rules.specs.RuleList.{Listed, AreRightlyMarked}
 use Rattle.kb_rules.specs.declared.origin.Origin.{Origin}
 use Rattle.kb_rules.specs.declared.origin.Origin.TheVariants as origin
 use Rattle.kb_bindings.specs.Fault.{refused_by, refused_file, of_file}
-use Rattle.kb_bindings.specs.Load.{Held, GivesOf, AreRules, IsExtension, AreExtensions, outlines_from}
-use Rattle.kb_bindings.specs.Load.{AllRightlyMarked, is_among, names_of, names_in, names_fault, unless_fault, extensions_held}
-use Rattle.kb_bindings.specs.Load.{other_marks, extensions_by, marks_told, marks_in, sources_by, Files, LoadMarks}
-use Rattle.kb_bindings.specs.Load.{HeldLists, HeldRules, lists_held, rules_held, AreLists, AreSources, loaded}
+use Rattle.kb_bindings.specs.Load.{ExtensionBytes, Files, Held, HeldExtension, HeldLists, HeldRules}
+use Rattle.kb_bindings.specs.Load.{LoadMarks}
+use Rattle.kb_bindings.specs.Load.{extension_bytes, manifests, extension_held, extensions_from}
+use Rattle.kb_bindings.specs.Load.{extensions_held}
+use Rattle.kb_bindings.specs.Load.{outlines_of, handlers_of, handlers_held, lists_held, rules_held, loaded}
+use Rattle.kb_bindings.specs.Load.{is_among, names_of, names_in, names_fault, unless_fault, other_marks}
+use Rattle.kb_bindings.specs.Load.{extensions_by, marks_told, marks_in, sources_by, GivesOf, AreRules}
+use Rattle.kb_bindings.specs.Load.{AreLists, IsExtension, AreExtensions, IsHeld, AreHeld, AreSources, IsBound}
+use Rattle.kb_bindings.specs.Load.{AllRightlyMarked}
+use Rattle.kb_bindings.specs.declared.inputs.ExtensionFiles.{ExtensionFiles}
+use Rattle.kb_bindings.specs.declared.inputs.HandlerFiles.{HandlerFiles}
 use Rattle.kb_bindings.specs.declared.load.Loaded.{Loaded}
+use Rattle.kb_bindings.specs.declared.load.ReadExtensions.{ReadExtensions}
 use Rattle.kb_bindings.specs.Sources.{Sources}
 use Rattle.kb_bindings.specs.Unread.{unread_of}
 use Rattle.kb_bindings.specs.declared.fault.LoadFault.{LoadFault}
@@ -61,12 +69,22 @@ named IsMade file held (Err NoMemory) h = tt
 named IsMade file (Ok y) (Err (Fault f)) h = absurd (cc)
 named IsMade file (Err e) (Err (Fault f)) h = cc
 
+-- what is given as it is held is given so of a file that is named
+given_of_file : {X : Type 0} (file : LoadFile) (held : Result X Refusal) (r : Result X (Failure Refusal))
+    → Gives (λ x. x) r held → Gives (λ x. x) (of_file file r) (refused_by file held)
+given_of_file file held (Ok x) h = rw h refl
+given_of_file file held (Err NoMemory) h = tt
+given_of_file file held (Err (Fault f)) h = rw h refl
+
 pub scopes_of_file : (file : LoadFile) (held : Result ScopesData Refusal)
     (r : Result ScopesData (Failure Refusal)) → Gives (λ scopes. scopes) r held
     → Gives (λ scopes. scopes) (of_file file r) (refused_by file held)
-scopes_of_file file held (Ok scopes) h = rw h refl
-scopes_of_file file held (Err NoMemory) h = tt
-scopes_of_file file held (Err (Fault f)) h = rw h refl
+scopes_of_file = given_of_file
+
+pub file_of_handlers : (file : LoadFile) (held : Result (List HandlerData) Refusal)
+    (r : Result (List HandlerData) (Failure Refusal)) → Gives (λ handlers. handlers) r held
+    → Gives (λ handlers. handlers) (of_file file r) (refused_by file held)
+file_of_handlers = given_of_file
 
 pub rules_of_file : (file : LoadFile) (origin : Origin) (bytes : List ℕ) (r : Result Listed (Failure Refusal))
     → ReadsBy (λ marks. rules_in marks origin bytes) r
@@ -105,37 +123,100 @@ pub ruleset file_of_rules = (rules_of_file, right_rules)
 
 pub ruleset file_of_extension = (extension_of_file, right_extension)
 
--- ---- the manifests in turn
+-- two readings, one behind the other
+abbrev both : {X Y Z : Type 0} → Result X LoadFault → Result Y LoadFault → (X → Y → Z) → Result Z LoadFault
+both first next join = first >>= λ x. next >>= λ y. Ok (join x y)
+
+fails_first : {X Y F : Type 0} (failure : Failure F) (r : Result X F) (next : X → Result Y F)
+    → Fails failure r → Fails failure (r >>= next)
+fails_first NoMemory r next h = tt
+fails_first (Fault f) r next h = rw h refl
+
+fails_behind : {X Y F : Type 0} (P : X → Type 0) (failure : Failure F) (r : Result X F) (next : X → Result Y F)
+    → MatchResult r P (λ fault. ⊥) → ((x : X) → Fails failure (next x)) → Fails failure (r >>= next)
+fails_behind P failure (Ok x) next h all = all x
+fails_behind P failure (Err e) next h all = absurd h
+
+pub second_fails : {X Y Z : Type 0} (P : X → Type 0) (failure : Failure LoadFault) (first : Result X LoadFault)
+    (next : Result Y LoadFault) (join : X → Y → Z) → MatchResult first P (λ fault. ⊥) → Fails failure next
+    → Fails failure (both first next join)
+second_fails P failure first next join h k =
+    fails_behind P failure first (λ x. next >>= λ y. Ok (join x y)) h
+    (λ x. fails_first failure next (λ y. Ok (join x y)) k)
+
+pub first_fails : {X Y Z : Type 0} (failure : Failure LoadFault) (first : Result X LoadFault)
+    (next : Result Y LoadFault) (join : X → Y → Z) → Fails failure first → Fails failure (both first next join)
+first_fails failure first next join h = fails_first failure first (λ x. next >>= λ y. Ok (join x y)) h
+
+pub both_made : {X Y Z : Type 0} (P : X → Type 0) (Q : Y → Type 0) (R : Z → Type 0) (first : Result X LoadFault)
+    (next : Result Y LoadFault) (join : X → Y → Z) → ((x : X) (y : Y) → P x → Q y → R (join x y))
+    → MatchResult first P (λ fault. ⊥) → MatchResult next Q (λ fault. ⊥)
+    → MatchResult (both first next join) R (λ fault. ⊥)
+both_made P Q R (Ok x) (Ok y) join make h k = make x y h k
+both_made P Q R (Ok x) (Err f) join make h k = absurd k
+both_made P Q R (Err f) next join make h k = absurd h
+
+abbrev held_extension : Outline → List HandlerData → HeldExtension
+held_extension outline handlers = record { outline = outline; handlers = handlers }
+
+-- the two files of an extension
+pub extension_with_handlers : (number : ℕ) (platform : Platform) (e : Extension) (handlers : List HandlerData)
+    (outline : Result Outline LoadFault) (held : Result (List HandlerData) LoadFault)
+    → MatchResult outline (λ o. IsExtension number platform o e) (λ fault. ⊥) → held ≡ Ok handlers
+    → MatchResult (both outline held held_extension) (λ one. IsHeld number platform one e handlers)
+    (λ fault. ⊥)
+extension_with_handlers number platform e handlers (Ok o) (Ok hs) h k =
+    let same : hs ≡ handlers = cc in
+    record { extension_is = h; handlers_are = sym same }
+extension_with_handlers number platform e handlers (Ok o) (Err f) h k = absurd (cc)
+extension_with_handlers number platform e handlers (Err f) held h k = absurd h
+
+-- the file of handlers is refused behind a manifest that is read
+pub handlers_fail : (reads : HandlerFiles) (number : ℕ) (platform : Platform) (bytes : ExtensionBytes)
+    (e : Extension) (failure : Failure LoadFault)
+    → MatchResult (refused_by (file.Package number) (outline_in bytes.manifest))
+    (λ outline. IsExtension number platform outline e) (λ fault. ⊥)
+    → Fails failure (refused_by (file.Handlers number) (handlers_held reads bytes.handlers))
+    → Fails failure (extension_held reads number bytes)
+handlers_fail reads number platform bytes e failure h k =
+    second_fails (λ outline. IsExtension number platform outline e) failure
+    (refused_by (file.Package number) (outline_in bytes.manifest))
+    (refused_by (file.Handlers number) (handlers_held reads bytes.handlers)) held_extension h k
+
+-- ---- the extensions in turn
 
 bind_ok : {F X : Type 0} (r : Result X F) → (r >>= λ x. Ok x) ≡ r
 bind_ok (Ok x) = refl
 bind_ok (Err f) = refl
 
-abbrev joined : Result (List Outline) LoadFault → Result (List Outline) LoadFault
-    → Result (List Outline) LoadFault
+abbrev Extensions : Type 0
+Extensions = Result (List HeldExtension) LoadFault
+
+abbrev joined : Extensions → Extensions → Extensions
 joined first rest = first >>= λ done. rest >>= λ more. Ok (done ++ more)
 
-joined_behind : (r : Result Outline LoadFault) (first rest : Result (List Outline) LoadFault)
-    → (r >>= λ outline. joined first rest >>= λ outlines. Ok (outline ∷ outlines))
-    ≡ joined (r >>= λ outline. first >>= λ outlines. Ok (outline ∷ outlines)) rest
-joined_behind (Ok outline) (Ok done) (Ok more) = refl
-joined_behind (Ok outline) (Ok done) (Err f) = refl
-joined_behind (Ok outline) (Err f) rest = refl
+joined_behind : (r : Result HeldExtension LoadFault) (first rest : Extensions)
+    → (r >>= λ one. joined first rest >>= λ held. Ok (one ∷ held))
+    ≡ joined (r >>= λ one. first >>= λ held. Ok (one ∷ held)) rest
+joined_behind (Ok one) (Ok done) (Ok more) = refl
+joined_behind (Ok one) (Ok done) (Err f) = refl
+joined_behind (Ok one) (Err f) rest = refl
 joined_behind (Err f) first rest = refl
 
-outlines-append : (number place : ℕ) (done more : List (List ℕ)) → number + length done ≡ place
-    → outlines_from number (done ++ more)
-    ≡ joined (outlines_from number done) (outlines_from place more)
-outlines-append number place [] more e =
+extensions-append : (reads : HandlerFiles) (number place : ℕ) (done more : List ExtensionBytes)
+    → number + length done ≡ place
+    → extensions_from reads number (done ++ more)
+    ≡ joined (extensions_from reads number done) (extensions_from reads place more)
+extensions-append reads number place [] more e =
     let same : number ≡ place = omega (arith, e) in
-    sym (bind_ok (outlines_from number more))
-    ∙ ap (λ n. outlines_from n more >>= λ outlines. Ok outlines) same
-outlines-append number place (bytes ∷ done) more e =
+    sym (bind_ok (extensions_from reads number more))
+    ∙ ap (λ n. extensions_from reads n more >>= λ held. Ok held) same
+extensions-append reads number place (bytes ∷ done) more e =
     let rest : number + 1 + length done ≡ place = omega (arith, e) in
-    let r = refused_by (file.Package number) (outline_in bytes) in
-    ap (λ rest. r >>= λ outline. rest >>= λ outlines. Ok (outline ∷ outlines))
-    (outlines-append (number + 1) place done more rest)
-    ∙ joined_behind r (outlines_from (number + 1) done) (outlines_from place more)
+    let r = extension_held reads number bytes in
+    ap (λ rest. r >>= λ one. rest >>= λ held. Ok (one ∷ held))
+    (extensions-append reads (number + 1) place done more rest)
+    ∙ joined_behind r (extensions_from reads (number + 1) done) (extensions_from reads place more)
 
 extensions-length : (platform : Platform) (marks : List ExtensionMarks) (number : ℕ) (outlines : List Outline)
     → length (extensions_by platform marks number outlines) ≡ length outlines
@@ -159,15 +240,29 @@ extensions-push platform (m ∷ marks) one number place (o ∷ outlines) outline
     ap (λ es. extension_by m number platform o ∷ es)
     (extensions-push platform marks one (number + 1) place outlines outline rest count)
 
--- the extensions of the manifests so far
-pub record Reads (platform : Platform) (es : List Extension) (number : ℕ) (done : List (List ℕ)) : Type 0 where
-  pub made : MatchResult (outlines_from 0 done) (λ outlines. AreExtensions platform outlines es) (λ fault. ⊥)
-  pub count : length done ≡ number
-  pub size : length es ≡ number
-  pub right : AllRightlyMarked done es
+-- one extension more
+abbrev pushed : ReadExtensions → Extension → List HandlerData → ReadExtensions
+pushed all e handlers = record {
+  extensions = all.extensions ++ e ∷ [];
+  handlers = all.handlers ++ handlers ∷ [];
+}
 
-pub reads_none : (platform : Platform) → Reads platform [] 0 []
-reads_none platform = record { made = refl; count = refl; size = refl; right = tt }
+-- the extensions of the files so far
+pub record Reads (reads : HandlerFiles) (platform : Platform) (all : ReadExtensions) (number : ℕ)
+    (done : List ExtensionBytes) : Type 0 where
+  pub made : MatchResult (extensions_from reads 0 done) (λ held. AreHeld platform held all) (λ fault. ⊥)
+  pub count : length done ≡ number
+  pub size : length all.extensions ≡ number
+  pub right : AllRightlyMarked (manifests done) all.extensions
+
+pub reads_none : (reads : HandlerFiles) (platform : Platform)
+    → Reads reads platform (record { extensions = []; handlers = [] }) 0 []
+reads_none reads platform = record {
+  made = record { extensions_are = refl; handlers_are = refl };
+  count = refl;
+  size = refl;
+  right = tt;
+}
 
 marked_next : (done : List (List ℕ)) (es : List Extension) (bytes : List ℕ) (e : Extension)
     → length done ≡ length es → AllRightlyMarked done es → IsRightlyMarked bytes e
@@ -179,16 +274,11 @@ marked_next (b ∷ done) (x ∷ es) bytes e len all right =
     let rest : length done ≡ length es = omega (arith, len) in
     (all.0, marked_next done es bytes e rest all.1 right)
 
-made_next : (platform : Platform) (es : List Extension) (number : ℕ) (e : Extension)
-    (first : Result (List Outline) LoadFault) (next : Result Outline LoadFault)
-    → length es ≡ number
-    → MatchResult first (λ outlines. AreExtensions platform outlines es) (λ fault. ⊥)
-    → MatchResult next (λ outline. IsExtension number platform outline e) (λ fault. ⊥)
-    → MatchResult (joined first (next >>= λ outline. Ok (outline ∷ [])))
-    (λ outlines. AreExtensions platform outlines (es ++ e ∷ [])) (λ fault. ⊥)
-made_next platform es number e (Err f) next size h k = absurd h
-made_next platform es number e (Ok outlines) (Err f) size h k = absurd k
-made_next platform es number e (Ok outlines) (Ok outline) size h k =
+extensions_next : (platform : Platform) (es : List Extension) (number : ℕ) (e : Extension)
+    (outlines : List Outline) (outline : Outline) → length es ≡ number
+    → AreExtensions platform outlines es → IsExtension number platform outline e
+    → AreExtensions platform (outlines ++ outline ∷ []) (es ++ e ∷ [])
+extensions_next platform es number e outlines outline size h k =
     let many : length outlines ≡ number =
     sym (extensions-length platform (map marks_of es) 0 outlines) ∙ sym (ap length h) ∙ size in
     let marks : length (map marks_of es) ≡ length outlines = length-map es marks_of ∙ size ∙ sym many in
@@ -197,81 +287,104 @@ made_next platform es number e (Ok outlines) (Ok outline) size h k =
     ∙ sym (extensions-push platform (map marks_of es) (marks_of e) 0 number outlines outline marks place)
     ∙ ap (λ ms. extensions_by platform ms 0 (outlines ++ outline ∷ [])) (sym (map-append marks_of es (e ∷ [])))
 
--- one manifest more
-pub reads_next : (platform : Platform) (es : List Extension) (number : ℕ) (done : List (List ℕ))
-    (bytes : List ℕ) (e : Extension) → Reads platform es number done
-    → MatchResult (refused_by (file.Package number) (outline_in bytes))
-    (λ outline. IsExtension number platform outline e) (λ fault. ⊥) → IsRightlyMarked bytes e
-    → Reads platform (es ++ e ∷ []) (number + 1) (done ++ bytes ∷ [])
-reads_next platform es number done bytes e r h right =
+made_next : (platform : Platform) (all : ReadExtensions) (number : ℕ) (e : Extension)
+    (handlers : List HandlerData) (first : Extensions) (next : Result HeldExtension LoadFault)
+    → length all.extensions ≡ number
+    → MatchResult first (λ held. AreHeld platform held all) (λ fault. ⊥)
+    → MatchResult next (λ held. IsHeld number platform held e handlers) (λ fault. ⊥)
+    → MatchResult (joined first (next >>= λ one. Ok (one ∷ [])))
+    (λ held. AreHeld platform held (pushed all e handlers)) (λ fault. ⊥)
+made_next platform all number e handlers (Err f) next size h k = absurd h
+made_next platform all number e handlers (Ok held) (Err f) size h k = absurd k
+made_next platform all number e handlers (Ok held) (Ok one) size h k = record {
+  extensions_are = extensions_next platform all.extensions number e (outlines_of held) one.outline size
+      h.extensions_are k.extension_is
+      ∙ ap (λ outlines. extensions_by platform (map marks_of (all.extensions ++ e ∷ [])) 0 outlines)
+      (sym (map-append (λ (x : HeldExtension). x.outline) held (one ∷ [])));
+  handlers_are = (λ i. h.handlers_are i ++ k.handlers_are i ∷ [])
+      ∙ sym (map-append (λ (x : HeldExtension). x.handlers) held (one ∷ []));
+}
+
+-- the files of one more
+pub reads_next : (reads : HandlerFiles) (platform : Platform) (all : ReadExtensions) (number : ℕ)
+    (done : List ExtensionBytes) (bytes : ExtensionBytes) (e : Extension) (handlers : List HandlerData)
+    → Reads reads platform all number done
+    → MatchResult (extension_held reads number bytes) (λ held. IsHeld number platform held e handlers)
+    (λ fault. ⊥) → IsRightlyMarked bytes.manifest e
+    → Reads reads platform (pushed all e handlers) (number + 1) (done ++ bytes ∷ [])
+reads_next reads platform all number done bytes e handlers r h right =
     let place : 0 + length done ≡ number = omega (arith, r.count) in
-    let whole : outlines_from 0 (done ++ bytes ∷ [])
-    ≡ joined (outlines_from 0 done)
-    (refused_by (file.Package number) (outline_in bytes) >>= λ outline. Ok (outline ∷ [])) =
-    outlines-append 0 number done (bytes ∷ []) place in
+    let whole : extensions_from reads 0 (done ++ bytes ∷ [])
+    ≡ joined (extensions_from reads 0 done) (extension_held reads number bytes >>= λ one. Ok (one ∷ [])) =
+    extensions-append reads 0 number done (bytes ∷ []) place in
+    let len : length (manifests done) ≡ length all.extensions =
+    length-map done (λ (b : ExtensionBytes). b.manifest) ∙ r.count ∙ sym r.size in
     record {
       made = rw whole
-          (made_next platform es number e (outlines_from 0 done)
-          (refused_by (file.Package number) (outline_in bytes)) r.size r.made h);
+          (made_next platform all number e handlers (extensions_from reads 0 done)
+          (extension_held reads number bytes) r.size r.made h);
       count = length-append done (bytes ∷ []) ∙ ap (λ n. n + 1) r.count;
-      size = length-append es (e ∷ []) ∙ ap (λ n. n + 1) r.size;
-      right = marked_next done es bytes e (r.count ∙ sym r.size) r.right right;
+      size = length-append all.extensions (e ∷ []) ∙ ap (λ n. n + 1) r.size;
+      right = rw (map-append (λ (b : ExtensionBytes). b.manifest) done (bytes ∷ []))
+          (marked_next (manifests done) all.extensions bytes.manifest e len r.right right);
     }
 
-fails_joined : (P : List Outline → Type 0) (first rest : Result (List Outline) LoadFault) (f : LoadFault)
+fails_joined : (P : List HeldExtension → Type 0) (first rest : Extensions) (f : LoadFault)
     → MatchResult first P (λ fault. ⊥) → rest ≡ Err f → joined first rest ≡ Err f
 fails_joined P (Ok done) rest f h e = rw e refl
 fails_joined P (Err g) rest f h e = absurd h
 
--- a manifest that is refused is the first fault
-pub reads_fail : (platform : Platform) (es : List Extension) (number : ℕ) (done rest : List (List ℕ))
-    (bytes : List ℕ) (failure : Failure LoadFault) → Reads platform es number done
-    → Fails failure (refused_by (file.Package number) (outline_in bytes))
-    → Fails failure (outlines_from 0 (done ++ bytes ∷ rest))
-reads_fail platform es number done rest bytes NoMemory r h = tt
-reads_fail platform es number done rest bytes (Fault f) r h =
+-- the files of an extension that are refused are the first fault
+pub reads_fail : (reads : HandlerFiles) (platform : Platform) (all : ReadExtensions) (number : ℕ)
+    (done rest : List ExtensionBytes) (bytes : ExtensionBytes) (failure : Failure LoadFault)
+    → Reads reads platform all number done → Fails failure (extension_held reads number bytes)
+    → Fails failure (extensions_from reads 0 (done ++ bytes ∷ rest))
+reads_fail reads platform all number done rest bytes NoMemory r h = tt
+reads_fail reads platform all number done rest bytes (Fault f) r h =
     let place : 0 + length done ≡ number = omega (arith, r.count) in
-    let here : outlines_from number (bytes ∷ rest) ≡ Err f = rw h refl in
-    outlines-append 0 number done (bytes ∷ rest) place
-    ∙ fails_joined (λ outlines. AreExtensions platform outlines es) (outlines_from 0 done)
-    (outlines_from number (bytes ∷ rest)) f r.made here
+    let here : extensions_from reads number (bytes ∷ rest) ≡ Err f = rw h refl in
+    extensions-append reads 0 number done (bytes ∷ rest) place
+    ∙ fails_joined (λ held. AreHeld platform held all) (extensions_from reads 0 done)
+    (extensions_from reads number (bytes ∷ rest)) f r.made here
 
--- ---- the manifests of a slice, and identifiers
+-- ---- the files of a slice, and identifiers
 
-abbrev bytes_of : List (Bor (List ℕ)) → List (List ℕ)
-bytes_of = map (λ m. m.now)
+abbrev bytes_of : List ExtensionFiles → List ExtensionBytes
+bytes_of = map extension_bytes
 
-one_more : (ms : List (Bor (List ℕ))) (i : ℕ) (d : Bor (List ℕ)) → i < length ms
-    → bytes_of (take (i + 1) ms) ≡ bytes_of (take i ms) ++ (get_or ms i d).now ∷ []
-one_more ms i d below =
-    ap bytes_of (take_more ms i d below) ∙ map-append (λ m. m.now) (take i ms) (get_or ms i d ∷ [])
+one_more : (fs : List ExtensionFiles) (i : ℕ) (d : ExtensionFiles) → i < length fs
+    → bytes_of (take (i + 1) fs) ≡ bytes_of (take i fs) ++ extension_bytes (get_or fs i d) ∷ []
+one_more fs i d below =
+    ap bytes_of (take_more fs i d below) ∙ map-append extension_bytes (take i fs) (get_or fs i d ∷ [])
 
-all_of : (ms : List (Bor (List ℕ))) (i : ℕ) (d : Bor (List ℕ)) → i < length ms
-    → bytes_of ms ≡ bytes_of (take i ms) ++ (get_or ms i d).now ∷ bytes_of (drop (i + 1) ms)
-all_of ms i d below =
-    ap bytes_of (sym (take-append-drop i ms) ∙ ap (λ rest. take i ms ++ rest) (drop_more ms i d below))
-    ∙ map-append (λ m. m.now) (take i ms) (get_or ms i d ∷ drop (i + 1) ms)
+all_of : (fs : List ExtensionFiles) (i : ℕ) (d : ExtensionFiles) → i < length fs
+    → bytes_of fs
+    ≡ bytes_of (take i fs) ++ extension_bytes (get_or fs i d) ∷ bytes_of (drop (i + 1) fs)
+all_of fs i d below =
+    ap bytes_of (sym (take-append-drop i fs) ∙ ap (λ rest. take i fs ++ rest) (drop_more fs i d below))
+    ∙ map-append extension_bytes (take i fs) (get_or fs i d ∷ drop (i + 1) fs)
 
-pub manifest_next : (platform : Platform) (ms : List (Bor (List ℕ))) (i : ℕ) (d : Bor (List ℕ))
-    (es : List Extension) (number : ℕ) (e : Extension) → i < length ms
-    → Reads platform es number (bytes_of (take i ms))
-    → MatchResult (refused_by (file.Package number) (outline_in (get_or ms i d).now))
-    (λ outline. IsExtension number platform outline e) (λ fault. ⊥)
-    → IsRightlyMarked (get_or ms i d).now e
-    → Reads platform (es ++ e ∷ []) (number + 1) (bytes_of (take (i + 1) ms))
-manifest_next platform ms i d es number e below r h right =
-    rw (one_more ms i d below)
-    (reads_next platform es number (bytes_of (take i ms)) (get_or ms i d).now e r h right)
+pub files_next : (reads : HandlerFiles) (platform : Platform) (fs : List ExtensionFiles) (i : ℕ)
+    (d : ExtensionFiles) (all : ReadExtensions) (number : ℕ) (e : Extension) (handlers : List HandlerData)
+    → i < length fs → Reads reads platform all number (bytes_of (take i fs))
+    → MatchResult (extension_held reads number (extension_bytes (get_or fs i d)))
+    (λ held. IsHeld number platform held e handlers) (λ fault. ⊥)
+    → IsRightlyMarked (get_or fs i d).package.now e
+    → Reads reads platform (pushed all e handlers) (number + 1) (bytes_of (take (i + 1) fs))
+files_next reads platform fs i d all number e handlers below r h right =
+    rw (one_more fs i d below)
+    (reads_next reads platform all number (bytes_of (take i fs)) (extension_bytes (get_or fs i d)) e handlers
+    r h right)
 
-pub manifest_fails : (platform : Platform) (ms : List (Bor (List ℕ))) (i : ℕ) (d : Bor (List ℕ))
-    (es : List Extension) (number : ℕ) (failure : Failure LoadFault) → i < length ms
-    → Reads platform es number (bytes_of (take i ms))
-    → Fails failure (refused_by (file.Package number) (outline_in (get_or ms i d).now))
-    → Fails failure (outlines_from 0 (bytes_of ms))
-manifest_fails platform ms i d es number failure below r h =
-    rw (all_of ms i d below)
-    (reads_fail platform es number (bytes_of (take i ms)) (bytes_of (drop (i + 1) ms)) (get_or ms i d).now
-    failure r h)
+pub files_fail : (reads : HandlerFiles) (platform : Platform) (fs : List ExtensionFiles) (i : ℕ)
+    (d : ExtensionFiles) (all : ReadExtensions) (number : ℕ) (failure : Failure LoadFault) → i < length fs
+    → Reads reads platform all number (bytes_of (take i fs))
+    → Fails failure (extension_held reads number (extension_bytes (get_or fs i d)))
+    → Fails failure (extensions_from reads 0 (bytes_of fs))
+files_fail reads platform fs i d all number failure below r h =
+    rw (all_of fs i d below)
+    (reads_fail reads platform all number (bytes_of (take i fs)) (bytes_of (drop (i + 1) fs))
+    (extension_bytes (get_or fs i d)) failure r h)
 
 pub among_here : (id : List ℕ) (others : List Extension) (i : ℕ) (e : Extension) → i < length others
     → e ≡ get_or others i e → str_eq_ignore_ascii_case id e.id ≡ true
@@ -303,184 +416,171 @@ judged platform outlines es h =
 few_enough : (n : ℕ) → n ≤ 100 → nat_lt 100 n ≡ false
 few_enough n h = grind (arith, nat_tests)
 
-held_all : (ms : List (Bor (List ℕ))) → length ms ≤ 100
-    → extensions_held (bytes_of ms)
-    ≡ (outlines_from 0 (bytes_of ms) >>= λ outlines. unless_fault (names_fault (map names_in outlines)) outlines)
-held_all ms few =
-    let count : length (bytes_of ms) ≤ 100 = omega (arith, few, length-map ms (λ m. m.now)) in
-    rw (few_enough (length (bytes_of ms)) count) refl
+held_all : (reads : HandlerFiles) (fs : List ExtensionFiles) → length fs ≤ 100
+    → extensions_held reads (bytes_of fs)
+    ≡ (extensions_from reads 0 (bytes_of fs)
+    >>= λ held. unless_fault (names_fault (map names_in (outlines_of held))) held)
+held_all reads fs few =
+    let count : length (bytes_of fs) ≤ 100 = omega (arith, few, length-map fs extension_bytes) in
+    rw (few_enough (length (bytes_of fs)) count) refl
 
-judged_fail : (platform : Platform) (read : Result (List Outline) LoadFault) (es : List Extension)
-    (fault : LoadFault) → MatchResult read (λ outlines. AreExtensions platform outlines es) (λ f. ⊥)
-    → names_fault (map names_of es) ≡ Some fault
-    → (read >>= λ outlines. unless_fault (names_fault (map names_in outlines)) outlines) ≡ Err fault
-judged_fail platform (Ok outlines) es fault h e =
-    ap (λ found. unless_fault found outlines) (ap names_fault (judged platform outlines es h) ∙ e)
-judged_fail platform (Err f) es fault h e = absurd h
+judged_fail : (platform : Platform) (read : Extensions) (all : ReadExtensions) (fault : LoadFault)
+    → MatchResult read (λ held. AreHeld platform held all) (λ f. ⊥)
+    → names_fault (map names_of all.extensions) ≡ Some fault
+    → (read >>= λ held. unless_fault (names_fault (map names_in (outlines_of held))) held) ≡ Err fault
+judged_fail platform (Ok held) all fault h e =
+    ap (λ found. unless_fault found held)
+    (ap names_fault (judged platform (outlines_of held) all.extensions h.extensions_are) ∙ e)
+judged_fail platform (Err f) all fault h e = absurd h
 
-pub identifiers_fail : (platform : Platform) (ms : List (Bor (List ℕ))) (es : List Extension)
-    (fault : LoadFault) → length ms ≤ 100
-    → MatchResult (outlines_from 0 (bytes_of ms)) (λ outlines. AreExtensions platform outlines es) (λ f. ⊥)
-    → names_fault (map names_of es) ≡ Some fault → extensions_held (bytes_of ms) ≡ Err fault
-identifiers_fail platform ms es fault few h e =
-    held_all ms few ∙ judged_fail platform (outlines_from 0 (bytes_of ms)) es fault h e
+pub identifiers_fail : (reads : HandlerFiles) (platform : Platform) (fs : List ExtensionFiles)
+    (all : ReadExtensions) (fault : LoadFault) → length fs ≤ 100
+    → MatchResult (extensions_from reads 0 (bytes_of fs)) (λ held. AreHeld platform held all) (λ f. ⊥)
+    → names_fault (map names_of all.extensions) ≡ Some fault
+    → extensions_held reads (bytes_of fs) ≡ Err fault
+identifiers_fail reads platform fs all fault few h e =
+    held_all reads fs few ∙ judged_fail platform (extensions_from reads 0 (bytes_of fs)) all fault h e
 
-judged_pass : (platform : Platform) (read : Result (List Outline) LoadFault) (es : List Extension)
-    → MatchResult read (λ outlines. AreExtensions platform outlines es) (λ f. ⊥)
-    → names_fault (map names_of es) ≡ None
-    → MatchResult (read >>= λ outlines. unless_fault (names_fault (map names_in outlines)) outlines)
-    (λ outlines. AreExtensions platform outlines es) (λ f. ⊥)
-judged_pass platform (Ok outlines) es h e =
-    let passes : names_fault (map names_in outlines) ≡ None =
-    ap names_fault (judged platform outlines es h) ∙ e in
+judged_pass : (platform : Platform) (read : Extensions) (all : ReadExtensions)
+    → MatchResult read (λ held. AreHeld platform held all) (λ f. ⊥)
+    → names_fault (map names_of all.extensions) ≡ None
+    → MatchResult (read >>= λ held. unless_fault (names_fault (map names_in (outlines_of held))) held)
+    (λ held. AreHeld platform held all) (λ f. ⊥)
+judged_pass platform (Ok held) all h e =
+    let passes : names_fault (map names_in (outlines_of held)) ≡ None =
+    ap names_fault (judged platform (outlines_of held) all.extensions h.extensions_are) ∙ e in
     rw passes h
-judged_pass platform (Err f) es h e = absurd h
+judged_pass platform (Err f) all h e = absurd h
 
-pub identifiers_pass : (platform : Platform) (ms : List (Bor (List ℕ))) (es : List Extension)
-    → length ms ≤ 100
-    → MatchResult (outlines_from 0 (bytes_of ms)) (λ outlines. AreExtensions platform outlines es) (λ f. ⊥)
-    → names_fault (map names_of es) ≡ None
-    → MatchResult (extensions_held (bytes_of ms)) (λ outlines. AreExtensions platform outlines es) (λ f. ⊥)
-identifiers_pass platform ms es few h e =
-    rw (held_all ms few) (judged_pass platform (outlines_from 0 (bytes_of ms)) es h e)
+pub identifiers_pass : (reads : HandlerFiles) (platform : Platform) (fs : List ExtensionFiles)
+    (all : ReadExtensions) → length fs ≤ 100
+    → MatchResult (extensions_from reads 0 (bytes_of fs)) (λ held. AreHeld platform held all) (λ f. ⊥)
+    → names_fault (map names_of all.extensions) ≡ None
+    → MatchResult (extensions_held reads (bytes_of fs)) (λ held. AreHeld platform held all) (λ f. ⊥)
+identifiers_pass reads platform fs all few h e =
+    rw (held_all reads fs few) (judged_pass platform (extensions_from reads 0 (bytes_of fs)) all h e)
 
 -- ---- all files
 
-fails_first : {X Y F : Type 0} (failure : Failure F) (r : Result X F) (next : X → Result Y F)
-    → Fails failure r → Fails failure (r >>= next)
-fails_first NoMemory r next h = tt
-fails_first (Fault f) r next h = rw h refl
+abbrev held_rules : HeldLists → List HeldExtension → HeldRules
+held_rules lists extensions = record { lists = lists; extensions = extensions }
 
-fails_behind : {X Y F : Type 0} (P : X → Type 0) (failure : Failure F) (r : Result X F) (next : X → Result Y F)
-    → MatchResult r P (λ fault. ⊥) → ((x : X) → Fails failure (next x)) → Fails failure (r >>= next)
-fails_behind P failure (Ok x) next h all = all x
-fails_behind P failure (Err e) next h all = absurd h
-
--- two readings, one behind the other
-abbrev both : {X Y Z : Type 0} → Result X LoadFault → Result Y LoadFault → (X → Y → Z) → Result Z LoadFault
-both first next join = first >>= λ x. next >>= λ y. Ok (join x y)
-
-pub second_fails : {X Y Z : Type 0} (P : X → Type 0) (failure : Failure LoadFault) (first : Result X LoadFault)
-    (next : Result Y LoadFault) (join : X → Y → Z) → MatchResult first P (λ fault. ⊥) → Fails failure next
-    → Fails failure (both first next join)
-second_fails P failure first next join h k =
-    fails_behind P failure first (λ x. next >>= λ y. Ok (join x y)) h
-    (λ x. fails_first failure next (λ y. Ok (join x y)) k)
-
-pub first_fails : {X Y Z : Type 0} (failure : Failure LoadFault) (first : Result X LoadFault)
-    (next : Result Y LoadFault) (join : X → Y → Z) → Fails failure first → Fails failure (both first next join)
-first_fails failure first next join h = fails_first failure first (λ x. next >>= λ y. Ok (join x y)) h
-
-pub both_made : {X Y Z : Type 0} (P : X → Type 0) (Q : Y → Type 0) (R : Z → Type 0) (first : Result X LoadFault)
-    (next : Result Y LoadFault) (join : X → Y → Z) → ((x : X) (y : Y) → P x → Q y → R (join x y))
-    → MatchResult first P (λ fault. ⊥) → MatchResult next Q (λ fault. ⊥)
-    → MatchResult (both first next join) R (λ fault. ⊥)
-both_made P Q R (Ok x) (Ok y) join make h k = make x y h k
-both_made P Q R (Ok x) (Err f) join make h k = absurd k
-both_made P Q R (Err f) next join make h k = absurd h
-
--- the rules of two files, and the extensions
-pub sources_made : (files : Files) (sources : Sources) (lists : Result HeldLists LoadFault)
-    (extensions : Result (List Outline) LoadFault)
+-- the rules of two files, and the extensions with their handlers
+pub sources_made : (files : Files) (sources : Sources) (handlers : List (List HandlerData))
+    (lists : Result HeldLists LoadFault) (extensions : Extensions)
     → MatchResult lists (λ held. AreLists held sources.defaults sources.user) (λ fault. ⊥)
-    → MatchResult extensions (λ os. AreExtensions files.platform os sources.extensions) (λ fault. ⊥)
-    → MatchResult (both lists extensions (λ l o. record { lists = l; outlines = o }))
-    (λ held. AreSources files.platform held sources) (λ fault. ⊥)
-sources_made files sources lists extensions h k =
+    → MatchResult extensions (λ held. AreHeld files.platform held
+    (record { extensions = sources.extensions; handlers = handlers })) (λ fault. ⊥)
+    → MatchResult (both lists extensions held_rules)
+    (λ held. IsBound files.platform held sources handlers) (λ fault. ⊥)
+sources_made files sources handlers lists extensions h k =
     both_made (λ held. AreLists held sources.defaults sources.user)
-    (λ os. AreExtensions files.platform os sources.extensions) (λ held. AreSources files.platform held sources)
-    lists extensions (λ l o. record { lists = l; outlines = o })
-    (λ l o are es i. record {
-      defaults = are.defaults_are i;
-      extensions = es i;
-      user = are.user_are i;
+    (λ held. AreHeld files.platform held (record { extensions = sources.extensions; handlers = handlers }))
+    (λ held. IsBound files.platform held sources handlers) lists extensions held_rules
+    (λ l held are all. record {
+      sources_are = λ i. record {
+        defaults = are.defaults_are i;
+        extensions = all.extensions_are i;
+        user = are.user_are i;
+      };
+      handlers_are = all.handlers_are;
     }) h k
 
--- the count of what the manifests say
+-- the count of what the files hold
 
-one_before : (r : Result Outline LoadFault) (rest : Result (List Outline) LoadFault) (outlines : List Outline)
-    → (r >>= λ outline. rest >>= λ more. Ok (outline ∷ more)) ≡ Ok outlines
-    → (more : List Outline) × (rest ≡ Ok more) × (length outlines ≡ length more + 1)
-one_before (Ok outline) (Ok more) outlines h =
-    let e : outline ∷ more ≡ outlines = cc in
-    let n : length (outline ∷ more) ≡ length outlines = ap length e in
+one_before : (r : Result HeldExtension LoadFault) (rest : Extensions) (held : List HeldExtension)
+    → (r >>= λ one. rest >>= λ more. Ok (one ∷ more)) ≡ Ok held
+    → (more : List HeldExtension) × (rest ≡ Ok more) × (length held ≡ length more + 1)
+one_before (Ok one) (Ok more) held h =
+    let e : one ∷ more ≡ held = cc in
+    let n : length (one ∷ more) ≡ length held = ap length e in
     (more, refl, omega (arith, n))
-one_before (Ok outline) (Err f) outlines h = absurd (cc)
-one_before (Err f) rest outlines h = absurd (cc)
+one_before (Ok one) (Err f) held h = absurd (cc)
+one_before (Err f) rest held h = absurd (cc)
 
-outlines-count : (number : ℕ) (manifests : List (List ℕ)) (outlines : List Outline)
-    → outlines_from number manifests ≡ Ok outlines → length manifests ≡ length outlines
-outlines-count number [] outlines h =
-    let e : [] ≡ outlines = cc in
+extensions-count : (reads : HandlerFiles) (number : ℕ) (extensions : List ExtensionBytes)
+    (held : List HeldExtension) → extensions_from reads number extensions ≡ Ok held
+    → length extensions ≡ length held
+extensions-count reads number [] held h =
+    let e : [] ≡ held = cc in
     ap length e
-outlines-count number (bytes ∷ manifests) outlines h =
-    let p = one_before (refused_by (file.Package number) (outline_in bytes)) (outlines_from (number + 1) manifests)
-    outlines h in
-    let rest = outlines-count (number + 1) manifests p.0 p.1 in
+extensions-count reads number (bytes ∷ extensions) held h =
+    let p = one_before (extension_held reads number bytes) (extensions_from reads (number + 1) extensions)
+    held h in
+    let rest = extensions-count reads (number + 1) extensions p.0 p.1 in
     omega (arith, rest, p.2)
 
-unless-same : (found : Option LoadFault) (outlines more : List Outline)
-    → unless_fault found outlines ≡ Ok more → outlines ≡ more
-unless-same None outlines more h = cc
-unless-same (Some f) outlines more h = absurd (cc)
+unless-same : (found : Option LoadFault) (held more : List HeldExtension)
+    → unless_fault found held ≡ Ok more → held ≡ more
+unless-same None held more h = cc
+unless-same (Some f) held more h = absurd (cc)
 
-read-same : (read : Result (List Outline) LoadFault) (more : List Outline)
-    → (read >>= λ outlines. unless_fault (names_fault (map names_in outlines)) outlines) ≡ Ok more
+read-same : (read : Extensions) (more : List HeldExtension)
+    → (read >>= λ held. unless_fault (names_fault (map names_in (outlines_of held))) held) ≡ Ok more
     → read ≡ Ok more
-read-same (Ok outlines) more h = ap Ok (unless-same (names_fault (map names_in outlines)) outlines more h)
+read-same (Ok held) more h =
+    ap Ok (unless-same (names_fault (map names_in (outlines_of held))) held more h)
 read-same (Err f) more h = absurd (cc)
 
-few-same : (b : Bool) (fault : LoadFault) (r : Result (List Outline) LoadFault) (more : List Outline)
+few-same : (b : Bool) (fault : LoadFault) (r : Extensions) (more : List HeldExtension)
     → (if b then Err fault else r) ≡ Ok more → r ≡ Ok more
 few-same true fault r more h = absurd (cc)
 few-same false fault r more h = h
 
-held-count : (manifests : List (List ℕ)) (outlines : List Outline) → extensions_held manifests ≡ Ok outlines
-    → length manifests ≡ length outlines
-held-count manifests outlines h =
-    outlines-count 0 manifests outlines
-    (read-same (outlines_from 0 manifests) outlines
-    (few-same (nat_lt 100 (length manifests)) (refused_file file.Extensions (refused_for 44)) _ outlines h))
+held-count : (reads : HandlerFiles) (extensions : List ExtensionBytes) (held : List HeldExtension)
+    → extensions_held reads extensions ≡ Ok held → length extensions ≡ length held
+held-count reads extensions held h =
+    extensions-count reads 0 extensions held
+    (read-same (extensions_from reads 0 extensions) held
+    (few-same (nat_lt 100 (length extensions)) (refused_file file.Extensions (refused_for 44)) _ held h))
 
-outlines-had : (lists : Result HeldLists LoadFault) (extensions : Result (List Outline) LoadFault)
-    (held : HeldRules) → both lists extensions (λ l o. record { lists = l; outlines = o }) ≡ Ok held
-    → extensions ≡ Ok held.outlines
-outlines-had (Ok l) (Ok o) held h =
-    let e : record { lists = l; outlines = o } ≡ held = cc in
-    ap (λ (r : HeldRules). Ok r.outlines) e
-outlines-had (Ok l) (Err f) held h = absurd (cc)
-outlines-had (Err f) extensions held h = absurd (cc)
+extensions-had : (lists : Result HeldLists LoadFault) (extensions : Extensions) (held : HeldRules)
+    → both lists extensions held_rules ≡ Ok held → extensions ≡ Ok held.extensions
+extensions-had (Ok l) (Ok o) held h =
+    let e : held_rules l o ≡ held = cc in
+    ap (λ (r : HeldRules). Ok r.extensions) e
+extensions-had (Ok l) (Err f) held h = absurd (cc)
+extensions-had (Err f) extensions held h = absurd (cc)
 
 -- the marks that the patterns of what was read tell are its own
-told_own : (files : Files) (sources : Sources) (held : HeldRules) → rules_held files ≡ Ok held
-    → AreSources files.platform held sources → marks_told files (unread_of sources) ≡ marks_in sources
-told_own files sources held h are =
-    let es : AreExtensions files.platform held.outlines sources.extensions =
+told_own : (reads : HandlerFiles) (files : Files) (sources : Sources) (held : HeldRules)
+    → rules_held reads files ≡ Ok held → AreSources files.platform held sources
+    → marks_told files (unread_of sources) ≡ marks_in sources
+told_own reads files sources held h are =
+    let outlines = outlines_of held.extensions in
+    let es : AreExtensions files.platform outlines sources.extensions =
     ap (λ (s : Sources). s.extensions) are in
-    let count : length files.manifests ≡ length held.outlines =
-    held-count files.manifests held.outlines
-    (outlines-had (lists_held files.defaults files.user) (extensions_held files.manifests) held h) in
-    let len : length files.manifests ≡ length sources.extensions =
-    count ∙ sym (extensions-length files.platform (map marks_of sources.extensions) 0 held.outlines)
+    let count : length files.extensions ≡ length held.extensions =
+    held-count reads files.extensions held.extensions
+    (extensions-had (lists_held files.defaults files.user) (extensions_held reads files.extensions) held h) in
+    let len : length (manifests files.extensions) ≡ length sources.extensions =
+    length-map files.extensions (λ (b : ExtensionBytes). b.manifest) ∙ count
+    ∙ sym (length-map held.extensions (λ (x : HeldExtension). x.outline))
+    ∙ sym (extensions-length files.platform (map marks_of sources.extensions) 0 outlines)
     ∙ sym (ap length es) in
-    told_all files files.platform held.outlines sources len es
+    told_all files files.platform outlines sources len es
 
-abbrev loaded_from : ScopesData → Sources → Loaded
-loaded_from scopes sources = record { scopes = scopes; bindings = sources }
+abbrev loaded_from : ScopesData → Sources → List (List HandlerData) → Loaded
+loaded_from scopes sources handlers = record { scopes = scopes; bindings = sources; handlers = handlers }
 
-all_made : (files : Files) (scopes : ScopesData) (sources : Sources) (rules : Result HeldRules LoadFault)
-    → rules_held files ≡ rules → MatchResult rules (λ held. AreSources files.platform held sources) (λ fault. ⊥)
+all_made : (reads : HandlerFiles) (files : Files) (scopes : ScopesData) (sources : Sources)
+    (handlers : List (List HandlerData)) (rules : Result HeldRules LoadFault) → rules_held reads files ≡ rules
+    → MatchResult rules (λ held. IsBound files.platform held sources handlers) (λ fault. ⊥)
     → seen (λ (held : Held). loaded_from held.scopes
-    (sources_by (marks_told files (unread_of sources)) files.platform held.rules))
-    (both (Ok scopes) rules (λ s r. record { scopes = s; rules = r })) ≡ Ok (loaded_from scopes sources)
-all_made files scopes sources (Ok held) is are =
-    ap (λ (marks : LoadMarks). Ok (loaded_from scopes (sources_by marks files.platform held)))
-    (told_own files sources held is are)
-    ∙ ap (λ (s : Sources). Ok (loaded_from scopes s)) (sym are)
-all_made files scopes sources (Err f) is are = absurd are
+    (sources_by (marks_told files (unread_of sources)) files.platform held.rules)
+    (handlers_of held.rules.extensions))
+    (both (Ok scopes) rules (λ s r. record { scopes = s; rules = r }))
+    ≡ Ok (loaded_from scopes sources handlers)
+all_made reads files scopes sources handlers (Ok held) is are =
+    ap (λ (marks : LoadMarks).
+    Ok (loaded_from scopes (sources_by marks files.platform held) (handlers_of held.extensions)))
+    (told_own reads files sources held is are.sources_are)
+    ∙ (λ i. Ok (loaded_from scopes (sym are.sources_are i) (sym are.handlers_are i)))
+all_made reads files scopes sources handlers (Err f) is are = absurd are
 
-pub all_loaded : (files : Files) (scopes : ScopesData) (sources : Sources)
-    → refused_by file.Layout (layout_scopes files.layout) ≡ Ok scopes
-    → GivesOf {F = LoadFault} (AreSources files.platform) (Ok sources) (rules_held files)
-    → loaded (marks_told files (unread_of sources)) files ≡ Ok (loaded_from scopes sources)
-all_loaded files scopes sources e h = rw e (all_made files scopes sources (rules_held files) refl h)
+pub all_loaded : (reads : HandlerFiles) (files : Files) (scopes : ScopesData) (sources : Sources)
+    (handlers : List (List HandlerData)) → refused_by file.Layout (layout_scopes files.layout) ≡ Ok scopes
+    → MatchResult (rules_held reads files) (λ held. IsBound files.platform held sources handlers) (λ fault. ⊥)
+    → loaded reads (marks_told files (unread_of sources)) files ≡ Ok (loaded_from scopes sources handlers)
+all_loaded reads files scopes sources handlers e h =
+    rw e (all_made reads files scopes sources handlers (rules_held reads files) refl h)

@@ -20,7 +20,7 @@ use Rattle.kb_rules.specs.declared.origin.Origin.{Origin}
 use Rattle.kb_rules.specs.declared.origin.Origin.TheVariants as origin
 use Rattle.kb_rules.specs.declared.unread.UnreadAt.{UnreadAt}
 use Rattle.kb_bindings.specs.Load.{Files, AreExtensions, extensions_by, first_marks, other_marks, marks_in}
-use Rattle.kb_bindings.specs.Load.{marks_told}
+use Rattle.kb_bindings.specs.Load.{marks_told, manifests}
 use Rattle.kb_bindings.specs.Sources.{Sources}
 use Rattle.kb_bindings.specs.Unread.{in_rules, in_entries, in_extension, unread_of, is_of, rule_told, entry_told}
 use Rattle.kb_bindings.specs.Unread.{same_origin, same_part}
@@ -386,7 +386,7 @@ user_told s numbers =
 
 -- the marks that the list of a load tells are its own
 pub told_all : (files : Files) (platform : Platform) (outlines : List Outline) (s : Sources)
-    → length files.manifests ≡ length s.extensions → AreExtensions platform outlines s.extensions
+    → length (manifests files.extensions) ≡ length s.extensions → AreExtensions platform outlines s.extensions
     → marks_told files (unread_of s) ≡ marks_in s
 told_all files platform outlines s len are =
     let numbers : Numbered 0 s.extensions =
@@ -395,7 +395,7 @@ told_all files platform outlines s len are =
     subst (AllByRecursion HasParts) (sym are) (parts_by platform (map marks_of s.extensions) 0 outlines) in
     λ i. record {
       defaults = defaults_told s numbers i;
-      extensions = follow 0 s.extensions files.manifests (unread_of s) len numbers parts
+      extensions = follow 0 s.extensions (manifests files.extensions) (unread_of s) len numbers parts
           (λ k above. extensions_agree s k) i;
       user = user_told s numbers i;
     }

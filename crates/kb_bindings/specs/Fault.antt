@@ -2,7 +2,7 @@
 use Rattle.std.specs.Prelude.{ℕ, List, ◌++◌, Result, Ok, Err, codes, decimal}
 use Rattle.kb_bindings.specs.declared.fault.LoadFile.{LoadFile}
 use Rattle.kb_bindings.specs.declared.fault.LoadFile.TheVariants.{Layout, Defaults, User, Extensions, Package}
-use Rattle.kb_bindings.specs.declared.fault.LoadFile.TheVariants.{Natives}
+use Rattle.kb_bindings.specs.declared.fault.LoadFile.TheVariants.{Handlers, Natives}
 use Rattle.kb_bindings.specs.declared.fault.LoadFault.{LoadFault}
 use Rattle.kb_context.specs.declared.failure.Failure.{Failure}
 use Rattle.kb_context.specs.declared.failure.Failure.TheVariants.{NoMemory, Fault}
@@ -14,6 +14,7 @@ load_file_word Defaults = codes "defaults"
 load_file_word User = codes "user"
 load_file_word Extensions = codes "extensions"
 load_file_word (Package number) = codes "ext " ++ (decimal number ++ codes " package.json")
+load_file_word (Handlers number) = codes "ext " ++ (decimal number ++ codes " handlers.json")
 load_file_word Natives = codes "natives"
 
 -- a file is refused

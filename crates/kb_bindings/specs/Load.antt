@@ -6,12 +6,15 @@ use Rattle.std.specs.List.{list_any}
 use Rattle.std.specs.Option.{option_or}
 use Rattle.std.specs.Str.{str_eq_ignore_ascii_case}
 use Rattle.serde_json.specs.Data.{Data}
+use Rattle.kb_code.specs.Handler.{HandlerData}
 use Rattle.kb_context.specs.Failure.{Fails}
 use Rattle.kb_context.specs.Reading.{◌>>=◌, seen}
 use Rattle.kb_context.specs.Refusal.{refused_for}
 use Rattle.kb_context.specs.Scopes.{ScopesData}
 use Rattle.kb_context.specs.declared.failure.Failure.{Failure}
+use Rattle.kb_context.specs.declared.refusal.Refusal.{Refusal}
 use Rattle.kb_files.specs.Extension.{ExtensionMarks, marks_of, outline_in, extension_by, IsRightlyMarked}
+use Rattle.kb_files.specs.HandlerFile.{handlers_in}
 use Rattle.kb_files.specs.Layout.{layout_scopes}
 use Rattle.kb_files.specs.RuleFile.{elements_held, rules_by}
 use Rattle.kb_files.specs.declared.extension_file.Extension.{Extension}
@@ -26,17 +29,35 @@ use Rattle.kb_bindings.specs.Sources.{Sources}
 use Rattle.kb_bindings.specs.Unread.{rules_told, extensions_told, unread_of}
 use Rattle.kb_bindings.specs.declared.fault.LoadFault.{LoadFault}
 use Rattle.kb_bindings.specs.declared.fault.LoadFile.TheVariants as file
+use Rattle.kb_bindings.specs.declared.inputs.ExtensionFiles.{ExtensionFiles}
+use Rattle.kb_bindings.specs.declared.inputs.HandlerFiles.{HandlerFiles}
+use Rattle.kb_bindings.specs.declared.inputs.HandlerFiles.TheVariants.{Ignored, Raw}
 use Rattle.kb_bindings.specs.declared.inputs.Inputs.{Inputs}
 use Rattle.kb_bindings.specs.declared.load.Loaded.{Loaded}
+use Rattle.kb_bindings.specs.declared.load.ReadExtensions.{ReadExtensions}
 use Rattle.kb_bindings.specs.declared.unread.UnreadIn.{UnreadIn}
 
--- the files, as bytes; the manifests in load order
+-- the files of an extension, as bytes: its manifest (`package.json`), and its `handlers.json` if it has one
+pub record ExtensionBytes : Type 0 where
+  pub manifest : List ℕ
+  pub handlers : Option (List ℕ)
+
+-- all files, those of extensions in load order
 pub record Files : Type 0 where
   pub layout : Option (List ℕ)
   pub defaults : List ℕ
   pub user : List ℕ
   pub platform : Platform
-  pub manifests : List (List ℕ)
+  pub extensions : List ExtensionBytes
+
+abbrev pub extension_bytes : ExtensionFiles → ExtensionBytes
+extension_bytes files = record {
+  manifest = files.package.now;
+  handlers = option_map (λ handlers. handlers.now) files.handlers;
+}
+
+abbrev pub manifests : List ExtensionBytes → List (List ℕ)
+manifests extensions = map (λ e. e.manifest) extensions
 
 abbrev pub files_of : Inputs → Files
 files_of inputs = record {
@@ -44,18 +65,46 @@ files_of inputs = record {
   defaults = inputs.defaults.now;
   user = inputs.user.now;
   platform = inputs.platform;
-  manifests = map (λ manifest. manifest.now) inputs.manifests.now;
+  extensions = map extension_bytes inputs.extensions.now;
 }
 
 -- ---- extensions
 
--- what the manifests say, which are numbered from a number
-abbrev pub outlines_from : ℕ → List (List ℕ) → Result (List Outline) LoadFault
-outlines_from number [] = Ok []
-outlines_from number (bytes ∷ rest) =
-    refused_by (file.Package number) (outline_in bytes)
-    >>= λ outline. outlines_from (number + 1) rest
-    >>= λ outlines. Ok (outline ∷ outlines)
+-- the handlers of a `handlers.json`, none where there is no such file
+abbrev pub handlers_in_file : Option (List ℕ) → Result (List HandlerData) Refusal
+handlers_in_file None = Ok []
+handlers_in_file (Some bytes) = handlers_in bytes
+
+-- and none where these files are ignored, whatever they hold
+abbrev pub handlers_held : HandlerFiles → Option (List ℕ) → Result (List HandlerData) Refusal
+handlers_held Ignored bytes = Ok []
+handlers_held Raw bytes = handlers_in_file bytes
+
+-- what the files of an extension hold: what its manifest says before patterns are read, and its handlers
+pub record HeldExtension : Type 0 where
+  pub outline : Outline
+  pub handlers : List HandlerData
+
+-- the manifest is looked at before the handlers
+abbrev pub extension_held : HandlerFiles → ℕ → ExtensionBytes → Result HeldExtension LoadFault
+extension_held reads number bytes =
+    refused_by (file.Package number) (outline_in bytes.manifest)
+    >>= λ outline. refused_by (file.Handlers number) (handlers_held reads bytes.handlers)
+    >>= λ handlers. Ok (record { outline = outline; handlers = handlers })
+
+-- what the files of extensions hold, which are numbered from a number; those of one before those of the next
+abbrev pub extensions_from : HandlerFiles → ℕ → List ExtensionBytes → Result (List HeldExtension) LoadFault
+extensions_from reads number [] = Ok []
+extensions_from reads number (bytes ∷ rest) =
+    extension_held reads number bytes
+    >>= λ held. extensions_from reads (number + 1) rest
+    >>= λ more. Ok (held ∷ more)
+
+abbrev pub outlines_of : List HeldExtension → List Outline
+outlines_of held = map (λ e. e.outline) held
+
+abbrev pub handlers_of : List HeldExtension → List (List HandlerData)
+handlers_of held = map (λ e. e.handlers) held
 
 -- the identifier of an extension, and those that it depends on
 pub record Names : Type 0 where
@@ -97,11 +146,12 @@ abbrev pub unless_fault : {X : Type 0} → Option LoadFault → X → Result X L
 unless_fault None x = Ok x
 unless_fault (Some fault) x = Err fault
 
--- at most 100 extensions, then the faults of each manifest, and then those of identifiers
-abbrev pub extensions_held : List (List ℕ) → Result (List Outline) LoadFault
-extensions_held manifests =
-    if nat_lt 100 (length manifests) then Err (refused_file file.Extensions (refused_for 44))
-    else outlines_from 0 manifests >>= λ outlines. unless_fault (names_fault (map names_in outlines)) outlines
+-- at most 100 extensions, then the faults of each one's files, and then those of identifiers
+abbrev pub extensions_held : HandlerFiles → List ExtensionBytes → Result (List HeldExtension) LoadFault
+extensions_held reads extensions =
+    if nat_lt 100 (length extensions) then Err (refused_file file.Extensions (refused_for 44))
+    else extensions_from reads 0 extensions
+    >>= λ held. unless_fault (names_fault (map names_in (outlines_of held))) held
 
 -- ---- all files
 
@@ -110,10 +160,10 @@ pub record HeldLists : Type 0 where
   pub defaults : List Data
   pub user : List Data
 
--- what the files say that binds keys, before patterns are read
+-- what the files say that binds keys, before patterns are read, with the handlers of each extension
 pub record HeldRules : Type 0 where
   pub lists : HeldLists
-  pub outlines : List Outline
+  pub extensions : List HeldExtension
 
 -- what all files hold, before patterns are read
 pub record Held : Type 0 where
@@ -128,17 +178,17 @@ lists_held defaults user =
     >>= λ us. Ok (record { defaults = ds; user = us })
 
 -- and both before the extensions
-abbrev pub rules_held : Files → Result HeldRules LoadFault
-rules_held files =
+abbrev pub rules_held : HandlerFiles → Files → Result HeldRules LoadFault
+rules_held reads files =
     lists_held files.defaults files.user
-    >>= λ lists. extensions_held files.manifests
-    >>= λ outlines. Ok (record { lists = lists; outlines = outlines })
+    >>= λ lists. extensions_held reads files.extensions
+    >>= λ extensions. Ok (record { lists = lists; extensions = extensions })
 
 -- the layout is looked at before all others
-abbrev pub held_by : Files → Result Held LoadFault
-held_by files =
+abbrev pub held_by : HandlerFiles → Files → Result Held LoadFault
+held_by reads files =
     refused_by file.Layout (layout_scopes files.layout)
-    >>= λ scopes. rules_held files >>= λ rules. Ok (record { scopes = scopes; rules = rules })
+    >>= λ scopes. rules_held reads files >>= λ rules. Ok (record { scopes = scopes; rules = rules })
 
 -- the marks of the patterns of a load that aren't read
 pub record LoadMarks : Type 0 where
@@ -157,7 +207,7 @@ marks_in s = record {
 abbrev pub marks_told : Files → List UnreadIn → LoadMarks
 marks_told files told = record {
   defaults = rules_told origin.Defaults told;
-  extensions = extensions_told 0 files.manifests told;
+  extensions = extensions_told 0 (manifests files.extensions) told;
   user = rules_told origin.User told;
 }
 
@@ -183,22 +233,23 @@ extensions_by platform marks number (outline ∷ outlines) =
 abbrev pub sources_by : LoadMarks → Platform → HeldRules → Sources
 sources_by marks platform held = record {
   defaults = rules_by marks.defaults origin.Defaults held.lists.defaults;
-  extensions = extensions_by platform marks.extensions 0 held.outlines;
+  extensions = extensions_by platform marks.extensions 0 (outlines_of held.extensions);
   user = rules_by marks.user origin.User held.lists.user;
 }
 
--- what files give, for the marks of their patterns, or the first file's fault
-abbrev pub loaded : LoadMarks → Files → Result Loaded LoadFault
-loaded marks files = seen (λ held. record {
+-- what files give, for the marks of their patterns, or the first file's fault; handlers have no patterns
+abbrev pub loaded : HandlerFiles → LoadMarks → Files → Result Loaded LoadFault
+loaded reads marks files = seen (λ held. record {
   scopes = held.scopes;
   bindings = sources_by marks files.platform held.rules;
-}) (held_by files)
+  handlers = handlers_of held.rules.extensions;
+}) (held_by reads files)
 
 -- a load answered what its files give for the marks of its own patterns, or their fault, which is one for
 -- all marks, or was refused memory
-abbrev pub LoadsFiles : Files → Result Loaded (Failure LoadFault) → Type 0
-LoadsFiles files (Ok l) = loaded (marks_told files (unread_of l.bindings)) files ≡ Ok l
-LoadsFiles files (Err failure) = Fails failure (held_by files)
+abbrev pub LoadsFiles : HandlerFiles → Files → Result Loaded (Failure LoadFault) → Type 0
+LoadsFiles reads files (Ok l) = loaded reads (marks_told files (unread_of l.bindings)) files ≡ Ok l
+LoadsFiles reads files (Err failure) = Fails failure (held_by reads files)
 
 -- the patterns of manifests are marked as they are or aren't read
 abbrev pub AllRightlyMarked : List (List ℕ) → List Extension → Type 0
@@ -209,7 +260,7 @@ AllRightlyMarked (bytes ∷ rest) (e ∷ es) = IsRightlyMarked bytes e × AllRig
 -- all patterns of a load are
 pub record MarksAreRight (files : Files) (s : Sources) : Type 0 where
   pub defaults : AreRightlyMarked s.defaults
-  pub extensions : AllRightlyMarked files.manifests s.extensions
+  pub extensions : AllRightlyMarked (manifests files.extensions) s.extensions
   pub user : AreRightlyMarked s.user
 
 -- ---- for private functions
@@ -237,6 +288,22 @@ IsExtension number platform outline e = e ≡ extension_by (marks_of e) number p
 
 abbrev pub AreExtensions : Platform → List Outline → List Extension → Type 0
 AreExtensions platform outlines es = es ≡ extensions_by platform (map marks_of es) 0 outlines
+
+-- the same with the handlers of an extension, and of many
+pub record IsHeld (number : ℕ) (platform : Platform) (held : HeldExtension) (e : Extension)
+    (handlers : List HandlerData) : Type 0 where
+  pub extension_is : IsExtension number platform held.outline e
+  pub handlers_are : handlers ≡ held.handlers
+
+pub record AreHeld (platform : Platform) (held : List HeldExtension) (all : ReadExtensions) : Type 0 where
+  pub extensions_are : AreExtensions platform (outlines_of held) all.extensions
+  pub handlers_are : all.handlers ≡ handlers_of held
+
+-- all that binds keys is made of what is held, by its own marks, and the handlers are those that are held
+pub record IsBound (platform : Platform) (held : HeldRules) (sources : Sources)
+    (handlers : List (List HandlerData)) : Type 0 where
+  pub sources_are : AreSources platform held sources
+  pub handlers_are : handlers ≡ handlers_of held.extensions
 
 abbrev pub names_of : Extension → Names
 names_of e = record { id = e.id; dependencies = e.dependencies }

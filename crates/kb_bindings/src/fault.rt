@@ -18,6 +18,8 @@ pub enum LoadFile {
     Extensions,
     /// The `package.json` of an extension, by its number in load order, from 0 on.
     Package(usize),
+    /// The `handlers.json` of an extension, by its number in load order, from 0 on.
+    Handlers(usize),
     /// The closures that the host gives for native commands.
     Natives,
 }
@@ -43,6 +45,7 @@ impl fmt::Display for LoadFile {
             LoadFile::User => f.write_str("user"),
             LoadFile::Extensions => f.write_str("extensions"),
             LoadFile::Package(number) => write!(f, "ext {number} package.json"),
+            LoadFile::Handlers(number) => write!(f, "ext {number} handlers.json"),
             LoadFile::Natives => f.write_str("natives"),
         }
     }

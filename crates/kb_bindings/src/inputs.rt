@@ -1,6 +1,24 @@
 //! The files that a session is made of.
 use kb_keys::Platform;
 
+/// The bytes of an extension's files, lent.
+#[derive(Clone, Copy, Debug)]
+pub struct ExtensionFiles<'a> {
+    /// Its `package.json`.
+    pub package: &'a [u8],
+    /// Its `handlers.json`, if there is such a file.
+    pub handlers: Option<&'a [u8]>,
+}
+
+/// Whether a load reads extensions' files of handlers.
+#[derive(Clone, Copy, Debug, PartialEq, Eq)]
+pub enum HandlerFiles {
+    /// They are not looked at: no extension has a handler.
+    Ignored,
+    /// They are read, and nobody verifies their code.
+    Raw,
+}
+
 /// The bytes of the files that a session is made of, lent. The empty text stands for a file of rules that is
 /// not there.
 #[derive(Clone, Copy, Debug)]
@@ -14,6 +32,6 @@ pub struct Inputs<'a> {
     pub user: &'a [u8],
     /// The system that the keys of extensions are chosen for.
     pub platform: Platform,
-    /// The `package.json` of each extension, in load order.
-    pub manifests: &'a [&'a [u8]],
+    /// The files of each extension, in load order.
+    pub extensions: &'a [ExtensionFiles<'a>],
 }

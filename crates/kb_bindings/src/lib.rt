@@ -1,5 +1,6 @@
 //! What binds keys: the default rules, the extensions and the user's rules, read from their files, and the
-//! search among them.
+//! search among them. What else the files of a load give, the scopes and the handlers of extensions, is read
+//! beside it.
 #![tactic(auto)]
 
 pub mod bindings;
@@ -11,7 +12,7 @@ pub mod warning;
 
 pub use bindings::{Bindings, Renewed};
 pub use fault::{LoadFault, LoadFile};
-pub use inputs::Inputs;
+pub use inputs::{ExtensionFiles, HandlerFiles, Inputs};
 pub use load::{Loaded, load_files};
 pub use unread::{UnreadIn, unread_rules};
 pub use warning::Warning;

@@ -1,12 +1,13 @@
-//! The load of all files: of what binds keys, and of the scopes.
-ghost use Rattle.std.specs.Prelude.{◌≡◌, ◌≤◌, [], length, map, option_map, IfOk};
+//! The load of all files: of what binds keys, of the scopes, and of the handlers of extensions.
+ghost use Rattle.std.specs.Prelude.{◌≡◌, ◌≤◌, [], ◌∷◌, ◌++◌, length, map, option_map, IfOk, OnOk};
 ghost use Rattle.kb_context.specs.Failure.{Gives};
 ghost use Rattle.kb_bindings.specs.Fault.{refused_by};
 ghost use Rattle.kb_bindings.specs.Load.{is_among, repeats, lacks, first_failing, refused_manifest};
-ghost use Rattle.kb_bindings.specs.Load.{names_fault, extensions_held, outlines_from};
-ghost use Rattle.kb_bindings.specs.Load.{AllRightlyMarked, GivesOf, AreRules, IsExtension};
-ghost use Rattle.kb_bindings.specs.Load.{AreExtensions, names_of, files_of, LoadsFiles, MarksAreRight};
-ghost use Rattle.kb_bindings.specs.Load.{lists_held, rules_held, AreLists, AreSources};
+ghost use Rattle.kb_bindings.specs.Load.{names_fault, extensions_held, extension_held, extensions_from};
+ghost use Rattle.kb_bindings.specs.Load.{handlers_held, handlers_in_file, files_of, extension_bytes};
+ghost use Rattle.kb_bindings.specs.Load.{AllRightlyMarked, GivesOf, AreRules, IsExtension, IsHeld, AreHeld};
+ghost use Rattle.kb_bindings.specs.Load.{manifests, names_of, LoadsFiles, MarksAreRight};
+ghost use Rattle.kb_bindings.specs.Load.{lists_held, rules_held, AreLists, IsBound};
 ghost use Rattle.kb_files.specs.Extension.{outline_in, IsRightlyMarked};
 ghost use Rattle.kb_files.specs.Layout.{layout_scopes};
 ghost use Rattle.kb_files.specs.RuleFile.{elements_held};
@@ -14,9 +15,10 @@ ghost use Rattle.kb_rules.specs.RuleList.{AreRightlyMarked};
 
 use crate::bindings::Bindings;
 use crate::fault::{LoadFault, LoadFile, of_file};
-use crate::inputs::Inputs;
-use kb_context::{Failure, Refusal, Scopes, Seq};
-use kb_files::{Extension, read_extension, read_rules, read_scopes};
+use crate::inputs::{ExtensionFiles, HandlerFiles, Inputs};
+use kb_code::Handler;
+use kb_context::{Failure, NoMemory, Refusal, Scopes, Seq};
+use kb_files::{Extension, read_extension, read_handlers, read_rules, read_scopes};
 use kb_keys::Platform;
 use kb_rules::{Origin, RuleList};
 use std::alloc::Global;
@@ -24,41 +26,62 @@ use std::alloc::Global;
 /// The most extensions of a session (our decision).
 const EXTENSION_LIMIT: usize = 100;
 
-/// What the files of a load give: the scopes, and what binds keys.
+/// What the files of a load give: the scopes, what binds keys, and the handlers of extensions.
 #[derive(Drop)]
 pub struct Loaded {
     pub scopes: Scopes,
     pub bindings: Bindings,
+    /// For each extension in load order its handlers in the order of their file; none where it has no such
+    /// file, or where these files are ignored.
+    pub handlers: Seq<Seq<Handler>>,
 }
 
-/// What these files give.
+/// What these files give. Files of handlers are read or ignored, as is asked.
 ///
 /// Errors: the first file that is refused, and why, in this order (our decision): the layout (1 to 4, 40,
-/// 41, 21, 22), the default rules, the user's rules (1 to 4, 41 each), more than 100 extensions (44), the
-/// manifests in load order (1 to 4, 40, 41), an extension that repeats the identifier of an earlier one
-/// (91), one that depends on an extension that isn't before it (90); or refused memory.
-pub fn load_files(alloc: Global, inputs: Inputs<'_>) -> Result<Loaded, Failure<LoadFault>>
-    ensures read { LoadsFiles (files_of inputs.entry) result }
+/// 41, 21, 22), the default rules, the user's rules (1 to 4, 41 each), more than 100 extensions (44), for
+/// each extension in load order its manifest (1 to 4, 40, 41) and, where it is read, its file of handlers (1
+/// to 4, 40 to 44, 50 to 52), an extension that repeats the identifier of an earlier one (91), one that
+/// depends on an extension that isn't before it (90); or refused memory.
+pub fn load_files(
+    alloc: Global,
+    inputs: Inputs<'_>,
+    files: HandlerFiles,
+) -> Result<Loaded, Failure<LoadFault>>
+    ensures read { LoadsFiles files (files_of inputs.entry) result }
 
     // A pattern is told as unread only where `regex` doesn't read it, and isn't told only where it does.
     ensures right { IfOk result (λ loaded. MarksAreRight (files_of inputs.entry) loaded.bindings) }
 {
     let scopes = load_scopes(alloc, inputs.layout)?;
-    let bindings = load_bindings(alloc, inputs)?;
-    Ok(Loaded { scopes, bindings })
+    let (bindings, handlers) = load_bindings(alloc, inputs, files)?;
+    Ok(Loaded {
+        scopes,
+        bindings,
+        handlers,
+    })
 }
 
 // The loads are one in the other, so that little stands to be dropped where a file is refused.
 
-/// What binds keys in these files.
+/// What binds keys in these files, and the handlers of each extension.
 #[tactic(auto, using(crate::proofs::LoadLemmas::sources_made))]
-fn load_bindings(alloc: Global, inputs: Inputs<'_>) -> Result<Bindings, Failure<LoadFault>>
-    ensures read { GivesOf (AreSources inputs.entry.platform) result (rules_held (files_of inputs.entry)) }
-    ensures right { IfOk result (MarksAreRight (files_of inputs.entry)) }
+fn load_bindings(
+    alloc: Global,
+    inputs: Inputs<'_>,
+    files: HandlerFiles,
+) -> Result<(Bindings, Seq<Seq<Handler>>), Failure<LoadFault>>
+    ensures read { GivesOf (λ held bound. IsBound inputs.entry.platform held bound.0 bound.1) result
+        (rules_held files (files_of inputs.entry)) }
+    ensures right { IfOk result (λ bound. MarksAreRight (files_of inputs.entry) bound.0) }
 {
     let (defaults, user) = load_lists(alloc, inputs.defaults, inputs.user)?;
-    let extensions = load_extensions(alloc, inputs.manifests, inputs.platform)?;
-    Ok(Bindings::new(alloc, defaults, extensions, user)?)
+    let ReadExtensions {
+        extensions,
+        handlers,
+    } = load_extensions(alloc, inputs.extensions, inputs.platform, files)?;
+    let bindings = Bindings::new(alloc, defaults, extensions, user)?;
+    Ok((bindings, handlers))
 }
 
 /// The default rules and the user's.
@@ -99,52 +122,99 @@ fn load_rules(
     of_file(file, read_rules(alloc, bytes, origin))
 }
 
-/// The extensions of these manifests, in load order.
+/// What the files of extensions give: the extensions, and for each its handlers.
+#[derive(Drop)]
+struct ReadExtensions {
+    extensions: Seq<Extension>,
+    handlers: Seq<Seq<Handler>>,
+}
+
+impl ReadExtensions {
+    /// Adds an extension and its handlers.
+    fn push(&mut self, extension: Extension, handlers: Seq<Handler>) -> Result<(), NoMemory>
+        ensures { OnOk result (self.new ≡ record {
+          extensions = self.old.extensions ++ extension ∷ [];
+          handlers = self.old.handlers ++ handlers ∷ [];
+        }) }
+    {
+        self.extensions.push(extension)?;
+        self.handlers.push(handlers)
+    }
+}
+
+/// The extensions of these files, in load order, with their handlers.
 fn load_extensions(
     alloc: Global,
-    manifests: &[&[u8]],
+    extensions: &[ExtensionFiles<'_>],
     platform: Platform,
-) -> Result<Seq<Extension>, Failure<LoadFault>>
-    ensures read { GivesOf (AreExtensions platform) result
-        (extensions_held (map (λ manifest. manifest.now) manifests.now)) }
-    ensures right { IfOk result (AllRightlyMarked (map (λ manifest. manifest.now) manifests.now)) }
+    files: HandlerFiles,
+) -> Result<ReadExtensions, Failure<LoadFault>>
+    ensures read { GivesOf (AreHeld platform) result
+        (extensions_held files (map extension_bytes extensions.now)) }
+    ensures right { IfOk result (λ all.
+        AllRightlyMarked (manifests (map extension_bytes extensions.now)) all.extensions) }
 {
-    if manifests.len() > EXTENSION_LIMIT {
+    if extensions.len() > EXTENSION_LIMIT {
         return Err(Failure::Fault(LoadFault {
             file: LoadFile::Extensions,
             refusal: Refusal::of(44),
         }));
     }
-    let extensions = read_extensions(alloc, manifests, platform)?;
-    match names_fault(extensions.as_slice()) {
+    let all = read_extensions(alloc, extensions, platform, files)?;
+    match names_fault(all.extensions.as_slice()) {
         Some(fault) => Err(Failure::Fault(fault)),
-        None => Ok(extensions),
+        None => Ok(all),
     }
 }
 
-/// The extensions of these manifests, whatever their identifiers.
+/// The extensions of these files, whatever their identifiers.
 fn read_extensions(
     alloc: Global,
-    manifests: &[&[u8]],
+    extensions: &[ExtensionFiles<'_>],
     platform: Platform,
-) -> Result<Seq<Extension>, Failure<LoadFault>>
-    requires { length manifests.now ≤ 100 }
-    ensures read { GivesOf (AreExtensions platform) result
-        (outlines_from 0 (map (λ manifest. manifest.now) manifests.now)) }
-    ensures right { IfOk result (AllRightlyMarked (map (λ manifest. manifest.now) manifests.now)) }
+    files: HandlerFiles,
+) -> Result<ReadExtensions, Failure<LoadFault>>
+    requires { length extensions.now ≤ 100 }
+    ensures read { GivesOf (AreHeld platform) result
+        (extensions_from files 0 (map extension_bytes extensions.now)) }
+    ensures right { IfOk result (λ all.
+        AllRightlyMarked (manifests (map extension_bytes extensions.now)) all.extensions) }
 {
-    let mut extensions = Seq::new(alloc);
+    let mut all = ReadExtensions {
+        extensions: Seq::new(alloc),
+        handlers: Seq::new(alloc),
+    };
     let mut number = 0;
-    for manifest in manifests {
-        extensions.push(load_extension(alloc, manifest, number, platform)?)?;
+    for bytes in extensions {
+        let (extension, handlers) = load_extension(alloc, bytes, number, platform, files)?;
+        all.push(extension, handlers)?;
         number += 1;
     }
-    Ok(extensions)
+    Ok(all)
+}
+
+/// The extension of these files, by its number in load order, with its handlers. The manifest is looked at
+/// first.
+#[tactic(auto, using(crate::proofs::LoadLemmas::extension_with_handlers))]
+fn load_extension(
+    alloc: Global,
+    bytes: &ExtensionFiles<'_>,
+    number: u32,
+    platform: Platform,
+    files: HandlerFiles,
+) -> Result<(Extension, Seq<Handler>), Failure<LoadFault>>
+    ensures read { GivesOf (λ held one. IsHeld number platform held one.0 one.1) result
+        (extension_held files number (extension_bytes bytes.now)) }
+    ensures right { IfOk result (λ one. IsRightlyMarked bytes.now.package.now one.0) }
+{
+    let extension = load_package(alloc, bytes.package, number, platform)?;
+    let handlers = load_handlers(alloc, bytes.handlers, number, files)?;
+    Ok((extension, handlers))
 }
 
 /// The extension of a manifest, by its number in load order.
 #[tactic(auto, using(crate::proofs::LoadLemmas::file_of_extension))]
-fn load_extension(
+fn load_package(
     alloc: Global,
     bytes: &[u8],
     number: u32,
@@ -158,6 +228,41 @@ fn load_extension(
         LoadFile::Package(number as usize),
         read_extension(alloc, bytes, number, platform),
     )
+}
+
+/// The handlers of an extension, by its number in load order: those of its file, if such files are read.
+fn load_handlers(
+    alloc: Global,
+    bytes: Option<&[u8]>,
+    number: u32,
+    files: HandlerFiles,
+) -> Result<Seq<Handler>, Failure<LoadFault>>
+    ensures { Gives (λ handlers. handlers) result (refused_by (LoadFile.Handlers number)
+        (handlers_held files (option_map (λ bytes. bytes.now) bytes.entry))) }
+{
+    match files {
+        HandlerFiles::Ignored => Ok(Seq::new(alloc)),
+        HandlerFiles::Raw => load_handler_file(alloc, bytes, number),
+    }
+}
+
+/// The handlers of an extension's file, none without a file.
+#[tactic(auto, using(crate::proofs::LoadLemmas::file_of_handlers))]
+fn load_handler_file(
+    alloc: Global,
+    bytes: Option<&[u8]>,
+    number: u32,
+) -> Result<Seq<Handler>, Failure<LoadFault>>
+    ensures { Gives (λ handlers. handlers) result (refused_by (LoadFile.Handlers number)
+        (handlers_in_file (option_map (λ bytes. bytes.now) bytes.entry))) }
+{
+    match bytes {
+        Some(bytes) => of_file(
+            LoadFile::Handlers(number as usize),
+            read_handlers(alloc, bytes),
+        ),
+        None => Ok(Seq::new(alloc)),
+    }
 }
 
 /// The fault of the extensions' identifiers, if there is one: that one repeats an earlier one (91), wherever

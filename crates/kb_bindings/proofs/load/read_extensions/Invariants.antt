@@ -1,9 +1,10 @@
 use Rattle.std.proofs.Common.{◌≡◌, map, take}
+use Rattle.kb_bindings.specs.Load.{extension_bytes}
 use Rattle.kb_bindings.proofs.LoadLemmas.{Reads}
 use Rattle.kb_bindings.proofs.load.read_extensions.Given as goal
 
--- the extensions of the manifests so far
-abbrev pub invariant-loop-manifest : goal.invariant-loop-manifest
-invariant-loop-manifest l =
-    Reads l.platform l.extensions l.number (map (λ m. m.now) (take l.manifest-index l.manifests))
-    × (l.number ≡ l.manifest-index)
+-- the extensions of the files so far
+abbrev pub invariant-loop-bytes : goal.invariant-loop-bytes
+invariant-loop-bytes l =
+    Reads l.files l.platform l.all l.number (map extension_bytes (take l.bytes-index l.extensions))
+    × (l.number ≡ l.bytes-index)
