@@ -1,7 +1,7 @@
 use Rattle.std.proofs.Common.{ap₂, ◌∙◌}
 use Rattle.std.proofs.lemmas.Result.{IfOk-weaker}
 use Rattle.clap.specs.Words.{with_rule}
-use Rattle.kb_options.proofs.command_line.keyrun.Goals as goal
+use Rattle.kb_options.proofs.command_line.command_of.Goals as goal
 
 pub returns : goal.returns
 returns c =
