@@ -1,7 +1,7 @@
 use Rattle.std.proofs.Common.{◌≡◌, ◌++◌, ◌∷◌, [], ◌+◌, List, ℕ, arith, rules, drop, map, subst, sym}
-use Rattle.kb_main.specs.Run.{HasPackages}
-use Rattle.kb_main.proofs.RunLemmas.{packages_more, packages_end, stops_later}
-use Rattle.kb_main.proofs.run.read_manifests.Goals as goal
+use Rattle.kb_run.specs.Run.{HasPackages}
+use Rattle.kb_run.proofs.RunLemmas.{packages_more, packages_end, stops_later}
+use Rattle.kb_run.proofs.run.read_manifests.Goals as goal
 
 pub loop-dir-preserved : goal.loop-dir-preserved
 loop-dir-preserved g c =

@@ -1,6 +1,6 @@
 use Rattle.std.proofs.Common.{arith}
-use Rattle.kb_main.proofs.RunLemmas.{warned_one, warned_none, warned_all}
-use Rattle.kb_main.proofs.run.say_warnings.Goals as goal
+use Rattle.kb_run.proofs.RunLemmas.{warned_one, warned_none, warned_all}
+use Rattle.kb_run.proofs.run.say_warnings.Goals as goal
 
 pub loop-warning-preserved : goal.loop-warning-preserved
 loop-warning-preserved g c = λ end says.

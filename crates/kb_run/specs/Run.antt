@@ -3,24 +3,17 @@ use Rattle.std.specs.Prelude.{◌≡◌, ◌⊎◌, ⊤, ℕ, Bool, true, false,
 use Rattle.std.specs.Prelude.{Option, Some, None, Result, Ok, Err, option_map, unwrap_or}
 use Rattle.std.specs.Borrow.{Bor}
 use Rattle.std.specs.Io.KnownBytes.{Keeps, append_known}
-use Rattle.clap.specs.Words.{kind_of}
-use Rattle.clap.specs.declared.error.kind.ErrorKind.TheVariants.{InvalidValue}
 use Rattle.kb_context.specs.declared.failure.Failure.{Failure}
 use Rattle.kb_core.specs.declared.native.Native.{Native}
 use Rattle.kb_ending.specs.Files.{Held, HasRead, HasManifest, NamesBytes, NamesFile, Opens}
-use Rattle.kb_ending.specs.Report.{warning_line, stop_line, script_stop}
+use Rattle.kb_ending.specs.Report.{warning_line, script_stop}
 use Rattle.kb_ending.specs.Voice.{Heard, Says}
 use Rattle.kb_ending.specs.declared.outcome.Stop.{Stop}
 use Rattle.kb_ending.specs.declared.outcome.Stop.TheVariants.{CannotRead, CannotReadIn, Load, Script}
 use Rattle.kb_ending.specs.declared.outcome.Stop.TheVariants.{NoMemory}
 use Rattle.kb_keys.specs.declared.platform.Platform.{Platform}
-use Rattle.kb_main.specs.declared.run.FileBytes.{FileBytes}
-use Rattle.kb_options.specs.declared.given.Options.{Options}
-use Rattle.kb_options.specs.declared.given.OptionsFault.{OptionsFault}
-use Rattle.kb_options.specs.declared.given.OptionsFault.TheVariants.{Line}
-use Rattle.kb_options.specs.declared.given.OptionsFault.TheVariants as options
-use Rattle.kb_options.specs.declared.given.WordsFault.{WordsFault}
-use Rattle.kb_options.specs.declared.given.WordsFault.TheVariants as words
+use Rattle.kb_run.specs.declared.run.FileBytes.{FileBytes}
+use Rattle.kb_given.specs.declared.given.Options.{Options}
 use Rattle.kb_script.specs.ScriptRun.{Answers}
 use Rattle.kb_script.specs.Shelf.{Stand, beside}
 use Rattle.kb_script.specs.declared.fault.ScriptFault.{ScriptFault}
@@ -220,26 +213,3 @@ files_in platform read = record {
   platform = platform;
   manifests = map (λ bytes. bytes.items) read.manifests.items;
 }
-
--- ---- the end
-
--- the line of the end was said, where there is one
-abbrev pub Reports : Result (Unit {0}) Stop → Heard → Heard → Type 0
-Reports (Ok done) before now = now ≡ before
-Reports (Err stop) before now = Says before now (stop_line stop ++ 10 ∷ [])
-
--- ---- the command line
-
--- there are no words: one is no text, which is a refused line, or memory was refused
-abbrev pub IsNoWords : WordsFault → OptionsFault → Type 0
-IsNoWords words.NotText (Line e) = kind_of e ≡ InvalidValue
-IsNoWords words.NotText options.NoMemory = ⊥
-IsNoWords words.NoMemory fault = fault ≡ options.NoMemory
-
-abbrev pub HasNoWords : OptionsFault → Type 0
-HasNoWords (Line e) = kind_of e ≡ InvalidValue
-HasNoWords options.NoMemory = ⊤
-
--- the exit statuses of the program
-abbrev pub IsStatus : ℕ → Type 0
-IsStatus status = (status ≡ 0) ⊎ ((status ≡ 2) ⊎ ((status ≡ 3) ⊎ (status ≡ 4)))

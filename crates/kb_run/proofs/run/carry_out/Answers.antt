@@ -1,8 +1,8 @@
 use Rattle.std.proofs.Common.{inl, rules}
 use Rattle.std.proofs.lemmas.Result.{err_from_is_err_and}
-use Rattle.kb_main.specs.Run.{files_in}
-use Rattle.kb_main.proofs.RunLemmas.{script_missing}
-use Rattle.kb_main.proofs.run.carry_out.Goals as goal
+use Rattle.kb_run.specs.Run.{files_in}
+use Rattle.kb_run.proofs.RunLemmas.{script_missing}
+use Rattle.kb_run.proofs.run.carry_out.Goals as goal
 
 pub returns-in_err-script : goal.returns-in_err-script
 returns-in_err-script g c =

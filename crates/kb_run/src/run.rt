@@ -3,8 +3,8 @@
 ghost use Rattle.std.specs.Prelude.{◌≡◌, [], IfOk, IfErr, map, option_map, unwrap_or};
 ghost use Rattle.std.specs.Io.Buffered.{writer_contents, writer_inner};
 ghost use Rattle.kb_ending.specs.Voice.{Says, heard_by};
-ghost use Rattle.kb_main.specs.Run.{CarriesOut, Runs, Plays, PlaysAny, closures_of, script_bytes, warning_text};
-ghost use Rattle.kb_main.specs.Run.{HasPackages, HasFiles, StopsInDirs, StopsReadingFiles, files_in};
+ghost use Rattle.kb_run.specs.Run.{CarriesOut, Runs, Plays, PlaysAny, closures_of, script_bytes, warning_text};
+ghost use Rattle.kb_run.specs.Run.{HasPackages, HasFiles, StopsInDirs, StopsReadingFiles, files_in};
 ghost use Rattle.kb_bindings.specs.Load.{files_of};
 ghost use Rattle.kb_script.specs.Shelf.{beside};
 ghost use Rattle.kb_bindings.specs.Warning.{warnings_of};
@@ -15,20 +15,14 @@ use kb_ending::{
     Console, FileSource, Stop, Voice, WarningLine, bytes_in, bytes_named, file_named, lent,
     script_stop,
 };
+use kb_given::Options;
 use kb_keys::Platform;
-use kb_options::Options;
+use kb_natives::HostClosures;
 use kb_registry::HostCommand;
 use kb_script::run_script;
 use kb_session::Session;
 use std::alloc::Global;
 use std::io::{BufWriter, Read, Write};
-
-/// The closures of a host: those that a load registers, and the shelf from which a script takes more.
-#[derive(Drop)]
-pub struct HostClosures<H> {
-    pub natives: Vec<H>,
-    pub shelf: Vec<H>,
-}
 
 // Says a line for each warning of a session.
 fn say_warnings<H: HostCommand, C: Console + Drop>(session: &Session<H>, voice: &mut Voice<C>)

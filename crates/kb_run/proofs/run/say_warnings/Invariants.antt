@@ -1,7 +1,7 @@
 use Rattle.std.proofs.Common.{drop}
 use Rattle.kb_ending.specs.Voice.{Heard, Says, heard_by}
-use Rattle.kb_main.specs.Run.{warning_text}
-use Rattle.kb_main.proofs.run.say_warnings.Given as goal
+use Rattle.kb_run.specs.Run.{warning_text}
+use Rattle.kb_run.proofs.run.say_warnings.Given as goal
 
 -- what says those that are left has said all
 abbrev pub invariant-loop-warning : goal.invariant-loop-warning

@@ -1,7 +1,7 @@
 use Rattle.std.proofs.Common.{ℕ, List, ◌++◌, map, drop}
 use Rattle.kb_ending.specs.declared.outcome.Stop.{Stop}
-use Rattle.kb_main.specs.Run.{HasPackages, StopsInDirs}
-use Rattle.kb_main.proofs.run.read_manifests.Given as goal
+use Rattle.kb_run.specs.Run.{HasPackages, StopsInDirs}
+use Rattle.kb_run.proofs.run.read_manifests.Given as goal
 
 -- what is had of those that are left is had of all, and what stops at those stops at all
 abbrev pub invariant-loop-dir : goal.invariant-loop-dir

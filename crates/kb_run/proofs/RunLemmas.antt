@@ -12,9 +12,9 @@ use Rattle.kb_ending.specs.Files.{Held, unknown, refuses, holds, HasRead, HasMan
 use Rattle.kb_ending.specs.Report.{warning_line, load_stop, manifest_path}
 use Rattle.kb_ending.specs.Voice.{Heard, Says}
 use Rattle.kb_ending.specs.declared.outcome.Stop.{Stop}
-use Rattle.kb_main.specs.Run.{FailsToLoad, FileMissing, HasBytes, HasFiles, HasPackages, HasRules, HasScript}
-use Rattle.kb_main.specs.Run.{IsHad, Silent, StopsAtScript, StopsInDirs, Streams, script_bytes, warning_text}
-use Rattle.kb_options.specs.declared.given.Options.{Options}
+use Rattle.kb_run.specs.Run.{FailsToLoad, FileMissing, HasBytes, HasFiles, HasPackages, HasRules, HasScript}
+use Rattle.kb_run.specs.Run.{IsHad, Silent, StopsAtScript, StopsInDirs, Streams, script_bytes, warning_text}
+use Rattle.kb_given.specs.declared.given.Options.{Options}
 use Rattle.kb_bindings.specs.Load.{Files}
 use Rattle.kb_session.specs.Session.{Loads}
 use Rattle.kb_bindings.specs.Sources.{Sources, source_of}
