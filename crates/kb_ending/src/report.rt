@@ -22,7 +22,10 @@ impl fmt::Display for Stop<'_> {
     fn fmt<W: fmt::Write>(&self, f: &mut fmt::Formatter<W>) -> fmt::Result {
         match self {
             Stop::CannotRead(path) => write!(f, "cannot read {path}"),
-            Stop::CannotReadIn(dir) => write!(f, "cannot read {dir}/package.json"),
+            Stop::CannotReadIn(dir, file) => {
+                let name = file.name();
+                write!(f, "cannot read {dir}/{name}")
+            }
             Stop::Load(fault) => {
                 let line = LoadLine(fault);
                 write!(f, "{line}")
@@ -76,7 +79,7 @@ pub fn ending(end: &Result<(), Stop<'_>>) -> u8
 {
     match end {
         Ok(()) => 0,
-        Err(Stop::CannotRead(_)) | Err(Stop::CannotReadIn(_)) | Err(Stop::Load(_)) => 3,
+        Err(Stop::CannotRead(_)) | Err(Stop::CannotReadIn(_, _)) | Err(Stop::Load(_)) => 3,
         Err(Stop::Script(_)) | Err(Stop::NoMemory) => 4,
     }
 }
