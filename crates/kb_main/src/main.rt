@@ -4,6 +4,7 @@
 ghost use Rattle.kb_core.specs.Native.{Fits};
 ghost use Rattle.kb_core.specs.Ran.{Does};
 
+use kb_bindings::HandlerFiles;
 use kb_context::NoMemory;
 use kb_core::{Args, Core, NATIVES, Ran, plain};
 use kb_natives::{HostClosures, at_budget};
@@ -50,7 +51,8 @@ fn run_with_closures(rt: &HostRuntime, alloc: Global) -> Result<ExitCode, NoMemo
             .push(NativeCommand::new(native, dear))
             .map_err(NoMemory::from)?;
     }
-    Ok(run_program(rt, alloc, keyrun(), HostClosures { natives, shelf }))
+    let closures = HostClosures { natives, shelf };
+    Ok(run_program(rt, alloc, keyrun(), HandlerFiles::Ignored, closures))
 }
 
 fn main(rt: HostRuntime) -> ExitCode {

@@ -4,6 +4,7 @@ ghost use Rattle.std.specs.Process.{exit_status};
 ghost use Rattle.kb_program.specs.Line.{HasNoWords, IsNoWords};
 ghost use Rattle.kb_run.specs.System.{IsStatus};
 
+use kb_bindings::HandlerFiles;
 use kb_context::NoMemory;
 use kb_natives::HostClosures;
 use kb_options::{OptionsFault, Program, WordsFault, line_status, not_text, options, words_fault};
@@ -53,6 +54,7 @@ fn run_words<R: Files + Print + Eprint + Input, H: HostCommand>(
     rt: &R,
     alloc: Global,
     program: Program<'_>,
+    reads: HandlerFiles,
     words: &[String],
     closures: HostClosures<H>,
 ) -> Result<u8, OptionsFault>
@@ -63,32 +65,34 @@ fn run_words<R: Files + Print + Eprint + Input, H: HostCommand>(
         texts.push(word.as_str()).map_err(NoMemory::from)?;
     }
     let given = options(alloc, program, texts.as_slice())?;
-    Ok(run_on_system(rt, alloc, given, closures))
+    Ok(run_on_system(rt, alloc, reads, given, closures))
 }
 
 fn run_line<R: Alloc<A = Global> + Env + Files + Print + Eprint + Input, H: HostCommand>(
     rt: &R,
     alloc: Global,
     program: Program<'_>,
+    reads: HandlerFiles,
     closures: HostClosures<H>,
 ) -> Result<u8, OptionsFault>
     ensures { IfOk result IsStatus }
 {
     let words = line_words(rt, alloc, program)?;
-    run_words(rt, alloc, program, words.as_slice(), closures)
+    run_words(rt, alloc, program, reads, words.as_slice(), closures)
 }
 
-/// Runs a program: reads the command line and the files that it names, loads a session with the host's
-/// closures, and runs the script.
+/// Runs a program: reads the command line and the files that it names, with or without those of handlers,
+/// loads a session with the host's closures, and runs the script.
 pub fn run_program<R: Alloc<A = Global> + Env + Files + Print + Eprint + Input, H: HostCommand>(
     rt: &R,
     alloc: Global,
     program: Program<'_>,
+    reads: HandlerFiles,
     closures: HostClosures<H>,
 ) -> ExitCode
     ensures { IsStatus (exit_status result) }
 {
-    match run_line(rt, alloc, program, closures) {
+    match run_line(rt, alloc, program, reads, closures) {
         Ok(status) => ExitCode::from(status),
         Err(OptionsFault::Line(error)) => {
             let _ = error.print(rt);

@@ -1,21 +1,23 @@
--- What is said line by line, and what was had of files.
-use Rattle.std.proofs.Common.{◌≡◌, ◌<◌, ◌≤◌, ◌+◌, ◌++◌, ◌∙◌, List, [], ◌∷◌, ℕ, drop, length, map, get_or, refl, sym, ap, subst, inl, inr, append-nil, append_assoc}
+-- What is said line by line, and what was had of the files that options name.
+use Rattle.std.proofs.Common.{◌≡◌, ◌<◌, ◌≤◌, ◌+◌, ◌++◌, List, [], ◌∷◌, ℕ, drop, length, get_or, refl, sym, ap, subst, inr, append-nil}
 use Rattle.std.proofs.KnownBytes.{Appends-nil, Appends-trans}
-use Rattle.std.proofs.lemmas.List.{drop_more, drop_all, map-append}
+use Rattle.std.proofs.lemmas.List.{drop_more, drop_all}
 use Rattle.std.specs.Borrow.{Bor}
 use Rattle.std.specs.Prelude.{Option, Some, None, Result, Ok, Err, option_map, unwrap_or}
 use Rattle.std.specs.Io.KnownBytes.{append_known}
 use Rattle.kb_context.specs.declared.failure.Failure.{Failure}
 use Rattle.kb_core.specs.declared.native.Native.{Native}
 use Rattle.kb_context.specs.declared.failure.Failure.TheVariants as failure
-use Rattle.kb_ending.specs.Files.{Held, unknown, refuses, holds, HasRead, HasManifest, Opens, NamesBytes, NamesFile}
-use Rattle.kb_ending.specs.Report.{warning_line, load_stop, manifest_path}
+use Rattle.kb_ending.specs.Files.{Held, unknown, refuses, holds, Opens, NamesBytes, NamesFile}
+use Rattle.kb_ending.specs.Report.{warning_line, load_stop}
 use Rattle.kb_ending.specs.Voice.{Heard, Says}
 use Rattle.kb_ending.specs.declared.outcome.Stop.{Stop}
-use Rattle.kb_run.specs.Run.{FailsToLoad, FileMissing, HasBytes, HasFiles, HasPackages, HasRules, HasScript}
-use Rattle.kb_run.specs.Run.{IsHad, Silent, StopsAtScript, StopsInDirs, Streams, script_bytes, warning_text}
+use Rattle.kb_run.specs.Run.{FailsToLoad, FileMissing, HasBytes, HasFiles, HasRules, HasScript}
+use Rattle.kb_run.specs.Run.{IsHad, Silent, StopsAtScript, Streams, script_bytes, warning_text}
+use Rattle.kb_run.proofs.DirectoryLemmas.{had_read}
 use Rattle.kb_given.specs.declared.given.Options.{Options}
 use Rattle.kb_bindings.specs.Load.{Files}
+use Rattle.kb_bindings.specs.declared.inputs.HandlerFiles.{HandlerFiles}
 use Rattle.kb_session.specs.Session.{Loads}
 use Rattle.kb_bindings.specs.Sources.{Sources, source_of}
 use Rattle.kb_bindings.specs.declared.fault.LoadFault.{LoadFault}
@@ -50,23 +52,16 @@ warned_all sources before end warnings all are says =
     subst (λ xs. Says before end (warning_text sources xs)) are says
 
 -- a load that fails stops the run
-pub load_fails : (files : Files) (natives : List Native) (failed : Failure LoadFault)
-    → Loads files natives (Err failed) → FailsToLoad files natives (load_stop failed)
-load_fails files natives failure.NoMemory fails = tt
-load_fails files natives (failure.Fault fault) fails = fails
+pub load_fails : (reads : HandlerFiles) (files : Files) (natives : List Native) (failed : Failure LoadFault)
+    → Loads reads files natives (Err failed) → FailsToLoad reads files natives (load_stop failed)
+load_fails reads files natives failure.NoMemory fails = tt
+load_fails reads files natives (failure.Fault fault) fails = fails
 
 pub nothing_left : (had : Option (List ℕ)) → had ≡ append_known had []
 nothing_left None = refl
 nothing_left (Some bytes) = ap Some (sym (append-nil bytes))
 
 pub ruleset loading = (load_fails)
-
--- what was read of what is held, seen as bytes
-had_read : {B : Type 0} (held : Held) (view : B → List ℕ) (got : B) → HasRead held view (Ok got)
-    → HasRead {B = List ℕ} held (λ bytes. bytes) (Ok (view got))
-had_read unknown view got has = has
-had_read (refuses kind) view got has = has
-had_read (holds bytes) view got has = has
 
 pub had_bytes : {B : Type 0} (held : List ℕ → Held) (view : B → List ℕ) (named : Option (Bor (List ℕ)))
     (got : Option B) → NamesBytes held view named (Ok got) → HasBytes held named (option_map view got)
@@ -78,9 +73,9 @@ pub is_had : {B : Type 0} (held : List ℕ → Held) (view : B → List ℕ) (na
     (got : Option B) → NamesBytes held view named (Ok got) → IsHad held named
 is_had held view named got has = (option_map view got, had_bytes held view named got has)
 
-pub were_had : (held : List ℕ → Held) (given : Options) (files : Files) → HasFiles held given files
-    → (all : Files) × HasFiles held given all
-were_had held given files has = (files, has)
+pub were_had : (reads : HandlerFiles) (held : List ℕ → Held) (given : Options) (files : Files)
+    → HasFiles reads held given files → (all : Files) × HasFiles reads held given all
+were_had reads held given files has = (files, has)
 
 -- the same of rules, where no file is the empty text
 pub had_rules : {B : Type 0} (held : List ℕ → Held) (view : B → List ℕ) (named : Option (Bor (List ℕ)))
@@ -89,39 +84,6 @@ pub had_rules : {B : Type 0} (held : List ℕ → Held) (view : B → List ℕ) 
 had_rules held view None got has = ap (λ o. unwrap_or (option_map view o) []) has
 had_rules held view (Some path) None has = absurd has
 had_rules held view (Some path) (Some got) has = had_read (held path.now) view got has
-
--- a manifest, and then those behind it
-pub packages_more : {B : Type 0} (held : List ℕ → Held) (view : B → List ℕ) (dirs : List (Bor (List ℕ))) (i : ℕ)
-    (d : Bor (List ℕ)) (read : List B) (got : B) → i < length dirs
-    → HasManifest held view (get_or dirs i d) (Ok got)
-    → ((rest : List (List ℕ)) → HasPackages held (drop i dirs) rest → HasPackages held dirs (map view read ++ rest))
-    → (rest : List (List ℕ)) → HasPackages held (drop (i + 1) dirs) rest
-    → HasPackages held dirs (map view (read ++ got ∷ []) ++ rest)
-packages_more held view dirs i d read got below has those rest others =
-    let first = had_read (held (manifest_path (get_or dirs i d).now)) view got has in
-    let all = those (view got ∷ rest) (rw (drop_more dirs i d below) (first, others)) in
-    subst (HasPackages held dirs) (sym (ap (λ xs. xs ++ rest) (map-append view read (got ∷ []))
-    ∙ append_assoc (map view read) (view got ∷ []) rest)) all
-
--- all manifests, where none is left
-pub packages_end : (held : List ℕ → Held) (dirs : List (Bor (List ℕ))) (i : ℕ) (read : List (List ℕ)) → length dirs ≤ i
-    → ((rest : List (List ℕ)) → HasPackages held (drop i dirs) rest → HasPackages held dirs (read ++ rest))
-    → HasPackages held dirs read
-packages_end held dirs i read past those =
-    subst (HasPackages held dirs) (append-nil read) (those [] (rw (drop_all i dirs past) tt))
-
--- what stops at a manifest, or behind it
-pub stops_here : {B : Type 0} (held : List ℕ → Held) (view : B → List ℕ) (dirs : List (Bor (List ℕ))) (i : ℕ)
-    (d : Bor (List ℕ)) (stop : Stop) → i < length dirs → HasManifest held view (get_or dirs i d) (Err stop)
-    → StopsInDirs held (drop i dirs) stop
-stops_here held view dirs i d stop below why = rw (drop_more dirs i d below) (inl why)
-
-pub stops_later : {B : Type 0} (held : List ℕ → Held) (view : B → List ℕ) (dirs : List (Bor (List ℕ))) (i : ℕ)
-    (d : Bor (List ℕ)) (got : B) (stop : Stop) → i < length dirs → HasManifest held view (get_or dirs i d) (Ok got)
-    → StopsInDirs held (drop (i + 1) dirs) stop → StopsInDirs held (drop i dirs) stop
-stops_later held view dirs i d got stop below has why =
-    rw (drop_more dirs i d below)
-    (inr ((view got, had_read (held (manifest_path (get_or dirs i d).now)) view got has), why))
 
 had_open : {F : Type 0} (held : Held) (remaining : F → Option (List ℕ)) (file : F) → Opens remaining held (Ok file)
     → Opens {F = Option (List ℕ)} (λ known. known) held (Ok (remaining file))
@@ -142,11 +104,12 @@ not_opened held remaining None stop fails = fails
 not_opened held remaining (Some path) stop fails = fails
 
 -- the script's file doesn't open, behind all others
-pub script_missing : {F : Type 0} (held : List ℕ → Held) (remaining : F → Option (List ℕ)) (given : Options)
-    (files : Files) (o : Streams) (end : Result (Unit {0}) Stop) (stop failed : Stop) → HasFiles held given files
+pub script_missing : {F : Type 0} (reads : HandlerFiles) (held : List ℕ → Held) (remaining : F → Option (List ℕ))
+    (given : Options) (files : Files) (o : Streams) (end : Result (Unit {0}) Stop) (stop failed : Stop)
+    → HasFiles reads held given files
     → NamesFile held remaining given.script (Err failed) → end ≡ Err stop → stop ≡ failed → Silent o
-    → FileMissing held given o end
-script_missing held remaining given files o end stop failed has fails ends is silent = record {
+    → FileMissing reads held given o end
+script_missing reads held remaining given files o end stop failed has fails ends is silent = record {
   stop = stop;
   end_is = ends;
   why = inr (

@@ -5,19 +5,21 @@ use Rattle.std.specs.Borrow.{Bor}
 use Rattle.std.specs.Io.KnownBytes.{Keeps, append_known}
 use Rattle.kb_context.specs.declared.failure.Failure.{Failure}
 use Rattle.kb_core.specs.declared.native.Native.{Native}
-use Rattle.kb_ending.specs.Files.{Held, HasRead, HasManifest, NamesBytes, NamesFile, Opens}
+use Rattle.kb_ending.specs.Files.{Held, HasRead, NamesBytes, NamesFile, Opens}
 use Rattle.kb_ending.specs.Report.{warning_line, script_stop}
 use Rattle.kb_ending.specs.Voice.{Heard, Says}
 use Rattle.kb_ending.specs.declared.outcome.Stop.{Stop}
 use Rattle.kb_ending.specs.declared.outcome.Stop.TheVariants.{CannotRead, CannotReadIn, Load, Script}
 use Rattle.kb_ending.specs.declared.outcome.Stop.TheVariants.{NoMemory}
 use Rattle.kb_keys.specs.declared.platform.Platform.{Platform}
+use Rattle.kb_run.specs.Directory.{HasDirectories, StopsInDirectories, bytes_held}
 use Rattle.kb_run.specs.declared.run.FileBytes.{FileBytes}
 use Rattle.kb_given.specs.declared.given.Options.{Options}
 use Rattle.kb_script.specs.ScriptRun.{Answers}
 use Rattle.kb_script.specs.Shelf.{Stand, beside}
 use Rattle.kb_script.specs.declared.fault.ScriptFault.{ScriptFault}
 use Rattle.kb_bindings.specs.Load.{Files}
+use Rattle.kb_bindings.specs.declared.inputs.HandlerFiles.{HandlerFiles}
 use Rattle.kb_session.specs.Session.{loaded, load_held, marks_by}
 use Rattle.kb_bindings.specs.Sources.{Sources, source_of}
 use Rattle.kb_session.specs.State.{State}
@@ -80,33 +82,34 @@ pub record Silent (o : Streams) : Type 0 where
 
 -- the script was reached: the session is what its files load for the marks that it tells, with the host's
 -- closures, each of its warnings is said in its line, and the script was played
-pub record Played (files : Files) (closures : Closures) (script : Option (List ℕ)) (o : Streams)
+pub record Played (reads : HandlerFiles) (files : Files) (closures : Closures) (script : Option (List ℕ)) (o : Streams)
     (end : Result (Unit {0}) Stop) : Type 0 where
   pub session : Traced State
-  pub loaded_is : loaded (marks_by files session) files closures.natives ≡ Ok session
+  pub loaded_is : loaded reads (marks_by files session) files closures.natives ≡ Ok session
   pub warned : Says o.said_before o.said
       (warning_text session.state.sources (warnings_of session.state.sources))
   pub new : Traced Stand
   pub plays : PlaysAny script (beside session closures.shelf) new o.had o.has end
 
 -- why nothing was loaded; the marks of patterns make no fault
-abbrev pub FailsToLoad : Files → List Native → Stop → Type 0
-FailsToLoad files natives (CannotRead path) = ⊥
-FailsToLoad files natives (CannotReadIn dir) = ⊥
-FailsToLoad files natives (Load fault) = load_held files natives ≡ Err fault
-FailsToLoad files natives (Script fault) = ⊥
-FailsToLoad files natives NoMemory = ⊤
+abbrev pub FailsToLoad : HandlerFiles → Files → List Native → Stop → Type 0
+FailsToLoad reads files natives (CannotRead path) = ⊥
+FailsToLoad reads files natives (CannotReadIn dir file) = ⊥
+FailsToLoad reads files natives (Load fault) = load_held reads files natives ≡ Err fault
+FailsToLoad reads files natives (Script fault) = ⊥
+FailsToLoad reads files natives NoMemory = ⊤
 
-pub record NotLoaded (files : Files) (closures : Closures) (o : Streams) (end : Result (Unit {0}) Stop)
+pub record NotLoaded (reads : HandlerFiles) (files : Files) (closures : Closures) (o : Streams) (end : Result (Unit {0}) Stop)
     : Type 0 where
   pub stop : Stop
   pub end_is : end ≡ Err stop
-  pub why : FailsToLoad files closures.natives stop
+  pub why : FailsToLoad reads files closures.natives stop
   pub silent : Silent o
 
 -- what a run does with what its files hold
-abbrev pub Runs : Files → Closures → Option (List ℕ) → Streams → Result (Unit {0}) Stop → Type 0
-Runs files closures script o end = NotLoaded files closures o end ⊎ Played files closures script o end
+abbrev pub Runs : HandlerFiles → Files → Closures → Option (List ℕ) → Streams → Result (Unit {0}) Stop → Type 0
+Runs reads files closures script o end =
+    NotLoaded reads files closures o end ⊎ Played reads files closures script o end
 
 -- the script's bytes, where they are known: those of its file, or of standard input
 abbrev pub script_bytes : {F : Type 0} → (F → Option (List ℕ)) → Option F → Option (List ℕ) → Option (List ℕ)
@@ -124,17 +127,6 @@ abbrev pub HasRules : (List ℕ → Held) → Option (Bor (List ℕ)) → List �
 HasRules held None text = text ≡ []
 HasRules held (Some path) text = HasRead {B = List ℕ} (held path.now) (λ got. got) (Ok text)
 
--- the bytes of the manifest in a directory
-abbrev pub HasPackage : (List ℕ → Held) → Bor (List ℕ) → List ℕ → Type 0
-HasPackage held dir bytes = HasManifest {B = List ℕ} held (λ got. got) dir (Ok bytes)
-
--- the bytes of the manifests in directories, in their order
-abbrev pub HasPackages : (List ℕ → Held) → List (Bor (List ℕ)) → List (List ℕ) → Type 0
-HasPackages held [] [] = ⊤
-HasPackages held [] (bytes ∷ rest) = ⊥
-HasPackages held (dir ∷ dirs) [] = ⊥
-HasPackages held (dir ∷ dirs) (bytes ∷ rest) = HasPackage held dir bytes × HasPackages held dirs rest
-
 -- the bytes that the script has, of the file that an option names, or of standard input
 abbrev pub HasScript : (List ℕ → Held) → Option (Bor (List ℕ)) → Option (List ℕ) → Option (List ℕ) → Type 0
 HasScript held None input script = script ≡ input
@@ -142,21 +134,21 @@ HasScript held (Some path) input script =
     Opens {F = Option (List ℕ)} (λ known. known) (held path.now) (Ok script)
 
 -- what the files of a load hold
-pub record HasFiles (held : List ℕ → Held) (given : Options) (files : Files) : Type 0 where
+pub record HasFiles (reads : HandlerFiles) (held : List ℕ → Held) (given : Options) (files : Files) : Type 0 where
   pub layout : HasBytes held given.layout files.layout
   pub defaults : HasRules held given.defaults files.defaults
   pub user : HasRules held given.user files.user
   pub platform : files.platform ≡ given.platform
-  pub manifests : HasPackages held given.dirs.items files.manifests
+  pub extensions : HasDirectories reads held given.dirs.items files.extensions
 
 -- all files were had, and what they hold was run
-pub record FilesRun (held : List ℕ → Held) (given : Options) (closures : Closures) (input : Option (List ℕ))
-    (o : Streams) (end : Result (Unit {0}) Stop) : Type 0 where
+pub record FilesRun (reads : HandlerFiles) (held : List ℕ → Held) (given : Options) (closures : Closures)
+    (input : Option (List ℕ)) (o : Streams) (end : Result (Unit {0}) Stop) : Type 0 where
   pub files : Files
   pub script : Option (List ℕ)
-  pub files_had : HasFiles held given files
+  pub files_had : HasFiles reads held given files
   pub script_had : HasScript held given.script input script
-  pub runs : Runs files closures script o end
+  pub runs : Runs reads files closures script o end
 
 -- ---- a file that is missing
 
@@ -171,36 +163,30 @@ StopsAt held named stop = NamesBytes {B = List ℕ} held (λ got. got) named (Er
 abbrev pub StopsAtScript : (List ℕ → Held) → Option (Bor (List ℕ)) → Stop → Type 0
 StopsAtScript held named stop = NamesFile {F = Unit {0}} held (λ file. None) named (Err stop)
 
--- the first manifest that isn't read stops the run
-abbrev pub StopsInDirs : (List ℕ → Held) → List (Bor (List ℕ)) → Stop → Type 0
-StopsInDirs held [] stop = ⊥
-StopsInDirs held (dir ∷ dirs) stop = HasManifest {B = List ℕ} held (λ got. got) dir (Err stop)
-    ⊎ (((bytes : List ℕ) × HasPackage held dir bytes) × StopsInDirs held dirs stop)
-
 -- the first file of a load that isn't read stops the run, in this order
-abbrev pub StopsReadingFiles : (List ℕ → Held) → Options → Stop → Type 0
-StopsReadingFiles held given stop = StopsAt held given.layout stop
+abbrev pub StopsReadingFiles : HandlerFiles → (List ℕ → Held) → Options → Stop → Type 0
+StopsReadingFiles reads held given stop = StopsAt held given.layout stop
     ⊎ (IsHad held given.layout × (StopsAt held given.defaults stop
     ⊎ (IsHad held given.defaults × (StopsAt held given.user stop
-    ⊎ (IsHad held given.user × StopsInDirs held given.dirs.items stop)))))
+    ⊎ (IsHad held given.user × StopsInDirectories reads held given.dirs.items stop)))))
 
 -- the script's file doesn't open, behind all others
-abbrev pub StopsOpeningScript : (List ℕ → Held) → Options → Stop → Type 0
-StopsOpeningScript held given stop =
-    ((files : Files) × HasFiles held given files) × StopsAtScript held given.script stop
+abbrev pub StopsOpeningScript : HandlerFiles → (List ℕ → Held) → Options → Stop → Type 0
+StopsOpeningScript reads held given stop =
+    ((files : Files) × HasFiles reads held given files) × StopsAtScript held given.script stop
 
 -- a file was not had
-pub record FileMissing (held : List ℕ → Held) (given : Options) (o : Streams) (end : Result (Unit {0}) Stop)
-    : Type 0 where
+pub record FileMissing (reads : HandlerFiles) (held : List ℕ → Held) (given : Options) (o : Streams)
+    (end : Result (Unit {0}) Stop) : Type 0 where
   pub stop : Stop
   pub end_is : end ≡ Err stop
-  pub why : StopsReadingFiles held given stop ⊎ StopsOpeningScript held given stop
+  pub why : StopsReadingFiles reads held given stop ⊎ StopsOpeningScript reads held given stop
   pub silent : Silent o
 
-abbrev pub CarriesOut : (List ℕ → Held) → Options → Closures → Option (List ℕ) → Streams
+abbrev pub CarriesOut : HandlerFiles → (List ℕ → Held) → Options → Closures → Option (List ℕ) → Streams
     → Result (Unit {0}) Stop → Type 0
-CarriesOut held given closures input o end =
-    FileMissing held given o end ⊎ FilesRun held given closures input o end
+CarriesOut reads held given closures input o end =
+    FileMissing reads held given o end ⊎ FilesRun reads held given closures input o end
 
 -- ---- for private functions
 
@@ -211,5 +197,5 @@ files_in platform read = record {
   defaults = unwrap_or (option_map (λ bytes. bytes.items) read.defaults) [];
   user = unwrap_or (option_map (λ bytes. bytes.items) read.user) [];
   platform = platform;
-  manifests = map (λ bytes. bytes.items) read.manifests.items;
+  extensions = map bytes_held read.directories.items;
 }

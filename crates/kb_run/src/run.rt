@@ -1,19 +1,20 @@
-//! A run of the program over any files, streams and console. Nothing here asks the system, so that the
-//! clauses say what is said and printed, by what the files hold and the streams give.
+//! A run of a program over any files, streams and console. Nothing here asks the system, so that the clauses
+//! say what is said and printed, by what the files hold and the streams give.
 ghost use Rattle.std.specs.Prelude.{◌≡◌, [], IfOk, IfErr, map, option_map, unwrap_or};
 ghost use Rattle.std.specs.Io.Buffered.{writer_contents, writer_inner};
 ghost use Rattle.kb_ending.specs.Voice.{Says, heard_by};
 ghost use Rattle.kb_run.specs.Run.{CarriesOut, Runs, Plays, PlaysAny, closures_of, script_bytes, warning_text};
-ghost use Rattle.kb_run.specs.Run.{HasPackages, HasFiles, StopsInDirs, StopsReadingFiles, files_in};
+ghost use Rattle.kb_run.specs.Run.{HasFiles, StopsReadingFiles, files_in};
 ghost use Rattle.kb_bindings.specs.Load.{files_of};
 ghost use Rattle.kb_script.specs.Shelf.{beside};
+ghost use Rattle.kb_session.specs.Session.{Loads};
 ghost use Rattle.kb_bindings.specs.Warning.{warnings_of};
 
-use kb_bindings::Inputs;
-use kb_context::NoMemory;
+use crate::directory::{DirBytes, lent_all, read_directories};
+use kb_bindings::{HandlerFiles, Inputs, LoadFault};
+use kb_context::Failure;
 use kb_ending::{
-    Console, FileSource, Stop, Voice, WarningLine, bytes_in, bytes_named, file_named, lent,
-    script_stop,
+    Console, FileSource, Stop, Voice, WarningLine, bytes_named, file_named, lent, script_stop,
 };
 use kb_given::Options;
 use kb_keys::Platform;
@@ -74,10 +75,26 @@ fn play_any<'a, S: Read + Drop, I: Read, O: Write + Drop, H: HostCommand>(
     }
 }
 
-// Loads a session of what the files hold, with the host's closures, says its warnings, and runs the script.
+// Loads a session of what the files hold, with the host's closures, with or without the files of handlers.
+fn load<H: HostCommand>(
+    alloc: Global,
+    reads: HandlerFiles,
+    inputs: Inputs<'_>,
+    natives: Vec<H>,
+) -> Result<Session<H>, Failure<LoadFault>>
+    ensures { Loads reads (files_of inputs.entry) (map H.stands_for natives.items) result }
+{
+    match reads {
+        HandlerFiles::Ignored => Session::load(alloc, inputs, natives),
+        HandlerFiles::Raw => Session::load_raw(alloc, inputs, natives),
+    }
+}
+
+// Loads a session, says its warnings, and runs the script.
 #[tactic(auto, using(crate::proofs::RunLemmas::loading))]
 fn run_loaded<'a, S: Read + Drop, I: Read, O: Write + Drop, C: Console + Drop, H: HostCommand>(
     alloc: Global,
+    reads: HandlerFiles,
     inputs: Inputs<'_>,
     closures: HostClosures<H>,
     script: Option<S>,
@@ -85,7 +102,7 @@ fn run_loaded<'a, S: Read + Drop, I: Read, O: Write + Drop, C: Console + Drop, H
     trace: &mut BufWriter<O>,
     voice: &mut Voice<C>,
 ) -> Result<(), Stop<'a>>
-    ensures { Runs (files_of inputs.entry)
+    ensures { Runs reads (files_of inputs.entry)
         (closures_of (map H.stands_for closures.natives.items) (map H.stands_for closures.shelf.items))
         (script_bytes S.remaining script (I.remaining input.old)) (record {
           said_before = heard_by C.said voice.old;
@@ -95,7 +112,7 @@ fn run_loaded<'a, S: Read + Drop, I: Read, O: Write + Drop, C: Console + Drop, H
         }) result }
 {
     let HostClosures { natives, mut shelf } = closures;
-    match Session::load(alloc, inputs, natives) {
+    match load(alloc, reads, inputs, natives) {
         Ok(mut session) => {
             say_warnings(&session, voice);
             let end = play_any(alloc, script, input, trace, &mut session, &mut shelf);
@@ -112,47 +129,30 @@ struct FileBytes {
     layout: Option<Vec<u8>>,
     defaults: Option<Vec<u8>>,
     user: Option<Vec<u8>>,
-    manifests: Vec<Vec<u8>>,
-}
-
-// The bytes of the manifests in directories, in their order.
-fn read_manifests<'a, F: FileSource>(
-    alloc: Global,
-    dirs: &[&'a str],
-    files: &F,
-) -> Result<Vec<Vec<u8>>, Stop<'a>>
-    ensures ok { IfOk result (λ read.
-        HasPackages (F.held files.now) dirs.now (map (λ bytes. bytes.items) read.items)) }
-    ensures err { IfErr result (StopsInDirs (F.held files.now) dirs.now) }
-{
-    let mut manifests = Vec::new(alloc);
-    for dir in dirs {
-        let bytes = bytes_in(files, alloc, *dir)?;
-        manifests.push(bytes).map_err(NoMemory::from)?;
-    }
-    Ok(manifests)
+    directories: Vec<DirBytes>,
 }
 
 // The bytes of all files of a load.
 #[tactic(auto, using(crate::proofs::RunLemmas::files))]
 fn read_files<'a, F: FileSource>(
     alloc: Global,
+    reads: HandlerFiles,
     given: &Options<'a>,
     files: &F,
 ) -> Result<FileBytes, Stop<'a>>
     ensures ok { IfOk result (λ read.
-        HasFiles (F.held files.now) given.now (files_in given.now.platform read)) }
-    ensures err { IfErr result (StopsReadingFiles (F.held files.now) given.now) }
+        HasFiles reads (F.held files.now) given.now (files_in given.now.platform read)) }
+    ensures err { IfErr result (StopsReadingFiles reads (F.held files.now) given.now) }
 {
     let layout = bytes_named(files, alloc, given.layout)?;
     let defaults = bytes_named(files, alloc, given.defaults)?;
     let user = bytes_named(files, alloc, given.user)?;
-    let manifests = read_manifests(alloc, given.dirs.as_slice(), files)?;
+    let directories = read_directories(alloc, reads, given.dirs.as_slice(), files)?;
     Ok(FileBytes {
         layout,
         defaults,
         user,
-        manifests,
+        directories,
     })
 }
 
@@ -166,21 +166,10 @@ fn lent_or_empty(bytes: &Option<Vec<u8>>) -> &[u8]
     }
 }
 
-// The bytes of each file, lent.
-fn lent_all<'b>(alloc: Global, files: &'b [Vec<u8>]) -> Result<Vec<&'b [u8]>, NoMemory>
-    ensures { IfOk result (λ lent.
-        map (λ bytes. bytes.now) lent.items ≡ map (λ bytes. bytes.items) files.now) }
-{
-    let mut lent = Vec::new(alloc);
-    for bytes in files {
-        lent.push(bytes.as_slice()).map_err(NoMemory::from)?;
-    }
-    Ok(lent)
-}
-
 // Runs the script over the files of a load, as they were read.
 fn run_files<'a, S: Read + Drop, I: Read, O: Write + Drop, C: Console + Drop, H: HostCommand>(
     alloc: Global,
+    reads: HandlerFiles,
     platform: Platform,
     read: &FileBytes,
     closures: HostClosures<H>,
@@ -189,7 +178,7 @@ fn run_files<'a, S: Read + Drop, I: Read, O: Write + Drop, C: Console + Drop, H:
     trace: &mut BufWriter<O>,
     voice: &mut Voice<C>,
 ) -> Result<(), Stop<'a>>
-    ensures { Runs (files_in platform read.now)
+    ensures { Runs reads (files_in platform read.now)
         (closures_of (map H.stands_for closures.natives.items) (map H.stands_for closures.shelf.items))
         (script_bytes S.remaining script (I.remaining input.old)) (record {
           said_before = heard_by C.said voice.old;
@@ -198,26 +187,28 @@ fn run_files<'a, S: Read + Drop, I: Read, O: Write + Drop, C: Console + Drop, H:
           has = O.contents (writer_inner trace.new);
         }) result }
 {
-    let manifests = lent_all(alloc, read.manifests.as_slice())?;
+    let extensions = lent_all(alloc, read.directories.as_slice())?;
     let inputs = Inputs {
         layout: lent(&read.layout),
         defaults: lent_or_empty(&read.defaults),
         user: lent_or_empty(&read.user),
         platform,
-        manifests: manifests.as_slice(),
+        extensions: extensions.as_slice(),
     };
-    run_loaded(alloc, inputs, closures, script, input, trace, voice)
+    run_loaded(alloc, reads, inputs, closures, script, input, trace, voice)
 }
 
 /// Carries out what the command line asks for. All files are read or opened before the load, in this
-/// order: the layout, the default rules, the user's rules, the manifest in each directory, the script. The
-/// first that is not had ends the run. The load registers the host's closures, and the script has the shelf
-/// of them. Warnings of the load are said before the script runs.
+/// order: the layout, the default rules, the user's rules, in each directory the manifest and then, where
+/// files of handlers are read, the handlers, and at last the script. The first that is not had ends the run,
+/// but for handlers that aren't there. The load registers the host's closures, and the script has the shelf of
+/// them. Warnings of the load are said before the script runs.
 ///
 /// Errors: why the run stopped before its end.
 #[tactic(auto, using(crate::proofs::RunLemmas::files))]
 pub fn carry_out<'a, F: FileSource, I: Read, O: Write + Drop, C: Console + Drop, H: HostCommand>(
     alloc: Global,
+    reads: HandlerFiles,
     given: Options<'a>,
     closures: HostClosures<H>,
     files: &F,
@@ -225,7 +216,7 @@ pub fn carry_out<'a, F: FileSource, I: Read, O: Write + Drop, C: Console + Drop,
     trace: &mut BufWriter<O>,
     voice: &mut Voice<C>,
 ) -> Result<(), Stop<'a>>
-    ensures { CarriesOut (F.held files.now) given.entry
+    ensures { CarriesOut reads (F.held files.now) given.entry
         (closures_of (map H.stands_for closures.natives.items) (map H.stands_for closures.shelf.items))
         (I.remaining input.old) (record {
           said_before = heard_by C.said voice.old;
@@ -234,10 +225,11 @@ pub fn carry_out<'a, F: FileSource, I: Read, O: Write + Drop, C: Console + Drop,
           has = O.contents (writer_inner trace.new);
         }) result }
 {
-    let read = read_files(alloc, &given, files)?;
+    let read = read_files(alloc, reads, &given, files)?;
     let script = file_named(files, given.script)?;
     run_files(
         alloc,
+        reads,
         given.platform,
         &read,
         closures,

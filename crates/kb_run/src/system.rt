@@ -6,6 +6,7 @@ ghost use Rattle.kb_ending.specs.Voice.{heard_by};
 ghost use Rattle.kb_run.specs.System.{IsStatus, Reports};
 
 use crate::run::carry_out;
+use kb_bindings::HandlerFiles;
 use kb_ending::{Console, Stop, SystemConsole, SystemFiles, Voice, ending};
 use kb_given::Options;
 use kb_natives::HostClosures;
@@ -31,6 +32,7 @@ fn report<C: Console + Drop>(end: &Result<(), Stop<'_>>, voice: &mut Voice<C>) -
 pub fn run_on_system<R: Files + Print + Eprint + Input, H: HostCommand>(
     rt: &R,
     alloc: Global,
+    reads: HandlerFiles,
     given: Options<'_>,
     closures: HostClosures<H>,
 ) -> u8
@@ -43,6 +45,7 @@ pub fn run_on_system<R: Files + Print + Eprint + Input, H: HostCommand>(
     let files = SystemFiles { rt };
     let end = carry_out(
         alloc,
+        reads,
         given,
         closures,
         &files,
