@@ -122,7 +122,8 @@ fn is_not_found(error: &io::Error) -> bool
     matches!(error.kind(), ErrorKind::NotFound)
 }
 
-// All bytes of the file at a path, if it is at most [`FILE_LIMIT`] bytes, and none where no such file is found.
+// All bytes of the file at a path, if it is at most [`FILE_LIMIT`] bytes, and none where no such file is
+// found.
 fn read_if_there<F: FileSource>(
     files: &F,
     alloc: Global,

@@ -1,7 +1,8 @@
 //! What the program says of its end: the exit status, and the line for standard error.
 //!
 //! The statuses and the lines are our decision: 0 where the script ran, 3 where a file is refused, 4 for
-//! a run that stopped, and 5 for one that a handler's trap ended. A command line that is refused has status 2, which is not told here.
+//! a run that stopped, and 5 for one that a handler's trap ended. A command line that is refused has
+//! status 2, which is not told here.
 ghost use Rattle.std.specs.Prelude.{◌≡◌};
 ghost use Rattle.kb_ending.specs.Report as report;
 

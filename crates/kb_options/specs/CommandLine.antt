@@ -39,7 +39,7 @@ platform_rule names = record (file_rule (codes "platform")) { parser = Some (Nam
 abbrev pub dirs_rule : Rule
 dirs_rule = record (new_rule (codes "dir")) { action = Some Append; value_names = 1 }
 
--- `PROGRAM [--layout F] [--defaults F] [--user F] [--platform P] [--script F] [DIR]...`, for a program of this name
+-- `PROGRAM [--layout F] [--defaults F] [--user F] [--platform P] [--script F] [DIR]...`, for a program's name
 abbrev pub program_app : Text → Bor (List (Bor Text)) → App
 program_app program names = with_rule (with_rule (with_rule (with_rule (with_rule (with_rule (new_app program)
     (file_rule (codes "layout"))) (file_rule (codes "defaults"))) (file_rule (codes "user")))
@@ -84,7 +84,7 @@ abbrev pub Answers : Result ArgMatches Error → Result Options OptionsFault →
 Answers (Ok m) r = MatchResult r (Gives (rows_of (found_of m))) (LacksDirs (rows_of (found_of m)))
 Answers (Err e) r = MatchResult r (λ given. ⊥) (λ fault. fault ≡ fault_by e)
 
--- the words are read as clap's meaning of the program's command says, wherever the names of the platforms stand
+-- the words are read as clap's meaning of the program's command says, wherever the platforms' names stand
 pub record Reads (program : Text) (words : List Text) (r : Result Options OptionsFault) : Type 0 where
   pub names : Bor (List (Bor Text))
   pub are_platforms : NamesPlatforms names

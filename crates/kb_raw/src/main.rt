@@ -1,5 +1,5 @@
-//! `rawrun`: `keyrun` with the handlers of extensions, whose code nobody verifies. It is for tests, and for authors of
-//! handlers who want to see a trap.
+//! `rawrun`: `keyrun` with the handlers of extensions, whose code nobody verifies. It is for tests, and for
+//! authors of handlers who want to see a trap.
 #![tactic(auto)]
 
 ghost use Rattle.kb_core.specs.Native.{Fits};

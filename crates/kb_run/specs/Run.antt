@@ -59,8 +59,8 @@ warning_text sources warnings =
 
 -- ---- the run
 
--- the host's closures, seen as the natives that they stand for: those that a load registers, and the shelf of a
--- script
+-- the host's closures, seen as the natives that they stand for: those that a load registers, and the shelf
+-- of a script
 pub record Closures : Type 0 where
   pub natives : List Native
   pub shelf : List Native
@@ -82,8 +82,8 @@ pub record Silent (o : Streams) : Type 0 where
 
 -- the script was reached: the session is what its files load for the marks that it tells, with the host's
 -- closures, each of its warnings is said in its line, and the script was played
-pub record Played (reads : HandlerFiles) (files : Files) (closures : Closures) (script : Option (List ℕ)) (o : Streams)
-    (end : Result (Unit {0}) Stop) : Type 0 where
+pub record Played (reads : HandlerFiles) (files : Files) (closures : Closures) (script : Option (List ℕ))
+    (o : Streams) (end : Result (Unit {0}) Stop) : Type 0 where
   pub session : Traced State
   pub loaded_is : loaded reads (marks_by files session) files closures.natives ≡ Ok session
   pub warned : Says o.said_before o.said
@@ -99,8 +99,8 @@ FailsToLoad reads files natives (Load fault) = load_held reads files natives ≡
 FailsToLoad reads files natives (Script fault) = ⊥
 FailsToLoad reads files natives NoMemory = ⊤
 
-pub record NotLoaded (reads : HandlerFiles) (files : Files) (closures : Closures) (o : Streams) (end : Result (Unit {0}) Stop)
-    : Type 0 where
+pub record NotLoaded (reads : HandlerFiles) (files : Files) (closures : Closures) (o : Streams)
+    (end : Result (Unit {0}) Stop) : Type 0 where
   pub stop : Stop
   pub end_is : end ≡ Err stop
   pub why : FailsToLoad reads files closures.natives stop

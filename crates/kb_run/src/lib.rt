@@ -1,5 +1,5 @@
-//! A run of a program, from its options to its end: over any files, streams and console, and over its system. The
-//! command line stands above, since `clap` would make each check of the run dear.
+//! A run of a program, from its options to its end: over any files, streams and console, and over its
+//! system. The command line stands above, since `clap` would make each check of the run dear.
 #![tactic(auto)]
 
 mod directory;

@@ -201,8 +201,8 @@ fn run_files<'a, S: Read + Drop, I: Read, O: Write + Drop, C: Console + Drop, H:
 /// Carries out what the command line asks for. All files are read or opened before the load, in this
 /// order: the layout, the default rules, the user's rules, in each directory the manifest and then, where
 /// files of handlers are read, the handlers, and at last the script. The first that is not had ends the run,
-/// but for handlers that aren't there. The load registers the host's closures, and the script has the shelf of
-/// them. Warnings of the load are said before the script runs.
+/// but for handlers that aren't there. The load registers the host's closures, and the script has the shelf
+/// of them. Warnings of the load are said before the script runs.
 ///
 /// Errors: why the run stopped before its end.
 #[tactic(auto, using(crate::proofs::RunLemmas::files))]
