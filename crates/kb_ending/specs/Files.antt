@@ -1,16 +1,19 @@
 -- What is read of a file. What is held at a path is known of files over memory, and not of a system's.
-use Rattle.std.specs.Prelude.{◌≡◌, ◌≤◌, ◌<◌, ⊤, ℕ, List, Option, Some, None, Result, Ok, Err, MatchResult}
+use Rattle.std.specs.Prelude.{◌≡◌, ◌≤◌, ◌<◌, ⊤, ℕ, Bool, true, false, List, Option, Some, None, Result, Ok, Err}
+use Rattle.std.specs.Prelude.{MatchResult}
 use Rattle.std.specs.Prelude.{length}
 use Rattle.std.specs.Borrow.{Bor}
 use Rattle.std.specs.IoError.{error_kind}
 use Rattle.std.specs.declared.io.Error.{Error}
 use Rattle.std.specs.declared.io.ErrorKind.{ErrorKind}
-use Rattle.std.specs.declared.io.ErrorKind.TheVariants.{OutOfMemory}
+use Rattle.std.specs.declared.io.ErrorKind.TheVariants.{NotFound, OutOfMemory}
 use Rattle.kb_context.specs.declared.failure.Failure.{Failure}
 use Rattle.kb_context.specs.declared.failure.Failure.TheVariants as failure
 use Rattle.kb_stream.specs.declared.reading.ReadFault.{ReadFault}
 use Rattle.kb_stream.specs.declared.reading.ReadFault.TheVariants.{TooLong, Failed}
-use Rattle.kb_ending.specs.Report.{file_stop, manifest_path}
+use Rattle.kb_ending.specs.Report.{file_stop, path_in}
+use Rattle.kb_ending.specs.declared.outcome.DirFile.{DirFile}
+use Rattle.kb_ending.specs.declared.outcome.DirFile.TheVariants.{Package, Handlers}
 use Rattle.kb_ending.specs.declared.outcome.Stop.{Stop}
 use Rattle.kb_ending.specs.declared.outcome.Stop.TheVariants.{CannotRead, CannotReadIn, Load, Script}
 use Rattle.kb_ending.specs.declared.outcome.Stop.TheVariants.{NoMemory}
@@ -83,19 +86,60 @@ NamesFile held remaining None r = MatchResult r (λ got. got ≡ None) (λ stop.
 NamesFile held remaining (Some path) r =
     MatchResult r (GivesFile (held path.now) remaining) (StopsOpening (held path.now) path)
 
--- the run stops for what reading the manifest of a directory answered, held at its path; memory may always be
+-- ---- a directory
+
+-- no such file is found, by what the system says
+abbrev pub is_missing : ErrorKind → Bool
+is_missing NotFound = true
+is_missing _ = false
+
+-- nothing is found at a path, as far as that is known
+abbrev pub IsMissing : Held → Type 0
+IsMissing unknown = ⊤
+IsMissing (refuses kind) = is_missing kind ≡ true
+IsMissing (holds bytes) = ⊥
+
+-- there is something at a path, as far as that is known, though it may not open
+abbrev pub IsThere : Held → Type 0
+IsThere unknown = ⊤
+IsThere (refuses kind) = is_missing kind ≡ false
+IsThere (holds bytes) = ⊤
+
+-- the bytes of a file, and none where no such file is found
+abbrev pub GivesIfThere : {B : Type 0} → Held → (B → List ℕ) → Option B → Type 0
+GivesIfThere held view None = IsMissing held
+GivesIfThere held view (Some got) = HasRead held view (Ok got)
+
+-- what reading a file answers that needn't be there
+abbrev pub HasIfThere : {B : Type 0} → Held → (B → List ℕ) → Result (Option B) (Failure ReadFault) → Type 0
+HasIfThere held view r = MatchResult r (GivesIfThere held view)
+    (λ failed. IsThere held × HasRead {B = List ℕ} held (λ bytes. bytes) (Err failed))
+
+-- a manifest must be there
+abbrev pub MustRead : DirFile → Held → Type 0
+MustRead Package held = ⊤
+MustRead Handlers held = IsThere held
+
+-- the run stops for what reading a file of a directory answered, held at its path; memory may always be
 -- refused, for that path
-abbrev pub StopsReadingIn : Held → Bor (List ℕ) → Stop → Type 0
-StopsReadingIn held dir NoMemory = ⊤
-StopsReadingIn held dir (CannotReadIn at) = (at ≡ dir)
+abbrev pub StopsReadingIn : DirFile → Held → Bor (List ℕ) → Stop → Type 0
+StopsReadingIn file held dir NoMemory = ⊤
+StopsReadingIn file held dir (CannotReadIn at which) = (at ≡ dir) × (which ≡ file) × MustRead file held
     × ((fault : ReadFault) × HasRead {B = List ℕ} held (λ bytes. bytes) (Err (failure.Fault fault)))
-StopsReadingIn held dir (CannotRead path) = ⊥
-StopsReadingIn held dir (Load fault) = ⊥
-StopsReadingIn held dir (Script fault) = ⊥
+StopsReadingIn file held dir (CannotRead path) = ⊥
+StopsReadingIn file held dir (Load fault) = ⊥
+StopsReadingIn file held dir (Script fault) = ⊥
 
 -- the bytes of the manifest of a directory
 abbrev pub HasManifest : {B : Type 0} → (List ℕ → Held) → (B → List ℕ) → Bor (List ℕ) → Result B Stop
     → Type 0
 HasManifest held view dir r =
-    MatchResult r (λ got. HasRead (held (manifest_path dir.now)) view (Ok got))
-    (StopsReadingIn (held (manifest_path dir.now)) dir)
+    MatchResult r (λ got. HasRead (held (path_in dir.now Package)) view (Ok got))
+    (StopsReadingIn Package (held (path_in dir.now Package)) dir)
+
+-- the bytes of the handler file of a directory, if there is one
+abbrev pub HasHandlers : {B : Type 0} → (List ℕ → Held) → (B → List ℕ) → Bor (List ℕ) → Result (Option B) Stop
+    → Type 0
+HasHandlers held view dir r =
+    MatchResult r (GivesIfThere (held (path_in dir.now Handlers)) view)
+    (StopsReadingIn Handlers (held (path_in dir.now Handlers)) dir)

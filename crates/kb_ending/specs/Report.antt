@@ -13,17 +13,24 @@ use Rattle.kb_bindings.specs.declared.warning.Warning.{Warning}
 use Rattle.kb_script.specs.declared.fault.ScriptFault.{ScriptFault}
 use Rattle.kb_script.specs.declared.fault.ScriptFault.TheVariants as script
 use Rattle.kb_stream.specs.declared.reading.ReadFault.{ReadFault}
+use Rattle.kb_ending.specs.declared.outcome.DirFile.{DirFile}
+use Rattle.kb_ending.specs.declared.outcome.DirFile.TheVariants.{Package, Handlers}
 use Rattle.kb_ending.specs.declared.outcome.Stop.{Stop}
 use Rattle.kb_ending.specs.declared.outcome.Stop.TheVariants.{CannotRead, CannotReadIn, Load, Script}
 use Rattle.kb_ending.specs.declared.outcome.Stop.TheVariants.{NoMemory}
 
 -- ---- statuses
 
+-- a trap has a status of its own
+abbrev pub script_status : ScriptFault → ℕ
+script_status script.Trapped = 5
+script_status _ = 4
+
 abbrev pub stop_status : Stop → ℕ
 stop_status (CannotRead path) = 3
-stop_status (CannotReadIn dir) = 3
+stop_status (CannotReadIn dir file) = 3
 stop_status (Load fault) = 3
-stop_status (Script fault) = 4
+stop_status (Script fault) = script_status fault
 stop_status NoMemory = 4
 
 abbrev pub status_of : Result (Unit {0}) Stop → ℕ
@@ -47,14 +54,20 @@ script_line script.Stopped = codes "stopped: out of memory"
 script_line script.TooLong = codes "script: too long"
 script_line script.ReadFailed = codes "script: read failed"
 script_line script.WriteFailed = codes "script: write failed"
+script_line script.Trapped = codes "trapped"
 
--- the path of the manifest of an extension's directory
-abbrev pub manifest_path : List ℕ → List ℕ
-manifest_path dir = dir ++ codes "/package.json"
+-- a file of an extension's directory
+abbrev pub file_name : DirFile → List ℕ
+file_name Package = codes "package.json"
+file_name Handlers = codes "handlers.json"
+
+-- its path
+abbrev pub path_in : List ℕ → DirFile → List ℕ
+path_in dir file = dir ++ (codes "/" ++ file_name file)
 
 abbrev pub stop_line : Stop → List ℕ
 stop_line (CannotRead path) = codes "cannot read " ++ path.now
-stop_line (CannotReadIn dir) = codes "cannot read " ++ manifest_path dir.now
+stop_line (CannotReadIn dir file) = codes "cannot read " ++ path_in dir.now file
 stop_line (Load fault) = load_line fault
 stop_line (Script fault) = script_line fault
 stop_line NoMemory = codes "stopped: out of memory"
@@ -75,10 +88,11 @@ file_stop path failure.NoMemory = NoMemory
 file_stop path (failure.Fault fault) = CannotRead path
 
 -- what is left of the trace in its buffer is written after the script: where that fails, a script that
--- ran, or found no memory, ends as one whose write failed
+-- ran, that a trap ended or that found no memory ends as one whose write failed
 abbrev pub script_stop : Result (Unit {0}) (Failure ScriptFault) → Bool → Result (Unit {0}) Stop
 script_stop (Ok done) true = Ok tt
 script_stop (Ok done) false = Err (Script script.WriteFailed)
 script_stop (Err failure.NoMemory) true = Err NoMemory
 script_stop (Err failure.NoMemory) false = Err (Script script.WriteFailed)
+script_stop (Err (failure.Fault script.Trapped)) false = Err (Script script.WriteFailed)
 script_stop (Err (failure.Fault fault)) is_flushed = Err (Script fault)

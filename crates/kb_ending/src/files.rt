@@ -2,9 +2,10 @@
 ghost use Rattle.std.specs.Prelude.{◌≡◌, IfOk, option_map};
 ghost use Rattle.std.specs.IoError.{error_kind};
 ghost use Rattle.kb_ending.specs.Files.{Opens, HasRead, failure_of, NamesBytes, NamesFile, HasManifest};
-ghost use Rattle.kb_ending.specs.Report.{manifest_path};
+ghost use Rattle.kb_ending.specs.Files.{HasHandlers, HasIfThere, is_missing};
+ghost use Rattle.kb_ending.specs.Report.{path_in};
 
-use crate::outcome::Stop;
+use crate::outcome::{DirFile, Stop};
 use crate::report::file_stop;
 use kb_context::{Failure, NoMemory};
 use kb_stream::{ReadFault, read_within};
@@ -88,17 +89,17 @@ pub fn bytes_named<'a, F: FileSource>(
     }
 }
 
-// The path of the manifest of an extension's directory.
-fn manifest_in(alloc: Global, dir: &str) -> Result<String, NoMemory>
-    ensures { IfOk result (λ path. path.bytes.items ≡ manifest_path dir.now) }
+// The path of a file of an extension's directory: the directory's as given, `/` and the file's name.
+fn file_path(alloc: Global, dir: &str, file: DirFile) -> Result<String, NoMemory>
+    ensures { IfOk result (λ path. path.bytes.items ≡ path_in dir.now file) }
 {
-    format!(in alloc; "{dir}/package.json")
+    let name = file.name();
+    format!(in alloc; "{dir}/{name}")
 }
 
-/// The bytes of the manifest of an extension's directory: of the file `package.json` in it, whose path is
-/// the directory's as given, `/` and that name.
+/// The bytes of the manifest of an extension's directory, of the file `package.json` in it.
 ///
-/// Errors: how the run ends, where the file is not read, or the path finds no memory.
+/// Errors: how the run ends, where the file is not read, or its path finds no memory.
 pub fn bytes_in<'a, F: FileSource>(
     files: &F,
     alloc: Global,
@@ -106,11 +107,61 @@ pub fn bytes_in<'a, F: FileSource>(
 ) -> Result<Vec<u8>, Stop<'a>>
     ensures { HasManifest (F.held files.now) (λ bytes. bytes.items) dir.entry result }
 {
-    let path = manifest_in(alloc, dir)?;
+    let path = file_path(alloc, dir, DirFile::Package)?;
     match read_file(files, alloc, path.as_str()) {
         Ok(bytes) => Ok(bytes),
         Err(Failure::NoMemory) => Err(Stop::NoMemory),
-        Err(Failure::Fault(_fault)) => Err(Stop::CannotReadIn(dir)),
+        Err(Failure::Fault(_fault)) => Err(Stop::CannotReadIn(dir, DirFile::Package)),
+    }
+}
+
+// Whether a file was not opened since no such file is found.
+fn is_not_found(error: &io::Error) -> bool
+    ensures { result ≡ is_missing (error_kind error.now) }
+{
+    matches!(error.kind(), ErrorKind::NotFound)
+}
+
+// All bytes of the file at a path, if it is at most [`FILE_LIMIT`] bytes, and none where no such file is
+// found.
+fn read_if_there<F: FileSource>(
+    files: &F,
+    alloc: Global,
+    path: &str,
+) -> Result<Option<Vec<u8>>, Failure<ReadFault>>
+    ensures { HasIfThere (F.held files.now path.now) (λ bytes. bytes.items) result }
+{
+    match files.open(path) {
+        Ok(mut file) => match read_within(alloc, &mut file, FILE_LIMIT) {
+            Ok(bytes) => Ok(Some(bytes)),
+            Err(failure) => Err(failure),
+        },
+        Err(error) => {
+            if is_not_found(&error) {
+                Ok(None)
+            } else {
+                Err(open_failure(&error))
+            }
+        }
+    }
+}
+
+/// The bytes of the handlers of an extension's directory, of the file `handlers.json` in it, and none where
+/// no such file is found (our decision: any other reason for which it doesn't open is an error).
+///
+/// Errors: how the run ends, where the file is there and is not read, or its path finds no memory.
+pub fn handlers_in<'a, F: FileSource>(
+    files: &F,
+    alloc: Global,
+    dir: &'a str,
+) -> Result<Option<Vec<u8>>, Stop<'a>>
+    ensures { HasHandlers (F.held files.now) (λ bytes. bytes.items) dir.entry result }
+{
+    let path = file_path(alloc, dir, DirFile::Handlers)?;
+    match read_if_there(files, alloc, path.as_str()) {
+        Ok(bytes) => Ok(bytes),
+        Err(Failure::NoMemory) => Err(Stop::NoMemory),
+        Err(Failure::Fault(_fault)) => Err(Stop::CannotReadIn(dir, DirFile::Handlers)),
     }
 }
 

@@ -5,13 +5,36 @@ use kb_bindings::LoadFault;
 use kb_context::{Failure, NoMemory};
 use kb_script::ScriptFault;
 
+/// A file of an extension's directory.
+#[derive(Clone, Copy, Debug, PartialEq, Eq)]
+pub enum DirFile {
+    /// The manifest, `package.json`.
+    Package,
+    /// The handlers, `handlers.json`.
+    Handlers,
+}
+
+impl DirFile {
+    ghost use Rattle.kb_ending.specs.Report.{file_name};
+
+    /// The file's name in its directory. It takes no memory.
+    pub fn name(self) -> &'static str
+        ensures { result.now ≡ file_name self }
+    {
+        match self {
+            DirFile::Package => "package.json",
+            DirFile::Handlers => "handlers.json",
+        }
+    }
+}
+
 /// Why a run stopped before its end, once the command line was read.
 #[derive(Debug, Drop)]
 pub enum Stop<'a> {
     /// A file that the command line names was not read: its path, as given.
     CannotRead(&'a str),
-    /// The `package.json` of an extension's directory was not read: the directory's path, as given.
-    CannotReadIn(&'a str),
+    /// A file of an extension's directory was not read: the directory's path, as given, and which file.
+    CannotReadIn(&'a str, DirFile),
     /// No session was loaded.
     Load(LoadFault),
     /// The script did not run to its end, or not all of the trace was written.

@@ -1,7 +1,8 @@
 //! What the program says of its end: the exit status, and the line for standard error.
 //!
-//! The statuses and the lines are our decision: 0 where the script ran, 3 where a file is refused, and
-//! 4 for a run that stopped. A command line that is refused has status 2, which is not told here.
+//! The statuses and the lines are our decision: 0 where the script ran, 3 where a file is refused, 4 for
+//! a run that stopped, and 5 for one that a handler's trap ended. A command line that is refused has
+//! status 2, which is not told here.
 ghost use Rattle.std.specs.Prelude.{◌≡◌};
 ghost use Rattle.kb_ending.specs.Report as report;
 
@@ -22,7 +23,10 @@ impl fmt::Display for Stop<'_> {
     fn fmt<W: fmt::Write>(&self, f: &mut fmt::Formatter<W>) -> fmt::Result {
         match self {
             Stop::CannotRead(path) => write!(f, "cannot read {path}"),
-            Stop::CannotReadIn(dir) => write!(f, "cannot read {dir}/package.json"),
+            Stop::CannotReadIn(dir, file) => {
+                let name = file.name();
+                write!(f, "cannot read {dir}/{name}")
+            }
             Stop::Load(fault) => {
                 let line = LoadLine(fault);
                 write!(f, "{line}")
@@ -66,6 +70,7 @@ fn script_line(fault: ScriptFault) -> &'static str
         ScriptFault::TooLong => "script: too long",
         ScriptFault::ReadFailed => "script: read failed",
         ScriptFault::WriteFailed => "script: write failed",
+        ScriptFault::Trapped => "trapped",
     }
 }
 
@@ -76,7 +81,8 @@ pub fn ending(end: &Result<(), Stop<'_>>) -> u8
 {
     match end {
         Ok(()) => 0,
-        Err(Stop::CannotRead(_)) | Err(Stop::CannotReadIn(_)) | Err(Stop::Load(_)) => 3,
+        Err(Stop::CannotRead(_)) | Err(Stop::CannotReadIn(_, _)) | Err(Stop::Load(_)) => 3,
+        Err(Stop::Script(ScriptFault::Trapped)) => 5,
         Err(Stop::Script(_)) | Err(Stop::NoMemory) => 4,
     }
 }
@@ -117,8 +123,8 @@ pub fn file_stop<'a>(path: &'a str, failure: Failure<ReadFault>) -> Stop<'a>
 }
 
 /// How a run ends, by what the script answered and by whether what was left of the trace in its
-/// buffer was written after it. A write that fails there counts as one that failed in the script,
-/// where the script answered that it ran or that it found no memory. It takes no memory.
+/// buffer was written after it. A write that fails there counts as one that failed in the script, where the
+/// script answered that it ran, that a handler was trapped or that it found no memory. It takes no memory.
 pub fn script_stop<'a>(
     ran: Result<(), Failure<ScriptFault>>,
     is_flushed: bool,
@@ -127,7 +133,9 @@ pub fn script_stop<'a>(
 {
     match (ran, is_flushed) {
         (Ok(()), true) => Ok(()),
-        (Ok(()), false) | (Err(Failure::NoMemory), false) => Err(Stop::Script(
+        (Ok(()), false)
+        | (Err(Failure::NoMemory), false)
+        | (Err(Failure::Fault(ScriptFault::Trapped)), false) => Err(Stop::Script(
             ScriptFault::WriteFailed,
         )),
         (Err(Failure::NoMemory), true) => Err(Stop::NoMemory),

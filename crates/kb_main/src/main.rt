@@ -4,17 +4,24 @@
 ghost use Rattle.kb_core.specs.Native.{Fits};
 ghost use Rattle.kb_core.specs.Ran.{Does};
 
-mod closures;
-mod run;
-mod system;
-
-use crate::closures::at_budget;
-use crate::run::HostClosures;
+use kb_bindings::HandlerFiles;
 use kb_context::NoMemory;
 use kb_core::{Args, Core, NATIVES, Ran, plain};
+use kb_natives::{HostClosures, at_budget};
+use kb_options::Program;
+use kb_program::run_program;
 use kb_registry::{NativeCommand, Run};
+use kb_run::without_memory;
 use std::alloc::Global;
 use std::process::ExitCode;
+
+// The program, as its help names and describes it.
+fn keyrun<'a>() -> Program<'a> {
+    Program {
+        name: "keyrun",
+        about: "Runs a script of events against the user's keybindings.",
+    }
+}
 
 // Runs the program with a closure of cost 1 for each native command, and a shelf of closures that cost their
 // whole budget. They are boxed in a function that returns none, so that the check need not assume anything
@@ -44,12 +51,13 @@ fn run_with_closures(rt: &HostRuntime, alloc: Global) -> Result<ExitCode, NoMemo
             .push(NativeCommand::new(native, dear))
             .map_err(NoMemory::from)?;
     }
-    Ok(system::program(rt, alloc, HostClosures { natives, shelf }))
+    let closures = HostClosures { natives, shelf };
+    Ok(run_program(rt, alloc, keyrun(), HandlerFiles::Ignored, closures))
 }
 
 fn main(rt: HostRuntime) -> ExitCode {
     match run_with_closures(&rt, rt.alloc()) {
         Ok(status) => status,
-        Err(_) => system::without_memory(&rt),
+        Err(_) => without_memory(&rt),
     }
 }

@@ -8,7 +8,7 @@ use Rattle.clap.specs.declared.error.kind.ErrorKind.TheVariants.{ArgumentConflic
 use Rattle.clap.specs.declared.error.kind.ErrorKind.TheVariants.{InvalidValue, UnknownArgument}
 use Rattle.clap.proofs.OnLiterals.{clap_on_literals}
 use Rattle.kb_keys.specs.declared.platform.Platform.TheVariants.{Mac, Linux, Windows}
-use Rattle.kb_options.specs.CommandLine.{NamesPlatforms, keyrun_app, platform_given}
+use Rattle.kb_options.specs.CommandLine.{NamesPlatforms, platform_given, program_app}
 
 module _ (p mac linux win : ℕ × ℕ) where
   abbrev names : Bor (List (Bor Text))
@@ -19,7 +19,7 @@ module _ (p mac linux win : ℕ × ℕ) where
   }
 
   abbrev keyrun : App
-  keyrun = keyrun_app names
+  keyrun = program_app (codes "keyrun") names
 
   names_are_platforms : NamesPlatforms names
   names_are_platforms = refl

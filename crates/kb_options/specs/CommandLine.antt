@@ -1,4 +1,4 @@
--- The command line of `keyrun`: the command as clap's definitions see it, and what its words mean.
+-- The command line of a program: the command as clap's definitions see it, and what its words mean.
 use Rattle.std.specs.Prelude.{◌≡◌, ℕ, true, List, [], Option, Some, Result, Ok, Err, MatchResult, codes}
 use Rattle.std.specs.Prelude.{map, is_some, option_map, option_and_then, unwrap_or}
 use Rattle.std.specs.Borrow.{Bor}
@@ -15,7 +15,7 @@ use Rattle.clap.specs.declared.parser.matches.ArgMatches.{ArgMatches}
 use Rattle.kb_keys.specs.Platform.{platforms, platform_name, platform_named}
 use Rattle.kb_keys.specs.declared.platform.Platform.{Platform}
 use Rattle.kb_keys.specs.declared.platform.Platform.TheVariants.{Linux}
-use Rattle.kb_options.specs.declared.given.Options.{Options}
+use Rattle.kb_given.specs.declared.given.Options.{Options}
 use Rattle.kb_options.specs.declared.given.OptionsFault.{OptionsFault}
 use Rattle.kb_options.specs.declared.given.OptionsFault.TheVariants.{Line, NoMemory}
 use Rattle.kb_options.specs.declared.given.WordsFault.{WordsFault}
@@ -39,9 +39,9 @@ platform_rule names = record (file_rule (codes "platform")) { parser = Some (Nam
 abbrev pub dirs_rule : Rule
 dirs_rule = record (new_rule (codes "dir")) { action = Some Append; value_names = 1 }
 
--- `keyrun [--layout F] [--defaults F] [--user F] [--platform P] [--script F] [DIR]...`
-abbrev pub keyrun_app : Bor (List (Bor Text)) → App
-keyrun_app names = with_rule (with_rule (with_rule (with_rule (with_rule (with_rule (new_app (codes "keyrun"))
+-- `PROGRAM [--layout F] [--defaults F] [--user F] [--platform P] [--script F] [DIR]...`, for a program's name
+abbrev pub program_app : Text → Bor (List (Bor Text)) → App
+program_app program names = with_rule (with_rule (with_rule (with_rule (with_rule (with_rule (new_app program)
     (file_rule (codes "layout"))) (file_rule (codes "defaults"))) (file_rule (codes "user")))
     (platform_rule names)) (file_rule (codes "script"))) dirs_rule
 
@@ -84,12 +84,12 @@ abbrev pub Answers : Result ArgMatches Error → Result Options OptionsFault →
 Answers (Ok m) r = MatchResult r (Gives (rows_of (found_of m))) (LacksDirs (rows_of (found_of m)))
 Answers (Err e) r = MatchResult r (λ given. ⊥) (λ fault. fault ≡ fault_by e)
 
--- the words are read as clap's meaning of the command says, wherever the names of the platforms stand
-pub record Reads (words : List Text) (r : Result Options OptionsFault) : Type 0 where
+-- the words are read as clap's meaning of the program's command says, wherever the platforms' names stand
+pub record Reads (program : Text) (words : List Text) (r : Result Options OptionsFault) : Type 0 where
   pub names : Bor (List (Bor Text))
   pub are_platforms : NamesPlatforms names
   pub read : Result ArgMatches Error
-  pub by_clap : Matched (keyrun_app names) words read
+  pub by_clap : Matched (program_app program names) words read
   pub answers : Answers read r
 
 -- the exit status of a command line that gives no options

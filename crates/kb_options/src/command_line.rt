@@ -1,16 +1,17 @@
-//! The command line of `keyrun`, as `clap` reads it.
+//! The command line of a program, as `clap` reads it: the same options for each program.
 ghost use Rattle.std.specs.Prelude.{◌≡◌, [], true, false, IfOk, IfErr, codes, map, is_some, option_map};
 ghost use Rattle.std.specs.Prelude.{unwrap_or};
 ghost use Rattle.clap.specs.Words.{app_of, rule_of, with_rule, new_app};
 ghost use Rattle.clap.specs.Words.{found_of, rows_of, all_of, first_of, kind_of};
 ghost use Rattle.kb_options.specs.CommandLine.{Matched, Gives, Answers, Reads, NamesPlatforms};
-ghost use Rattle.kb_options.specs.CommandLine.{file_rule, platform_rule, dirs_rule, keyrun_app};
+ghost use Rattle.kb_options.specs.CommandLine.{file_rule, platform_rule, dirs_rule, program_app};
 ghost use Rattle.kb_options.specs.CommandLine.{platform_given};
 
-use crate::given::{Options, OptionsFault};
+use crate::given::{OptionsFault, Program};
 use clap::error::ErrorKind;
 use clap::{Arg, ArgAction, ArgMatches, Command, Error};
 use kb_context::NoMemory;
+use kb_given::Options;
 use kb_keys::Platform;
 use std::alloc::Global;
 
@@ -32,13 +33,11 @@ fn file_option<'a>(alloc: Global, name: &'a str, help: &'a str) -> Arg<'a>
 }
 
 // The command without options. Its texts call it by its name, whatever the first word is.
-fn bare<'a>(alloc: Global) -> Result<Command<'a>, NoMemory>
-    ensures { IfOk result (λ made. app_of made ≡ new_app (codes "keyrun")) }
+fn bare<'a>(alloc: Global, program: Program<'a>) -> Result<Command<'a>, NoMemory>
+    ensures { IfOk result (λ made. app_of made ≡ new_app program.entry.name.now) }
 {
-    let command = Command::new(alloc, "keyrun").about(
-        "Runs a script of events against the user's keybindings.",
-    );
-    command.bin_name("keyrun")
+    let command = Command::new(alloc, program.name).about(program.about);
+    command.bin_name(program.name)
 }
 
 // The command with one more option.
@@ -73,11 +72,15 @@ fn dirs_argument<'a>(alloc: Global) -> Arg<'a>
         .help("The directories of extensions, each with its package.json, in load order")
 }
 
-// The command `keyrun`, whose platforms have these names.
-fn keyrun<'a>(alloc: Global, platforms: &'a [&'a str]) -> Result<Command<'a>, NoMemory>
-    ensures { IfOk result (λ made. app_of made ≡ keyrun_app platforms.entry) }
+// The command of a program, whose platforms have these names.
+fn command_of<'a>(
+    alloc: Global,
+    program: Program<'a>,
+    platforms: &'a [&'a str],
+) -> Result<Command<'a>, NoMemory>
+    ensures { IfOk result (λ made. app_of made ≡ program_app program.entry.name.now platforms.entry) }
 {
-    let command = bare(alloc)?;
+    let command = bare(alloc, program)?;
     let command = with(
         command,
         file_option(
@@ -106,16 +109,18 @@ fn keyrun<'a>(alloc: Global, platforms: &'a [&'a str]) -> Result<Command<'a>, No
     with(command, dirs_argument(alloc))
 }
 
-// What the words are to the command `keyrun`. This call takes memory, which `clap` tells as an error
+// What the words are to the command of a program. This call takes memory, which `clap` tells as an error
 // of the kind `OutOfMemory`.
 fn matched<'a>(
     alloc: Global,
+    program: Program<'a>,
     platforms: &'a [&'a str],
     words: &'a [&'a str],
 ) -> Result<ArgMatches<'a>, Error>
-    ensures { Matched (keyrun_app platforms.entry) (map (λ w. w.now) words.now) result }
+    ensures { Matched (program_app program.entry.name.now platforms.entry) (map (λ w. w.now) words.now)
+        result }
 {
-    keyrun(alloc, platforms)?.try_get_matches_from(words)
+    command_of(alloc, program, platforms)?.try_get_matches_from(words)
 }
 
 // The text of an option, where it was given.
@@ -194,20 +199,24 @@ fn given<'a>(
 /// Errors: `Line` where that meaning refuses the words or they ask for help, with one of the kinds of
 /// error that it gives them, and `NoMemory` where `clap` answers that it found none, or the list of the
 /// directories found none.
-pub fn options<'a>(alloc: Global, words: &'a [&'a str]) -> Result<Options<'a>, OptionsFault>
-    ensures { Reads (map (λ w. w.now) words.now) result }
+pub fn options<'a>(
+    alloc: Global,
+    program: Program<'a>,
+    words: &'a [&'a str],
+) -> Result<Options<'a>, OptionsFault>
+    ensures { Reads program.entry.name.now (map (λ w. w.now) words.now) result }
 {
-    given(alloc, matched(alloc, platform_names(), words))
+    given(alloc, matched(alloc, program, platform_names(), words))
 }
 
 /// The error of a command line with a word that is no UTF-8 text. [`options`] takes texts, so it never
 /// sees such a word; that it is refused is our decision.
 ///
 /// Errors: `NoMemory`.
-pub fn not_text(alloc: Global) -> Result<Error, NoMemory>
+pub fn not_text(alloc: Global, program: Program<'_>) -> Result<Error, NoMemory>
     ensures { IfOk result (λ made. kind_of made ≡ ErrorKind.InvalidValue) }
 {
-    keyrun(alloc, platform_names())?.error(
+    command_of(alloc, program, platform_names())?.error(
         ErrorKind::InvalidValue,
         "a word of the command line is no UTF-8 text",
     )

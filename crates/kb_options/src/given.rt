@@ -1,4 +1,4 @@
-//! What a command line gives: the options, or why there are none.
+//! The program that a command line is of, and why it gives no options.
 ghost use Rattle.std.specs.Prelude.{◌≡◌};
 ghost use Rattle.std.specs.IoError.{error_kind};
 ghost use Rattle.clap.specs.Words.{kind_of};
@@ -6,27 +6,16 @@ ghost use Rattle.kb_options.specs.CommandLine.{line_status_of, words_fault_of};
 
 use clap::error::ErrorKind;
 use kb_context::NoMemory;
-use kb_keys::Platform;
 use std::io;
 use thiserror::Error;
 
-/// What the command line asks for, in its own words. The options and their meaning are our decision.
-#[derive(Debug, Drop)]
-pub struct Options<'a> {
-    /// The file of the scopes' layout, as named by `--layout F`. Without it there is one scope,
-    /// `window`.
-    pub layout: Option<&'a str>,
-    /// The file of the default rules, as named by `--defaults F`. Without it there are no rules.
-    pub defaults: Option<&'a str>,
-    /// The file of the user's rules, as named by `--user F`. Without it there are no rules.
-    pub user: Option<&'a str>,
-    /// The platform whose keys extensions' rules have, as named by `--platform P`. Without it it is
-    /// Linux.
-    pub platform: Platform,
-    /// The file of the script, as named by `--script F`. Without it the script is standard input.
-    pub script: Option<&'a str>,
-    /// The extensions' directories, in the order of the words.
-    pub dirs: Vec<&'a str>,
+/// A program of which the words are the command line, as its help names and describes it.
+#[derive(Clone, Copy, Debug)]
+pub struct Program<'a> {
+    /// Its name.
+    pub name: &'a str,
+    /// What it does, in a sentence.
+    pub about: &'a str,
 }
 
 /// Why there are no options.

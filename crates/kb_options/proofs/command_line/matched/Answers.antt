@@ -6,5 +6,6 @@ use Rattle.kb_options.proofs.command_line.matched.Goals as goal
 pub returns : goal.returns
 returns c =
     let parse = c.try_get_matches_from.ensures in
-    matched_by c.args.platforms (app_of c.in_ok-keyrun.field-0) c.in_ok-keyrun.ensures (map (λ w. w.now) c.args.words.now)
+    matched_by c.args.program.name.now c.args.platforms (app_of c.in_ok-command_of.field-0) c.in_ok-command_of.ensures
+    (map (λ w. w.now) c.args.words.now)
     c.try_get_matches_from.result parse.matches parse.kinds parse.passes

@@ -1,0 +1,122 @@
+-- What is said line by line, and what was had of the files that options name.
+use Rattle.std.proofs.Common.{◌≡◌, ◌<◌, ◌≤◌, ◌+◌, ◌++◌, List, [], ◌∷◌, ℕ, drop, length, get_or, refl, sym, ap, subst, inr, append-nil}
+use Rattle.std.proofs.KnownBytes.{Appends-nil, Appends-trans}
+use Rattle.std.proofs.lemmas.List.{drop_more, drop_all}
+use Rattle.std.specs.Borrow.{Bor}
+use Rattle.std.specs.Prelude.{Option, Some, None, Result, Ok, Err, option_map, unwrap_or}
+use Rattle.std.specs.Io.KnownBytes.{append_known}
+use Rattle.kb_context.specs.declared.failure.Failure.{Failure}
+use Rattle.kb_core.specs.declared.native.Native.{Native}
+use Rattle.kb_context.specs.declared.failure.Failure.TheVariants as failure
+use Rattle.kb_ending.specs.Files.{Held, unknown, refuses, holds, Opens, NamesBytes, NamesFile}
+use Rattle.kb_ending.specs.Report.{warning_line, load_stop}
+use Rattle.kb_ending.specs.Voice.{Heard, Says}
+use Rattle.kb_ending.specs.declared.outcome.Stop.{Stop}
+use Rattle.kb_run.specs.Run.{FailsToLoad, FileMissing, HasBytes, HasFiles, HasRules, HasScript}
+use Rattle.kb_run.specs.Run.{IsHad, Silent, StopsAtScript, Streams, script_bytes, warning_text}
+use Rattle.kb_run.proofs.DirectoryLemmas.{had_read}
+use Rattle.kb_given.specs.declared.given.Options.{Options}
+use Rattle.kb_bindings.specs.Load.{Files}
+use Rattle.kb_bindings.specs.declared.inputs.HandlerFiles.{HandlerFiles}
+use Rattle.kb_session.specs.Session.{Loads}
+use Rattle.kb_bindings.specs.Sources.{Sources, source_of}
+use Rattle.kb_bindings.specs.declared.fault.LoadFault.{LoadFault}
+use Rattle.kb_bindings.specs.declared.warning.Warning.{Warning}
+
+says_nothing : (before : Heard) → Says before before []
+says_nothing before whole = (whole, Appends-nil before.said)
+
+says_more : (a b c : Heard) (first rest : List ℕ) → Says a b first → Says b c rest → Says a c (first ++ rest)
+says_more a b c first rest p q whole =
+    let later = q whole in
+    let sooner = p later.0 in
+    (sooner.0, Appends-trans a.said b.said c.said first rest sooner.1 later.1)
+
+-- a warning, and then those behind it
+pub warned_one : (sources : Sources) (before mid end : Heard) (warnings : List Warning) (i : ℕ) (d : Warning)
+    (source : List ℕ) → i < length warnings → source ≡ source_of sources (get_or warnings i d).origin
+    → Says before mid (warning_line source (get_or warnings i d) ++ 10 ∷ [])
+    → Says mid end (warning_text sources (drop (i + 1) warnings))
+    → Says before end (warning_text sources (drop i warnings))
+warned_one sources before mid end warnings i d source below is first rest =
+    let named = subst (λ s. Says before mid (warning_line s (get_or warnings i d) ++ 10 ∷ [])) is first in
+    rw (drop_more warnings i d below) (says_more before mid end _ _ named rest)
+
+pub warned_none : (sources : Sources) (before : Heard) (warnings : List Warning) (i : ℕ) → length warnings ≤ i
+    → Says before before (warning_text sources (drop i warnings))
+warned_none sources before warnings i past = rw (drop_all i warnings past) (says_nothing before)
+
+pub warned_all : (sources : Sources) (before end : Heard) (warnings all : List Warning) → warnings ≡ all
+    → Says before end (warning_text sources warnings) → Says before end (warning_text sources all)
+warned_all sources before end warnings all are says =
+    subst (λ xs. Says before end (warning_text sources xs)) are says
+
+-- a load that fails stops the run
+pub load_fails : (reads : HandlerFiles) (files : Files) (natives : List Native) (failed : Failure LoadFault)
+    → Loads reads files natives (Err failed) → FailsToLoad reads files natives (load_stop failed)
+load_fails reads files natives failure.NoMemory fails = tt
+load_fails reads files natives (failure.Fault fault) fails = fails
+
+pub nothing_left : (had : Option (List ℕ)) → had ≡ append_known had []
+nothing_left None = refl
+nothing_left (Some bytes) = ap Some (sym (append-nil bytes))
+
+pub ruleset loading = (load_fails)
+
+pub had_bytes : {B : Type 0} (held : List ℕ → Held) (view : B → List ℕ) (named : Option (Bor (List ℕ)))
+    (got : Option B) → NamesBytes held view named (Ok got) → HasBytes held named (option_map view got)
+had_bytes held view None got has = ap (option_map view) has
+had_bytes held view (Some path) None has = has
+had_bytes held view (Some path) (Some got) has = had_read (held path.now) view got has
+
+pub is_had : {B : Type 0} (held : List ℕ → Held) (view : B → List ℕ) (named : Option (Bor (List ℕ)))
+    (got : Option B) → NamesBytes held view named (Ok got) → IsHad held named
+is_had held view named got has = (option_map view got, had_bytes held view named got has)
+
+pub were_had : (reads : HandlerFiles) (held : List ℕ → Held) (given : Options) (files : Files)
+    → HasFiles reads held given files → (all : Files) × HasFiles reads held given all
+were_had reads held given files has = (files, has)
+
+-- the same of rules, where no file is the empty text
+pub had_rules : {B : Type 0} (held : List ℕ → Held) (view : B → List ℕ) (named : Option (Bor (List ℕ)))
+    (got : Option B) → NamesBytes held view named (Ok got)
+    → HasRules held named (unwrap_or (option_map view got) [])
+had_rules held view None got has = ap (λ o. unwrap_or (option_map view o) []) has
+had_rules held view (Some path) None has = absurd has
+had_rules held view (Some path) (Some got) has = had_read (held path.now) view got has
+
+had_open : {F : Type 0} (held : Held) (remaining : F → Option (List ℕ)) (file : F) → Opens remaining held (Ok file)
+    → Opens {F = Option (List ℕ)} (λ known. known) held (Ok (remaining file))
+had_open unknown remaining file has = has
+had_open (refuses kind) remaining file has = has
+had_open (holds bytes) remaining file has = has
+
+pub had_script : {F : Type 0} (held : List ℕ → Held) (remaining : F → Option (List ℕ)) (named : Option (Bor (List ℕ)))
+    (got : Option F) (input : Option (List ℕ)) → NamesFile held remaining named (Ok got)
+    → HasScript held named input (script_bytes remaining got input)
+had_script held remaining None got input has = ap (λ o. script_bytes remaining o input) has
+had_script held remaining (Some path) None input has = absurd has
+had_script held remaining (Some path) (Some file) input has = had_open (held path.now) remaining file has
+
+not_opened : {F : Type 0} (held : List ℕ → Held) (remaining : F → Option (List ℕ)) (named : Option (Bor (List ℕ)))
+    (stop : Stop) → NamesFile held remaining named (Err stop) → StopsAtScript held named stop
+not_opened held remaining None stop fails = fails
+not_opened held remaining (Some path) stop fails = fails
+
+-- the script's file doesn't open, behind all others
+pub script_missing : {F : Type 0} (reads : HandlerFiles) (held : List ℕ → Held) (remaining : F → Option (List ℕ))
+    (given : Options) (files : Files) (o : Streams) (end : Result (Unit {0}) Stop) (stop failed : Stop)
+    → HasFiles reads held given files
+    → NamesFile held remaining given.script (Err failed) → end ≡ Err stop → stop ≡ failed → Silent o
+    → FileMissing reads held given o end
+script_missing reads held remaining given files o end stop failed has fails ends is silent = record {
+  stop = stop;
+  end_is = ends;
+  why = inr (
+    (files, has),
+    subst (λ s. StopsAtScript held given.script s) (sym is) (not_opened held remaining given.script failed fails),
+  );
+  silent = silent;
+}
+
+pub ruleset files = (had_bytes, had_rules, had_script, is_had, were_had)

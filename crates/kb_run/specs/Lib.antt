@@ -1,0 +1,3 @@
+pub mod Directory
+pub mod Run
+pub mod System

@@ -1,0 +1,94 @@
+//! The files of extensions' directories.
+ghost use Rattle.std.specs.Prelude.{◌≡◌, IfOk, IfErr, map};
+ghost use Rattle.kb_bindings.specs.Load.{extension_bytes};
+ghost use Rattle.kb_run.specs.Directory.{HandlersRead, HasDirectories, HasDirectory, StopsInDirectory};
+ghost use Rattle.kb_run.specs.Directory.{StopsAtHandlers, StopsInDirectories, bytes_held};
+
+use kb_bindings::{ExtensionFiles, HandlerFiles};
+use kb_context::NoMemory;
+use kb_ending::{FileSource, Stop, bytes_in, handlers_in, lent};
+use std::alloc::Global;
+
+/// The bytes of the files of an extension's directory.
+#[derive(Drop)]
+pub(crate) struct DirBytes {
+    package: Vec<u8>,
+    handlers: Option<Vec<u8>>,
+}
+
+// The bytes of the handlers in a directory, where they are read and there is such a file.
+fn read_handlers<'a, F: FileSource>(
+    alloc: Global,
+    reads: HandlerFiles,
+    dir: &'a str,
+    files: &F,
+) -> Result<Option<Vec<u8>>, Stop<'a>>
+    ensures ok { IfOk result (HandlersRead reads (F.held files.now) (λ bytes. bytes.items) dir.entry) }
+    ensures err { IfErr result (StopsAtHandlers reads (F.held files.now) dir.entry) }
+{
+    match reads {
+        HandlerFiles::Ignored => Ok(None),
+        HandlerFiles::Raw => handlers_in(files, alloc, dir),
+    }
+}
+
+// The bytes of the files in a directory: the manifest, and then the handlers.
+#[tactic(auto, using(crate::proofs::DirectoryLemmas::directory))]
+fn read_directory<'a, F: FileSource>(
+    alloc: Global,
+    reads: HandlerFiles,
+    dir: &'a str,
+    files: &F,
+) -> Result<DirBytes, Stop<'a>>
+    ensures ok { IfOk result (λ read. HasDirectory reads (F.held files.now) dir.entry (bytes_held read)) }
+    ensures err { IfErr result (StopsInDirectory reads (F.held files.now) dir.entry) }
+{
+    let package = bytes_in(files, alloc, dir)?;
+    let handlers = read_handlers(alloc, reads, dir, files)?;
+    Ok(DirBytes { package, handlers })
+}
+
+/// The bytes of the files in directories, in their order, those of one before those of the next.
+///
+/// Errors: how the run ends, where one is not had.
+pub(crate) fn read_directories<'a, F: FileSource>(
+    alloc: Global,
+    reads: HandlerFiles,
+    dirs: &[&'a str],
+    files: &F,
+) -> Result<Vec<DirBytes>, Stop<'a>>
+    ensures ok { IfOk result (λ read.
+        HasDirectories reads (F.held files.now) dirs.now (map bytes_held read.items)) }
+    ensures err { IfErr result (StopsInDirectories reads (F.held files.now) dirs.now) }
+{
+    let mut directories = Vec::new(alloc);
+    for dir in dirs {
+        let read = read_directory(alloc, reads, *dir, files)?;
+        directories.push(read).map_err(NoMemory::from)?;
+    }
+    Ok(directories)
+}
+
+// The bytes of a directory's files, lent.
+fn lent_directory(read: &DirBytes) -> ExtensionFiles<'_>
+    ensures { extension_bytes result ≡ bytes_held read.now }
+{
+    ExtensionFiles {
+        package: read.package.as_slice(),
+        handlers: lent(&read.handlers),
+    }
+}
+
+/// The bytes of the files of each directory, lent.
+pub(crate) fn lent_all<'b>(
+    alloc: Global,
+    directories: &'b [DirBytes],
+) -> Result<Vec<ExtensionFiles<'b>>, NoMemory>
+    ensures { IfOk result (λ lent. map extension_bytes lent.items ≡ map bytes_held directories.now) }
+{
+    let mut lent = Vec::new(alloc);
+    for read in directories {
+        lent.push(lent_directory(read)).map_err(NoMemory::from)?;
+    }
+    Ok(lent)
+}
