@@ -14,7 +14,7 @@ use Rattle.std.proofs.lemmas.List.Sorted.{IsPermutation-refl}
 use Rattle.std.proofs.lemmas.List.Sums.{fails_before_first}
 use Rattle.kb_core.specs.contracts.native.Native.{the_type}
 use Rattle.kb_core.specs.declared.native.Native.{Native}
-use Rattle.kb_registry.specs.Live.{same_native}
+use Rattle.kb_codes.specs.Live.{same_native}
 use Rattle.kb_script.proofs.LineLemmas.{position_none}
 use Rattle.kb_script.specs.Shelf.{Stand, stand, Halts, on_shelf, without_first}
 use Rattle.kb_session.specs.Session as session

@@ -4,7 +4,7 @@ use Rattle.std.specs.Prelude.{◌≡◌, Bool, true, false, List, [], ◌∷◌,
 use Rattle.std.specs.List.{list_any}
 use Rattle.std.specs.List.Sorted.{IsPermutation}
 use Rattle.kb_core.specs.declared.native.Native.{Native}
-use Rattle.kb_registry.specs.Live.{same_native}
+use Rattle.kb_codes.specs.Live.{same_native}
 use Rattle.kb_session.specs.Session as session
 use Rattle.kb_session.specs.State.{State, Told, happens, register, dispose, Answered, ticket, gave, refused}
 use Rattle.kb_session.specs.State.{Stepped, step}

@@ -1,7 +1,7 @@
 //! What a line of a script does to a session and to the shelf beside it, the closures that the host has left.
 ghost use Rattle.std.specs.Prelude.{◌≡◌, ◌<◌, false, true, map, option_map, option_to_list, position};
 ghost use Rattle.std.specs.Prelude.{vec_len, vec_capacity, OnOk, OnErr, IsSome, MatchOption};
-ghost use Rattle.kb_registry.specs.Live.{same_native};
+ghost use Rattle.kb_codes.specs.Live.{same_native};
 ghost use Rattle.kb_script.specs.Script as script;
 ghost use Rattle.kb_script.specs.ScriptRun.{marked};
 ghost use Rattle.kb_script.specs.Shelf.{tells, takes, beside, move, Obeys, on_shelf, without_first, Halts};
