@@ -87,8 +87,8 @@ disposal_fault_of (Some native) live = if is_some (caller_of native live.code) t
 abbrev pub disposal_fault : ℕ → Live → Option RegistryFault
 disposal_fault ticket live = disposal_fault_of (holder ticket live) live
 
--- the live command of an identifier, by the native that it is the identifier of, if there is one: a native for
--- which a closure is live, or a live handler; a native's identifier is no handler's
+-- the live command of an identifier, by the native that it is the identifier of, if there is one: a native
+-- for which a closure is live, or a live handler; a native's identifier is no handler's
 abbrev pub callee_by : Option Native → List ℕ → Live → Option Callee
 callee_by (Some native) identifier live = option_map Plain (where_live (Some native) live)
 callee_by None identifier live = option_map Coded (handler_named identifier (handlers_in live.code))

@@ -340,8 +340,8 @@ impl<C: HostCommand> Registry<C> {
     }
 
     /// Makes the handlers of an extension live, which is numbered in load order. They are handed back as
-    /// refused by 70, where one has the name of a native command, of `runCommands`, or of another handler that
-    /// is live or comes with it, or where memory is refused; then the registry stays as it was.
+    /// refused by 70, where one has the name of a native command, of `runCommands`, or of another handler
+    /// that is live or comes with it, or where memory is refused; then the registry stays as it was.
     pub fn register_code(
         &mut self,
         extension: u32,

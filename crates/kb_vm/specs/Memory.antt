@@ -42,7 +42,7 @@ abbrev pub IsBegun : Answer → Type 0
 IsBegun (Done w) = Unit {0}
 IsBegun (Stuck trap command place w) = w.steps ≡ [] → ⊥
 
--- where memory may be refused on the way to an answer: before anything is done, or in the last step, and never in
--- the place of a trap
+-- where memory may be refused on the way to an answer: before anything is done, or in the last step, and
+-- never in the place of a trap
 abbrev pub MayLackAt : Core → Answer → World → Type 0
 MayLackAt at_first a v = ((v ≡ first_world at_first) × IsBegun a) ⊎ RefusedLast v
