@@ -18,7 +18,6 @@ use Rattle.kb_context.specs.Scopes.{ScopesData}
 use Rattle.kb_core.specs.declared.native.Native.{Native}
 use Rattle.kb_files.specs.Extension.{outline_in}
 use Rattle.kb_files.specs.Layout.{layout_scopes}
-use Rattle.kb_manifest.specs.Manifest.{Outline}
 use Rattle.kb_registry.specs.Fault as registry
 use Rattle.kb_registry.specs.Live.{Live, all_registered, fresh, registered, registration_fault, with_code}
 use Rattle.kb_registry.specs.Live as live
@@ -70,13 +69,21 @@ all_empty all =
 
 held_empty : (files : Files) → IfOk (held_by Ignored files) (λ held. Empty (handlers_of held.rules.extensions))
 held_empty files =
-    bind (λ _. ⊤) (λ held. Empty (handlers_of held.rules.extensions)) _ _ (any _)
+    bind {A = ScopesData} (λ _. ⊤) (λ (held : Held). Empty (handlers_of held.rules.extensions))
+    (refused_by file.Layout (layout_scopes files.layout))
+    (λ scopes. rules_held Ignored files >>= λ rules. Ok (record { scopes = scopes; rules = rules }))
+    (any (refused_by file.Layout (layout_scopes files.layout)))
     (λ scopes h. bind (λ (rules : HeldRules). Empty (handlers_of rules.extensions))
-    (λ held. Empty (handlers_of held.rules.extensions)) (rules_held Ignored files) _
-    (bind (λ _. ⊤) (λ (rules : HeldRules). Empty (handlers_of rules.extensions))
-    (lists_held files.defaults files.user) _ (any _)
+    (λ (held : Held). Empty (handlers_of held.rules.extensions)) (rules_held Ignored files)
+    (λ rules. Ok (record { scopes = scopes; rules = rules }))
+    (bind {A = HeldLists} (λ _. ⊤) (λ (rules : HeldRules). Empty (handlers_of rules.extensions))
+    (lists_held files.defaults files.user)
+    (λ lists. extensions_held Ignored files.extensions
+    >>= λ extensions. Ok (record { lists = lists; extensions = extensions }))
+    (any (lists_held files.defaults files.user))
     (λ lists i. bind (λ held. Empty (handlers_of held)) (λ (rules : HeldRules). Empty (handlers_of rules.extensions))
-    (extensions_held Ignored files.extensions) _ (all_empty files.extensions) (λ held j. j)))
+    (extensions_held Ignored files.extensions)
+    (λ extensions. Ok (record { lists = lists; extensions = extensions })) (all_empty files.extensions) (λ held j. j)))
     (λ rules j. j))
 
 seen_empty : (view : Held → Loaded) (r : Result Held LoadFault)

@@ -14,6 +14,8 @@ use Rattle.kb_bindings.specs.declared.inputs.HandlerFiles.{HandlerFiles}
 use Rattle.kb_bindings.specs.declared.load.Loaded.{Loaded}
 use Rattle.kb_context.specs.Reading.{◌>>=◌, seen}
 use Rattle.kb_context.specs.Refusal.{refused_for}
+use Rattle.kb_context.specs.Scopes.{ScopesData}
+use Rattle.kb_files.specs.Layout.{layout_scopes}
 use Rattle.kb_session.proofs.Results.{bind, any}
 
 abbrev Few : List HeldExtension → Type 0
@@ -53,9 +55,13 @@ rules_few reads files =
 
 all_few : (reads : HandlerFiles) (files : Files) → IfOk (held_by reads files) (λ held. Few held.rules.extensions)
 all_few reads files =
-    bind (λ _. ⊤) (λ (held : Held). Few held.rules.extensions) _ _ (any _)
+    bind {A = ScopesData} (λ _. ⊤) (λ (held : Held). Few held.rules.extensions)
+    (refused_by file.Layout (layout_scopes files.layout))
+    (λ scopes. rules_held reads files >>= λ rules. Ok (record { scopes = scopes; rules = rules }))
+    (any (refused_by file.Layout (layout_scopes files.layout)))
     (λ scopes h. bind (λ (rules : HeldRules). Few rules.extensions) (λ (held : Held). Few held.rules.extensions)
-    (rules_held reads files) _ (rules_few reads files) (λ rules j. j))
+    (rules_held reads files) (λ rules. Ok (record { scopes = scopes; rules = rules })) (rules_few reads files)
+    (λ rules j. j))
 
 seen_few : (view : Held → Loaded) (r : Result Held LoadFault)
     → ((held : Held) → (view held).handlers ≡ handlers_of held.rules.extensions)

@@ -75,17 +75,17 @@ halts_at (register native) old new h = halt_halts old new h
 halts_at (dispose number) old new h = halt_halts old new h
 
 -- the fault of an event is the fault of the run
-pub runs_fail : (old now new : Traced State) (events rest : List Told) (event : Told) (f : SessionFault)
-    → RunsUpTo next old events now (event ∷ rest)
-    → is_left events old.state ≡ is_left (event ∷ rest) now.state
+pub runs_fail : (old now new : Traced State) (events left rest : List Told) (event : Told) (f : SessionFault)
+    → RunsUpTo next old events now left → left ≡ event ∷ rest
+    → is_left events old.state ≡ is_left left now.state
     → old.state.stopped ≡ false → FailsAt f event now new → FailsAmong f events old new
-runs_fail old now new events rest event (fault.Refused refusal) runs left running fails = fails
-runs_fail old now new events rest event fault.NoMemory runs left running fails =
+runs_fail old now new events left rest event (fault.Refused refusal) runs is same running fails = fails
+runs_fail old now new events left rest event fault.NoMemory runs is same running fails =
     let h = halts_at event now new fails.1 in
-    (running, run_stop next Halts old now new events (event ∷ rest) runs h.0 h.1)
-runs_fail old now new events rest event fault.Stopped runs left running fails = (
-  ap (λ b. b || is_left events old.state) running ∙ left
+    (running, run_stop next Halts old now new events left runs h.0 h.1)
+runs_fail old now new events left rest event fault.Stopped runs is same running fails = (
+  ap (λ b. b || is_left events old.state) running ∙ same ∙ ap (λ told. is_left told now.state) is
       ∙ ap (λ b. b || is_left rest (next event now.state).state) fails.0,
   fails.1
-      ∙ run_end next old now events (event ∷ rest) runs (stopped-fold (event ∷ rest) now.state fails.0),
+      ∙ run_end next old now events left runs (stopped-fold left now.state fails.0),
 )

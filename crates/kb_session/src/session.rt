@@ -139,7 +139,7 @@ impl<C: HostCommand> Session<C> {
     }
 
     /// A session of these files, with or without those of handlers.
-    #[tactic(auto, using(crate::proofs::LoadLemmas::loading, crate::proofs::FewHandlers::few_handlers))]
+    #[tactic(auto, using(crate::proofs::LoadLemmas::files_fail))]
     fn loaded(
         alloc: Global,
         inputs: Inputs<'_>,
