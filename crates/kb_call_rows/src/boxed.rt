@@ -5,11 +5,12 @@ ghost use Rattle.kb_core.specs.declared.native.Native.TheVariants.{TypeText};
 
 use kb_context::{Failure, Layout, LayoutScope, NoMemory, Scopes, Seq, Text, TextMap};
 use kb_core::{Args, Core, Native, Ran, plain};
-use kb_registry::{HeldCore, HostCommand, NativeCommand, Registry, Run, Ticket};
+use kb_registry::{HostCommand, NativeCommand, Registry, Run, Ticket};
+use kb_start::HeldCore;
 use std::alloc::{AllocError, Global};
 
-// A core without text, over the one scope `window`.
-fn window(alloc: Global) -> Result<HeldCore, NoMemory> {
+/// A core without text, over the one scope `window`.
+pub(crate) fn window(alloc: Global) -> Result<HeldCore, NoMemory> {
     let mut scopes = Seq::new(alloc);
     scopes.push(LayoutScope {
         name: Text::from_str(alloc, "window")?,
@@ -98,8 +99,8 @@ fn told<C: HostCommand>(alloc: Global, mut shelf: Vec<C>, steps: &str) -> Result
     Ok(said)
 }
 
-// What `type` does, at its whole budget.
-fn type_dearly(core: Core, args: Args) -> Ran
+/// What `type` does, at its whole budget.
+pub(crate) fn type_dearly(core: Core, args: Args) -> Ran
     requires { Fits TypeText args }
     ensures { Does TypeText core args result }
 {

@@ -1,5 +1,7 @@
 //! Rows that are one call each.
-use crate::{answers, boxed, clauses, manifests, natives, registries, rules, scopes};
+use crate::{
+    answers, boxed, clauses, handlers, manifests, natives, registries, rules, scopes, spending,
+};
 use kb_context::{NoMemory, Scopes};
 use kb_row_text::{Answers, Teller, tell_rows};
 use std::alloc::Global;
@@ -40,6 +42,20 @@ fn answer_in_scopes(
     }
 }
 
+// Of a kind with a number behind it, or of those over scopes.
+fn answer_of_count(
+    alloc: Global,
+    kind: &str,
+    scopes: &mut Option<Scopes>,
+    text: &str,
+) -> Result<String, NoMemory> {
+    match kind.split_once(' ') {
+        Some(("registry", limit)) => registries::calls(alloc, limit, text),
+        Some(("callees", calls)) => handlers::callees(alloc, calls, text),
+        _ => answer_in_scopes(alloc, kind, scopes, text),
+    }
+}
+
 fn answer_of_text(
     alloc: Global,
     kind: &str,
@@ -59,10 +75,8 @@ fn answer_of_text(
         "tree" => clauses::same(alloc, text),
         "unread" => clauses::unread(alloc, text),
         "boxed" => boxed::steps(alloc, text),
-        _ => match kind.strip_prefix("registry ") {
-            Some(limit) => registries::calls(alloc, limit, text),
-            None => answer_in_scopes(alloc, kind, scopes, text),
-        },
+        "code" => handlers::code(alloc, text),
+        _ => answer_of_count(alloc, kind, scopes, text),
     }
 }
 
@@ -71,6 +85,8 @@ impl Answers for Calls {
         match kind {
             "json" => answers::json(alloc, text),
             "manifest" => manifests::manifest(alloc, text),
+            "handlers" => handlers::handlers(alloc, text),
+            "spent" => spending::spent(alloc, text),
             "layout" => scopes::layout(alloc, text, &mut self.scopes),
             _ => match str::from_utf8(text) {
                 Ok(text) => answer_of_text(alloc, kind, &mut self.scopes, text),

@@ -5,11 +5,13 @@ mod answers;
 mod boxed;
 mod calls;
 mod clauses;
+mod handlers;
 mod manifests;
 mod natives;
 mod registries;
 mod rules;
 mod scopes;
+mod spending;
 
 use calls::Calls;
 use kb_row_text::tell_files;

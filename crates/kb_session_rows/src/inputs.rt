@@ -104,17 +104,17 @@ pub(crate) fn files_in(alloc: Global, lines: &str) -> Result<Files, NoMemory> {
     })
 }
 
-// The text of the handlers of an extension, by its number, if it has a line.
+// The file of handlers of an extension, by its number, if it has a line.
 fn handlers_in(alloc: Global, lines: &str, number: usize) -> Result<Option<Vec<u8>>, NoMemory> {
     let mut text = String::new(alloc);
     let mut is_there = false;
-    let mut extensions = 0;
+    let mut extensions = 0usize;
     for line in lines.lines() {
         if let Some(manifests) = text_of(line, "extension") {
-            extensions += manifests.split(" ;; ").count();
+            extensions = extensions.saturating_add(manifests.split(" ;; ").count());
         }
         if let Some(more) = text_of(line, "handlers")
-            && extensions == number + 1
+            && extensions == number.saturating_add(1)
         {
             text.push_str(more)?;
             text.push('\n')?;
@@ -163,7 +163,7 @@ pub(crate) fn extensions_of<'a>(
     for (number, package) in manifests.iter().enumerate() {
         let files = ExtensionFiles {
             package,
-            handlers: lent(&handlers[number]),
+            handlers: handlers.get(number).and_then(lent),
         };
         extensions.push(files).map_err(NoMemory::from)?;
     }
