@@ -92,8 +92,10 @@ fn run_lines<W: Write, C: HostCommand>(
     loop {
         let (line, after) = split_line(rest);
         run_line(alloc, number, line, writer, session, shelf)?;
+        if session.is_stopped() {
+            return Ok(());
+        }
         match after {
-            Some(_) if session.is_stopped() => return Ok(()),
             Some(after) => rest = after,
             None => return Ok(()),
         }

@@ -2,7 +2,7 @@
 use Rattle.std.proofs.Common.{◌≡◌, ◌∙◌, refl, sym, ap, subst, Bool, true, false, List, [], ◌∷◌, ℕ}
 use Rattle.std.specs.Prelude.{Option, Some, None, option_map, Result, Ok, Err, if◌then◌else◌, bytes_eq}
 use Rattle.serde_json.specs.Data.{Data}
-use Rattle.kb_bindings.specs.Sources.{pressed, still_pressed}
+use Rattle.kb_bindings.specs.Sources.{pressed}
 use Rattle.kb_code.specs.Handler.{HandlerData}
 use Rattle.kb_codes.specs.Callee.{Table, Plain, Coded}
 use Rattle.kb_codes.specs.Live.{caller_of, handler_named, handlers_in}
@@ -13,7 +13,6 @@ use Rattle.kb_core.specs.declared.arg.Arg.{Arg}
 use Rattle.kb_core.specs.declared.native.Native.{Native}
 use Rattle.kb_core.specs.declared.run.Core.{Core}
 use Rattle.kb_files.specs.RuleFile.{rules_in}
-use Rattle.kb_keys.specs.declared.keystroke.Keystroke.{Keystroke}
 use Rattle.kb_registry.specs.Live.{Live, callee_by, holder, registration_fault, table_of, where_live}
 use Rattle.kb_registry.specs.declared.fault.RegistryFault.{RegistryFault}
 use Rattle.kb_resolve.specs.Pressed as press
@@ -21,7 +20,7 @@ use Rattle.kb_resolve.specs.Pressed.{Step}
 use Rattle.kb_rules.specs.RuleList.{Listed}
 use Rattle.kb_rules.specs.declared.origin.Origin.TheVariants.{User}
 use Rattle.kb_session.specs.Press.{press_started, rule_started}
-use Rattle.kb_session.specs.State.{State, Told, Stepped, happens, reload, register, dispose, stops, begun}
+use Rattle.kb_session.specs.State.{State, Told, Stepped, happens, reload, register, dispose, stops}
 use Rattle.kb_session.specs.State.{taken_unless, refusal_of, reloaded, registering, disposing, disposing_unless}
 use Rattle.kb_session.specs.State.{step, step_on, step_unless, HasNoHandler}
 use Rattle.kb_start.specs.RunCommands.{Planned, plan_of, run_commands}

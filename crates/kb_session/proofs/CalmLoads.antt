@@ -11,7 +11,7 @@ use Rattle.kb_bindings.specs.declared.fault.LoadFile.TheVariants as file
 use Rattle.kb_bindings.specs.declared.inputs.HandlerFiles.TheVariants.{Ignored}
 use Rattle.kb_bindings.specs.declared.load.Loaded.{Loaded}
 use Rattle.kb_code.specs.Handler.{HandlerData}
-use Rattle.kb_codes.specs.Live.{Group, handlers_in, with_group, with_handlers}
+use Rattle.kb_codes.specs.Live.{Group, handlers_in, with_handlers}
 use Rattle.kb_context.specs.Reading.{◌>>=◌, seen}
 use Rattle.kb_context.specs.Refusal.{numbered, refused_for}
 use Rattle.kb_context.specs.Scopes.{ScopesData}

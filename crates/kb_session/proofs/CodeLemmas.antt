@@ -1,7 +1,5 @@
 -- The handlers of extensions, one extension after the other.
-use Rattle.std.proofs.Common.{◌≡◌, ◌∙◌, sym, ap, List, ◌∷◌, ℕ, ◌+◌, Some, None}
-use Rattle.std.specs.Prelude.{Result, Ok, Err}
-use Rattle.kb_bindings.specs.declared.fault.LoadFault.{LoadFault}
+use Rattle.std.proofs.Common.{◌≡◌, ◌∙◌, sym, ap, List, ◌∷◌, ℕ, ◌+◌, None}
 use Rattle.kb_bindings.specs.declared.fault.LoadFile.TheVariants as file
 use Rattle.kb_code.specs.Handler.{HandlerData}
 use Rattle.kb_context.specs.Failure.{Fails, IsRefusalOrMemory}

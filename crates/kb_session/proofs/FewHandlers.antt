@@ -1,5 +1,5 @@
 -- The extensions of a load are at most 100, and so are their lists of handlers.
-use Rattle.std.proofs.Common.{◌≡◌, ◌∙◌, refl, sym, ap, subst, Bool, true, false, List, [], ◌∷◌, ℕ, ◌+◌, ◌≤◌, suc}
+use Rattle.std.proofs.Common.{◌≡◌, refl, sym, ap, subst, Bool, true, false, List, [], ◌∷◌, ℕ, ◌+◌, ◌≤◌, suc}
 use Rattle.std.proofs.Common.{length, map, arith}
 use Rattle.std.specs.Prelude.{⊤, Option, Some, None, Result, Ok, Err, IfOk, if◌then◌else◌, nat_lt}
 use Rattle.std.proofs.lemmas.Bool.{ltb-false}
