@@ -58,7 +58,7 @@ fn run_words<R: Files + Print + Eprint + Input, H: HostCommand>(
     words: &[String],
     closures: HostClosures<H>,
 ) -> Result<u8, OptionsFault>
-    ensures { IfOk result IsStatus }
+    ensures { IfOk result (IsStatus reads) }
 {
     let mut texts = Vec::new(alloc);
     for word in words {
@@ -75,7 +75,7 @@ fn run_line<R: Alloc<A = Global> + Env + Files + Print + Eprint + Input, H: Host
     reads: HandlerFiles,
     closures: HostClosures<H>,
 ) -> Result<u8, OptionsFault>
-    ensures { IfOk result IsStatus }
+    ensures { IfOk result (IsStatus reads) }
 {
     let words = line_words(rt, alloc, program)?;
     run_words(rt, alloc, program, reads, words.as_slice(), closures)
@@ -90,7 +90,7 @@ pub fn run_program<R: Alloc<A = Global> + Env + Files + Print + Eprint + Input, 
     reads: HandlerFiles,
     closures: HostClosures<H>,
 ) -> ExitCode
-    ensures { IsStatus (exit_status result) }
+    ensures { IsStatus reads (exit_status result) }
 {
     match run_line(rt, alloc, program, reads, closures) {
         Ok(status) => ExitCode::from(status),

@@ -28,7 +28,9 @@ fn report<C: Console + Drop>(end: &Result<(), Stop<'_>>, voice: &mut Voice<C>) -
     ending(end)
 }
 
-/// Runs what the options ask for, over the system's files and streams, and gives the exit status.
+/// Runs what the options ask for, over the system's files and streams, and gives the exit status. No trap ends
+/// a run that reads no files of handlers.
+#[tactic(auto, using(crate::proofs::Statuses::status))]
 pub fn run_on_system<R: Files + Print + Eprint + Input, H: HostCommand>(
     rt: &R,
     alloc: Global,
@@ -36,7 +38,7 @@ pub fn run_on_system<R: Files + Print + Eprint + Input, H: HostCommand>(
     given: Options<'_>,
     closures: HostClosures<H>,
 ) -> u8
-    ensures { IsStatus result }
+    ensures { IsStatus reads result }
 {
     let mut voice = Voice::new(SystemConsole { rt });
     let Ok(mut trace) = BufWriter::new(alloc, io::writer(rt)) else {
