@@ -43,7 +43,8 @@ from gate.twins import Proofs, Twin, goals_left, texts_below, with_twins
 FLAGS = ["--jobs", "1"]
 # Edits that one check tries: more take no less time, and trouble with one costs all.
 MOST = 30
-PROVED = re.compile(r"^rt: (\w+) proved$")
+# What rt ci says of a crate that it has proved, or that an earlier run on this machine has.
+PROVED = re.compile(r"^rt: (\w+) (?:proved$|is kept: )")
 printing = threading.Lock()
 
 
@@ -323,13 +324,19 @@ class Crate:
             self.judged(Tried(edit, False, "NOT REFUSED in a batch, and rt can't apply it alone"))
             return
         self.alone += 1
-        is_refused, text = rt.must_fail(self.crate, edit.file, FLAGS, self.kept)
-        if not is_refused:
-            is_refused, text = rt.must_fail(self.crate, edit.file, FLAGS)
+        verdict, text = rt.must_fail(self.crate, edit.file, FLAGS, self.kept)
+        if not is_refusal(verdict):
+            verdict, text = rt.must_fail(self.crate, edit.file, FLAGS)
         text = text.partition(f"/{edit.name}: ")[2]
         says_little = "says little" in text
         text = text.replace("refused, as it must be", "refused alone")
-        self.judged(Tried(edit, is_refused, f"{text} ({time.time() - begun:.0f} s)", says_little=says_little))
+        refused = is_refusal(verdict)
+        self.judged(Tried(edit, refused, f"{text} ({time.time() - begun:.0f} s)", says_little=says_little))
+
+
+def is_refusal(verdict):
+    """Whether rt's verdict on an edit, one of its words, says that it was refused, as rt ci counts it."""
+    return verdict in (rt.REFUSED, rt.AT_LIMIT)
 
 
 def start_trouble_in(ran, said):

@@ -124,8 +124,9 @@ fn type_nothing(core: Core, args: Args) -> Ran
     }
 }
 
-/// What steps answer over a shelf with a closure for `type` that costs its whole budget and one that is refused
-/// memory, where three registrations may be made. The boxes are made here, so that no function gives one away.
+/// What steps answer over a shelf with a closure for `type` that costs its whole budget and one that is
+/// refused memory, where three registrations may be made. The boxes are made here, so that no function gives
+/// one away.
 pub(crate) fn steps(alloc: Global, steps: &str) -> Result<String, NoMemory> {
     let dear: Run = Box::new(
         alloc,

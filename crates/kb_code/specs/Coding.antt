@@ -1,5 +1,6 @@
 -- Code as bytes: for each instruction its opcode, and its operand in two bytes, the high one first.
-use Rattle.std.specs.Prelude.{ℕ, suc, ◌%◌, ◌==◌, List, [], ◌∷◌, length, find, Option, Some, None, Result, Ok, Err, if◌then◌else◌}
+use Rattle.std.specs.Prelude.{ℕ, suc, ◌%◌, ◌==◌, List, [], ◌∷◌, length, find, Option, Some, None, Result}
+use Rattle.std.specs.Prelude.{Ok, Err, if◌then◌else◌}
 use Rattle.std.specs.Int.{w16, to_be_bytes, from_be_bytes}
 use Rattle.kb_context.specs.declared.failure.Failure.{Failure}
 use Rattle.kb_context.specs.declared.failure.Failure.TheVariants.{NoMemory, Fault}

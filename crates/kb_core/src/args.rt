@@ -13,7 +13,8 @@ use std::marker::Model;
 /// times before a command has it.
 const INLINE: usize = 2;
 
-/// At most eight arguments, as many as a command may have parameters (our decision). Contracts see their list.
+/// At most eight arguments, as many as a command may have parameters (our decision). Contracts see their
+/// list.
 #[derive(Drop)]
 pub struct Args {
     items: SmallVec<Arg, INLINE>,
@@ -41,8 +42,8 @@ impl Args {
         }
     }
 
-    /// Adds an argument at the end, which takes memory from the third on. Without memory the arguments stay as
-    /// they were.
+    /// Adds an argument at the end, which takes memory from the third on. Without memory the arguments stay
+    /// as they were.
     pub fn push(&mut self, arg: Arg) -> Result<(), NoMemory>
         requires { length self.old < parameter_limit }
         ensures ok { OnOk result (self.new ≡ self.old ++ arg ∷ []) }

@@ -1,5 +1,6 @@
 -- What is read of a file. What is held at a path is known of files over memory, and not of a system's.
-use Rattle.std.specs.Prelude.{◌≡◌, ◌≤◌, ◌<◌, ⊤, ℕ, Bool, true, false, List, Option, Some, None, Result, Ok, Err}
+use Rattle.std.specs.Prelude.{◌≡◌, ◌≤◌, ◌<◌, ⊤, ℕ, Bool, true, false, List, Option, Some, None}
+use Rattle.std.specs.Prelude.{Result, Ok, Err}
 use Rattle.std.specs.Prelude.{MatchResult}
 use Rattle.std.specs.Prelude.{length}
 use Rattle.std.specs.Borrow.{Bor}

@@ -1,5 +1,5 @@
-//! A small host of the engine, which `docs/EMBEDDING.md` goes through: it gives the engine closures of its own,
-//! which count how often they ran, presses keys, takes a closure back and gives it again.
+//! A small host of the engine, which `docs/EMBEDDING.md` goes through: it gives the engine closures of its
+//! own, which count how often they ran, presses keys, takes a closure back and gives it again.
 #![tactic(auto)]
 
 ghost use Rattle.kb_core.specs.Native.{Fits};

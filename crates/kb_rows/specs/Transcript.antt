@@ -26,7 +26,8 @@ pub record IsTranscript (files : Files) (natives shelf : List Native) (text out 
   pub tells : map bare said ≡ said_of text
   pub out_is : out ≡ text_of move said (stand session.state shelf)
 
--- a script over memory, in a session that was loaded for it: no such session is stopped before, nor by a handler
+-- a script over memory, in a session that was loaded for it: no such session is stopped before, nor by a
+-- handler
 abbrev pub FailsToRun : ScriptFault → List ℕ → Type 0
 FailsToRun script.Stopped text = ⊥
 FailsToRun script.TooLong text = 16777216 < length text

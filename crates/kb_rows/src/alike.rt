@@ -5,8 +5,8 @@ use kb_registry::HostCommand;
 use kb_session::{Session, SessionFault};
 use kb_trace::Event;
 
-/// Has two sessions that are alike handle the same events: they stay alike, line by line, whatever closures stand
-/// behind their natives.
+/// Has two sessions that are alike handle the same events: they stay alike, line by line, whatever closures
+/// stand behind their natives.
 ///
 /// Errors: each session's own, as `Session::run` says.
 pub fn run_alike<C: HostCommand, D: HostCommand>(

@@ -24,12 +24,12 @@ pub enum TranscriptFault {
     Script(ScriptFault),
 }
 
-/// What a script writes in a session of its own, which is loaded with these files and closures, beside a shelf
-/// of more closures: the plain model's text, as the contracts of `load` and `run_script` give it over memory. It
-/// follows from the natives that the closures stand for, whatever these are.
+/// What a script writes in a session of its own, which is loaded with these files and closures, beside a
+/// shelf of more closures: the plain model's text, as the contracts of `load` and `run_script` give it over
+/// memory. It follows from the natives that the closures stand for, whatever these are.
 ///
-/// Errors: those of `load` and `run_script`, but for `Stopped` and `Trapped`, which a session that was just loaded
-/// without handlers never gives, and refused memory.
+/// Errors: those of `load` and `run_script`, but for `Stopped` and `Trapped`, which a session that was just
+/// loaded without handlers never gives, and refused memory.
 pub fn transcript<C: HostCommand>(
     alloc: Global,
     inputs: Inputs<'_>,

@@ -13,19 +13,20 @@ abbrev pub HasPackage : (List ℕ → Held) → Bor (List ℕ) → List ℕ → 
 HasPackage held dir bytes = HasManifest {B = List ℕ} held (λ got. got) dir (Ok bytes)
 
 -- the bytes of the handlers in a directory, where files of handlers are read: of a file that needn't be there
-abbrev pub HandlersRead : {B : Type 0} → HandlerFiles → (List ℕ → Held) → (B → List ℕ) → Bor (List ℕ) → Option B
-    → Type 0
+abbrev pub HandlersRead : {B : Type 0} → HandlerFiles → (List ℕ → Held) → (B → List ℕ) → Bor (List ℕ)
+    → Option B → Type 0
 HandlersRead Ignored held view dir got = got ≡ None
 HandlersRead Raw held view dir got = HasHandlers held view dir (Ok got)
 
 -- the bytes of an extension's files, of its directory
-pub record HasDirectory (reads : HandlerFiles) (held : List ℕ → Held) (dir : Bor (List ℕ)) (bytes : ExtensionBytes)
-    : Type 0 where
+pub record HasDirectory (reads : HandlerFiles) (held : List ℕ → Held) (dir : Bor (List ℕ))
+    (bytes : ExtensionBytes) : Type 0 where
   pub manifest : HasPackage held dir bytes.manifest
   pub handlers : HandlersRead {B = List ℕ} reads held (λ got. got) dir bytes.handlers
 
 -- those of extensions, of their directories, in their order
-abbrev pub HasDirectories : HandlerFiles → (List ℕ → Held) → List (Bor (List ℕ)) → List ExtensionBytes → Type 0
+abbrev pub HasDirectories : HandlerFiles → (List ℕ → Held) → List (Bor (List ℕ)) → List ExtensionBytes
+    → Type 0
 HasDirectories reads held [] [] = ⊤
 HasDirectories reads held [] (bytes ∷ rest) = ⊥
 HasDirectories reads held (dir ∷ dirs) [] = ⊥
@@ -47,7 +48,8 @@ StopsInDirectory reads held dir stop = HasManifest {B = List ℕ} held (λ got. 
 abbrev pub StopsInDirectories : HandlerFiles → (List ℕ → Held) → List (Bor (List ℕ)) → Stop → Type 0
 StopsInDirectories reads held [] stop = ⊥
 StopsInDirectories reads held (dir ∷ dirs) stop = StopsInDirectory reads held dir stop
-    ⊎ (((bytes : ExtensionBytes) × HasDirectory reads held dir bytes) × StopsInDirectories reads held dirs stop)
+    ⊎ (((bytes : ExtensionBytes) × HasDirectory reads held dir bytes)
+    × StopsInDirectories reads held dirs stop)
 
 -- ---- for private functions
 

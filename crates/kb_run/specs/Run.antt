@@ -107,7 +107,8 @@ pub record NotLoaded (reads : HandlerFiles) (files : Files) (closures : Closures
   pub silent : Silent o
 
 -- what a run does with what its files hold
-abbrev pub Runs : HandlerFiles → Files → Closures → Option (List ℕ) → Streams → Result (Unit {0}) Stop → Type 0
+abbrev pub Runs : HandlerFiles → Files → Closures → Option (List ℕ) → Streams → Result (Unit {0}) Stop
+    → Type 0
 Runs reads files closures script o end =
     NotLoaded reads files closures o end ⊎ Played reads files closures script o end
 
@@ -134,7 +135,8 @@ HasScript held (Some path) input script =
     Opens {F = Option (List ℕ)} (λ known. known) (held path.now) (Ok script)
 
 -- what the files of a load hold
-pub record HasFiles (reads : HandlerFiles) (held : List ℕ → Held) (given : Options) (files : Files) : Type 0 where
+pub record HasFiles (reads : HandlerFiles) (held : List ℕ → Held) (given : Options) (files : Files)
+    : Type 0 where
   pub layout : HasBytes held given.layout files.layout
   pub defaults : HasRules held given.defaults files.defaults
   pub user : HasRules held given.user files.user

@@ -3,7 +3,8 @@
 ghost use Rattle.std.specs.Prelude.{◌≡◌, [], IfOk, IfErr, map, option_map, unwrap_or};
 ghost use Rattle.std.specs.Io.Buffered.{writer_contents, writer_inner};
 ghost use Rattle.kb_ending.specs.Voice.{Says, heard_by};
-ghost use Rattle.kb_run.specs.Run.{CarriesOut, Runs, Plays, PlaysAny, closures_of, script_bytes, warning_text};
+ghost use Rattle.kb_run.specs.Run.{CarriesOut, Runs, Plays, PlaysAny};
+ghost use Rattle.kb_run.specs.Run.{closures_of, script_bytes, warning_text};
 ghost use Rattle.kb_run.specs.Run.{HasFiles, StopsReadingFiles, files_in};
 ghost use Rattle.kb_bindings.specs.Load.{files_of};
 ghost use Rattle.kb_script.specs.Shelf.{beside};

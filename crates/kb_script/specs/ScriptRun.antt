@@ -34,8 +34,8 @@ pub record Ran (had left : Option (List ℕ)) (old new : Traced Stand) (before a
   pub ran : RunsAndWrites move said old new before after
   pub runs_on : new.state.state.stopped ≡ false
 
--- a handler couldn't go on in one of the lines, which stopped the session, so that nothing behind it was done; the
--- writer got the lines of all that was
+-- a handler couldn't go on in one of the lines, which stopped the session, so that nothing behind it was
+-- done; the writer got the lines of all that was
 pub record WasTrapped (had left : Option (List ℕ)) (old new : Traced Stand) (before after : Option (List ℕ))
     : Type 0 where
   pub script : List ℕ

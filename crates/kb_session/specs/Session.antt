@@ -1,5 +1,6 @@
 -- What the calls of a session do to it.
-use Rattle.std.specs.Prelude.{◌≡◌, ◌||◌, ℕ, ◌+◌, Option, Some, None, Bool, true, false, List, [], ◌∷◌, Result, Ok, Err}
+use Rattle.std.specs.Prelude.{◌≡◌, ◌||◌, ℕ, ◌+◌, Option, Some, None, Bool, true, false, List, [], ◌∷◌}
+use Rattle.std.specs.Prelude.{Result, Ok, Err}
 use Rattle.kb_context.specs.Failure.{Fails}
 use Rattle.kb_context.specs.Reading.{◌>>=◌, seen}
 use Rattle.kb_context.specs.Refusal.{numbered, refused_for}
@@ -41,7 +42,8 @@ abbrev pub natives_held : List Native → Result Live LoadFault
 natives_held natives =
     refused_by file.Natives (numbered registry.number_of (all_registered natives (fresh 1000000)))
 
--- behind them the handlers of extensions, which are numbered from a number, unless one has a name that is taken
+-- behind them the handlers of extensions, which are numbered from a number, unless one has a name that is
+-- taken
 abbrev pub unless_refused : Option RegistryFault → ℕ → Result Live LoadFault → Result Live LoadFault
 unless_refused None number rest = rest
 unless_refused (Some fault) number rest =

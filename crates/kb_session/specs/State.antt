@@ -1,6 +1,7 @@
 -- The plain model of a session: its state, and what each thing that it is told does to it, with the lines and
 -- the answer.
-use Rattle.std.specs.Prelude.{◌≡◌, ℕ, ◌+◌, Bool, true, false, List, [], ◌∷◌, ◌++◌, Option, Some, None, option_map}
+use Rattle.std.specs.Prelude.{◌≡◌, ℕ, ◌+◌, Bool, true, false, List, [], ◌∷◌, ◌++◌, Option}
+use Rattle.std.specs.Prelude.{Some, None, option_map}
 use Rattle.std.specs.Prelude.{Result, Ok, Err}
 use Rattle.kb_context.specs.Refusal.{refused_for}
 use Rattle.kb_context.specs.ScopeFault.{number_of}
@@ -169,7 +170,8 @@ abbrev pub disposing_unless : Option HandlerData → Native → ℕ → State �
 disposing_unless None native number s =
     stepped (with_live (disposed number s.live) s) (line.disposed_line (name_of native) number ∷ [])
     (gave native)
-disposing_unless (Some caller) native number s = refuse (record { number = 73; detail = Some caller.command }) s
+disposing_unless (Some caller) native number s =
+    refuse (record { number = 73; detail = Some caller.command }) s
 
 -- the same, if the ticket has one
 abbrev pub disposing : Option Native → ℕ → State → Stepped

@@ -43,8 +43,9 @@ mod loading;
 /// with its text and scopes, what binds keys, which natives have a closure that is live, the
 /// keystrokes of the chord that is open, whether it is stopped, and which patterns weren't read in the
 /// load and in each reload), and the trace that led to it. Once
-/// memory was refused, or a handler couldn't go on, it is stopped for good: each later call answers `Stopped`,
-/// and `trace` gives the lines up to the one call that was refused memory, or up to the handler's trap.
+/// memory was refused, or a handler couldn't go on, it is stopped for good: each later call answers
+/// `Stopped`, and `trace` gives the lines up to the one call that was refused memory, or up to the handler's
+/// trap.
 #[derive(Drop)]
 pub struct Session<C: HostCommand> {
     core: HeldCore,
@@ -269,9 +270,9 @@ impl<C: HostCommand> Session<C> {
 
     /// Handles the events in order.
     ///
-    /// Errors: `Stopped` where the session was stopped before, or a handler that couldn't go on stopped it and
-    /// an event is left; `NoMemory` where memory was refused in an event: no later one is handled, and the
-    /// session is stopped.
+    /// Errors: `Stopped` where the session was stopped before, or a handler that couldn't go on stopped it
+    /// and an event is left; `NoMemory` where memory was refused in an event: no later one is handled, and
+    /// the session is stopped.
     #[tactic(auto, using(crate::proofs::Runs::progress))]
     pub fn run(&mut self, events: Vec<Event>) -> Result<(), SessionFault>
         ensures running { OnOk result (is_late (map happens events.items) self.old.state ≡ false) }

@@ -1,8 +1,8 @@
 //! The files of a session, from the lines that state them: `layout TEXT`, `defaults TEXT`, `user TEXT`, each
-//! extension's manifest as `extension TEXT`, below it the extension's file of handlers as `handlers TEXT`, and
-//! `platform NAME` (`linux` where there is none). More than one line of a file are parted by line feeds, and
-//! manifests, which may share a line, by ` ;; `. The host's closures are those of `natives NAME ..` and `shelf
-//! NAME ..`, each one for every native where there is no line.
+//! extension's manifest as `extension TEXT`, below it the extension's file of handlers as `handlers TEXT`,
+//! and `platform NAME` (`linux` where there is none). More than one line of a file are parted by line feeds,
+//! and manifests, which may share a line, by ` ;; `. The host's closures are those of `natives NAME ..` and
+//! `shelf NAME ..`, each one for every native where there is no line.
 use crate::host::{Command, all_commands, commands_named};
 use kb_bindings::ExtensionFiles;
 use kb_context::NoMemory;

@@ -290,9 +290,10 @@ fn stop(session: &mut Session<Command>, told: &mut String) -> Result<(), NoMemor
 // `warnings` are those of the files as they stand, `unread` are the patterns that weren't read, and `trace`
 // is all that was written so far. `read N SCRIPT` runs a script whose reader fails behind so many bytes,
 // `write N SCRIPT` one whose writer does, and `fill N SCRIPT` one whose writer then takes no more. `handle
-// KEY` and `run KEY ..` are calls with presses, `register NATIVE` and `dispose N` are a host's calls, `lacking
-// NATIVE` registers a closure that is refused memory, and `turns N COUNT` takes the closure of a ticket back and
-// registers it anew, so many times. `stop` stops the session, and says whether it was stopped, and is.
+// KEY` and `run KEY ..` are calls with presses, `register NATIVE` and `dispose N` are a host's calls,
+// `lacking NATIVE` registers a closure that is refused memory, and `turns N COUNT` takes the closure of a
+// ticket back and registers it anew, so many times. `stop` stops the session, and says whether it was
+// stopped, and is.
 fn ask(
     alloc: Global,
     session: &mut Session<Command>,

@@ -1,5 +1,5 @@
-//! The start of a command: a native one, a handler, or the list of `runCommands`, on a core that is held, with
-//! the lines that it writes.
+//! The start of a command: a native one, a handler, or the list of `runCommands`, on a core that is held,
+//! with the lines that it writes.
 #![tactic(auto)]
 
 pub mod held_core;

@@ -14,7 +14,7 @@ use Rattle.kb_vm.specs.Outcome.{BeginsWith, world_of}
 use Rattle.kb_vm.specs.State.{fetched_at}
 use Rattle.kb_vm.proofs.Bound.{run_step}
 use Rattle.kb_vm.proofs.Frames.{follow_keeps, run_keeps}
-use Rattle.kb_vm.proofs.Turns.{trap_in}
+use Rattle.kb_vm.proofs.Runs.{trap_in}
 
 grows : (xs : List Step) (s : Step) (zs : List Step) → (xs ++ s ∷ []) ++ zs ≡ [] → ⊥
 grows [] s zs e = cc

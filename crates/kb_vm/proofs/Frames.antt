@@ -17,7 +17,7 @@ use Rattle.kb_vm.specs.CallLine.{call_line}
 use Rattle.kb_vm.specs.Meaning.{World, with_step, with_line, native_called, Answer, Done, Stuck, and_then, fetched}
 use Rattle.kb_vm.specs.Meaning.{Runner, run_callee, follow, go, run}
 use Rattle.kb_vm.specs.Outcome.{world_of, BeginsWith, Precedes}
-use Rattle.kb_vm.specs.State.{resume, finish, rest, rest_of, after_native, after_coded, after_instr, stepped}
+use Rattle.kb_vm.specs.State.{resume, finish, rest, rest_of, after_native, after_coded}
 
 pub finish_more : (table : Table) (fs : List Frame) (f : Frame) (a : Answer)
     → finish table (fs ++ f ∷ []) a ≡ finish table fs (and_then a (resume table f))
@@ -140,7 +140,7 @@ run_keeps table = λ h args left place operands w. go_keeps table (suc left) h a
 resume_keeps : (table : Table) (f : Frame) (v : World) → Precedes v (world_of (resume table f v))
 resume_keeps table f v = run_keeps table f.handler f.args f.left f.place f.operands v
 
-finish_keeps : (table : Table) (fs : List Frame) (a : Answer) (x : World)
+pub finish_keeps : (table : Table) (fs : List Frame) (a : Answer) (x : World)
     → Precedes x (world_of a) → Precedes x (world_of (finish table fs a))
 finish_keeps table [] a x p = p
 finish_keeps table (f ∷ fs) a x p =
@@ -167,14 +167,6 @@ pub rest_of_keeps : (table : Table) (m : Machine) (e : Effect) (w : World)
 rest_of_keeps table m e w =
     finish_keeps table m.callers.items _ w
     (follow_keeps (run table) (run_keeps table) m.frame.handler m.frame.args m.frame.left m.frame.place w e)
-
--- the step is what was there, too
-pub instr_keeps : (table : Table) (m : Machine) (instr : Instr) (w : World)
-    → Precedes (stepped table m instr w) (world_of (after_instr table m instr w))
-instr_keeps table m instr w =
-    finish_keeps table m.callers.items _ (stepped table m instr w)
-    (follow_keeps (run table) (run_keeps table) m.frame.handler m.frame.args (m.frame.left - 1) m.frame.place
-    (stepped table m instr w) (effect table m.frame.handler m.frame.args w.core m.frame.operands instr))
 
 -- a handler gets a frame, and its caller waits
 pub coded_rest : (table : Table) (m : Machine) (h : HandlerData) (args : List Arg) (w : World) (fs : List Frame)

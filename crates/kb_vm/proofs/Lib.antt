@@ -3,6 +3,7 @@ pub mod Fitting
 pub mod Bound
 pub mod Frames
 pub mod Refusals
+pub mod Runs
 pub mod Turns
 pub mod Begun
 pub mod Starts

@@ -17,7 +17,7 @@ use Rattle.kb_vm.specs.Effect.{Effect, Enter, Goto, effect}
 use Rattle.kb_vm.specs.Meaning.{World, with_step, with_line, Answer, Done, Stuck, and_then, fetched, run_callee, follow, run}
 use Rattle.kb_vm.specs.Meaning.{native_called, first_world, Step}
 use Rattle.kb_vm.specs.Outcome.{Shows}
-use Rattle.kb_vm.specs.State.{finish, rest, rest_of, TurnedFrom, PaysFrom, credit, Begins, fetched_at, after_instr}
+use Rattle.kb_vm.specs.State.{finish, rest, rest_of, TurnedFrom, Pays, PaysFrom, credit, Begins, Begun}
 use Rattle.kb_vm.specs.Action.{IsCallable}
 use Rattle.kb_vm.specs.declared.machine.Frame.{Frame}
 use Rattle.kb_vm.specs.declared.trap.Trap.{Trap}
@@ -89,72 +89,25 @@ line_shows w core lines more spent name given is s = record {
   at_most = s.at_most;
 }
 
-pub step_shows : (instr : Instr) (left : ℕ) (e : Effect) (w : World) (core : Core) (lines : List (List ℕ))
-    (spent : ℕ) → Shows w core lines spent → Shows (with_step instr left e w) core lines (spent + 1)
-step_shows instr left e w core lines spent s =
-    let s' : Step = record { instr = instr; left = left; effect = e } in
-    let more = length-append w.steps (s' ∷ []) in
+-- a frame that ran on shows what it spent
+pub paused_shows : (w v : World) (core : Core) (lines : List (List ℕ)) (spent n more : ℕ)
+    → Shows w core lines spent → Begun n w v → more ≡ n → Shows v core lines (spent + more)
+paused_shows w v core lines spent n more s b is =
+    let sum = ap (sum_by budget_of) b.natives in
     record {
-      core_is = s.core_is;
-      lines_are = s.lines_are;
-      at_least = omega (arith, s.at_least, more);
-      at_most = omega (arith, s.at_most, more);
+      core_is = b.core ∙ s.core_is;
+      lines_are = b.lines ∙ s.lines_are;
+      at_least = omega (arith, s.at_least, b.steps, is);
+      at_most = omega (arith, s.at_most, b.steps, is, sum);
     }
 
--- what is left to do, by the instruction at the place and the allowance
-at_place : Table → Machine → World → Option Instr → ℕ → Answer
-at_place table m w o left = finish table m.callers.items (fetched o left (λ trap. Stuck trap m.frame.handler.command m.frame.place w) (λ instr rest. let e = effect table m.frame.handler m.frame.args w.core m.frame.operands instr in follow (run table) m.frame.handler m.frame.args rest m.frame.place (with_step instr rest e w) e))
-
-rest_at : (table : Table) (m : Machine) (w : World)
-    → rest table m w ≡ at_place table m w (slice_get m.frame.handler.code m.frame.place) m.frame.left
-unfolding at_place
-rest_at table m w =
-    ap (finish table m.callers.items)
-    (run_step table m.frame.handler m.frame.args m.frame.left m.frame.place m.frame.operands w)
-
-instr_in : Instr → Result Instr Trap → Instr
-instr_in instr (Ok i) = i
-instr_in instr (Err trap) = instr
-
-unfoldable pub trap_in : Trap → Result Instr Trap → Trap
-trap_in trap (Ok i) = trap
-trap_in trap (Err t) = t
-
-some_fetched : (o : Option Instr) (left : ℕ) (instr : Instr) → Ok instr ≡ fetched_at o left
-    → (o ≡ Some instr) × (left ≡ suc (left - 1))
-unfolding instr_in
-some_fetched None left instr e = absurd (true≢false (ap is_ok e))
-some_fetched (Some i) zero instr e = absurd (true≢false (ap is_ok e))
-some_fetched (Some i) (suc left) instr e = (ap Some (sym (ap (instr_in instr) e)), omega arith)
-
-pub turn_to : (table : Table) (m : Machine) (w : World) (instr : Instr)
-    → Ok instr ≡ fetched_at (slice_get m.frame.handler.code m.frame.place) m.frame.left
-    → rest table m w ≡ after_instr table m instr w
-unfolding at_place
-turn_to table m w instr is =
-    let found = some_fetched _ _ instr is in
-    rest_at table m w
-    ∙ ap (λ o. at_place table m w o m.frame.left) found.0
-    ∙ ap (at_place table m w (Some instr)) found.1
-
--- no instruction, or none that is paid for
-fault_at : (table : Table) (m : Machine) (w : World) (o : Option Instr) (left : ℕ) (trap : Trap)
-    → Err trap ≡ fetched_at o left
-    → at_place table m w o left ≡ finish table m.callers.items (Stuck trap m.frame.handler.command m.frame.place w)
-unfolding at_place trap_in
-fault_at table m w None left trap e =
-    ap (λ t. finish table m.callers.items (Stuck t m.frame.handler.command m.frame.place w)) (sym (ap (trap_in trap) e))
-fault_at table m w (Some i) zero trap e =
-    ap (λ t. finish table m.callers.items (Stuck t m.frame.handler.command m.frame.place w)) (sym (ap (trap_in trap) e))
-fault_at table m w (Some i) (suc left) trap e = absurd (true≢false (sym (ap is_ok e)))
-
-pub turn_fault : (table : Table) (m : Machine) (w : World) (trap : Trap)
-    → Err trap ≡ fetched_at (slice_get m.frame.handler.code m.frame.place) m.frame.left
-    → rest table m w ≡ Stuck trap m.frame.handler.command m.frame.place w
-turn_fault table m w trap is =
-    rest_at table m w
-    ∙ fault_at table m w _ _ trap is
-    ∙ finish_stuck table m.callers.items trap m.frame.handler.command m.frame.place w
+-- what is paid behind a frame's run is paid of the whole
+pub paid_on : (m n : Machine) (t : Turn) → n.spent + credit n ≤ m.spent + credit m → credit n < credit m
+    → PaysFrom 0 n t → Pays m t
+paid_on m n (turn.On o) all less p = (omega (arith, all, p.0), omega (arith, less, p.1))
+paid_on m n (turn.Ended o) all less p = omega (arith, all, p)
+paid_on m n (turn.Trapped o trap) all less p = omega (arith, all, p)
+paid_on m n (turn.NoMemory o) all less p = omega (arith, all, p)
 
 pub native_shows : (w : World) (n : Native) (args : List Arg) (core next : Core) (lines : List (List ℕ))
     (spent cost more : ℕ) → Shows w core lines spent → next ≡ core_after n args core → cost ≤ budget_of n

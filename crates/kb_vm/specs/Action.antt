@@ -5,6 +5,8 @@ use Rattle.kb_core.specs.Signature.{fits}
 use Rattle.kb_code.specs.declared.instr.Instr.{Instr}
 use Rattle.kb_vm.specs.declared.action.Action.{Action}
 use Rattle.kb_vm.specs.declared.action.Action.TheVariants as action
+use Rattle.kb_vm.specs.declared.action.Called.{Called}
+use Rattle.kb_vm.specs.declared.action.Called.TheVariants as called
 use Rattle.kb_codes.specs.Callee.{Callee, Plain, Coded, Table, IsLive, declared_by}
 use Rattle.kb_vm.specs.Memory.{makes_text}
 use Rattle.kb_vm.specs.Effect.{Effect, Stop, Leave, Next, Goto, Enter, topmost}
@@ -14,13 +16,17 @@ use Rattle.kb_codes.specs.Found.{callee_of}
 abbrev pub arity : Callee → ℕ
 arity callee = length (declared_by callee).params
 
--- an effect, as the code has it, with the operands behind it; those of a call are still there
+-- the effect of an instruction that is no call, as the code has it, with the operands behind it
 abbrev pub Does : Effect → Action → List Arg → Type 0
 Does e (action.Stop trap) operands = e ≡ Stop trap
 Does e action.Leave operands = e ≡ Leave
 Does e action.Next operands = e ≡ Next operands
 Does e (action.Goto to) operands = e ≡ Goto to operands
-Does e (action.Enter name found) operands =
+
+-- the effect of a call; the operands that it takes are still there
+abbrev pub Calls : Effect → Called → List Arg → Type 0
+Calls e (called.Stop trap) operands = e ≡ Stop trap
+Calls e (called.Enter name found) operands =
     let callee = callee_of found in
     e ≡ Enter name.now callee (topmost (arity callee) operands) (drop (arity callee) operands)
 
@@ -35,12 +41,9 @@ pub record HasArguments (callee : Callee) (operands : List Arg) : Type 0 where
   pub fit : fits (declared_by callee).params (topmost (arity callee) operands) ≡ true
 
 -- the command that is entered is live, and there are arguments for it
-abbrev pub IsReady : Table → Action → List Arg → Type 0
-IsReady table (action.Stop trap) operands = Unit {0}
-IsReady table action.Leave operands = Unit {0}
-IsReady table action.Next operands = Unit {0}
-IsReady table (action.Goto to) operands = Unit {0}
-IsReady table (action.Enter name found) operands =
+abbrev pub IsReady : Table → Called → List Arg → Type 0
+IsReady table (called.Stop trap) operands = Unit {0}
+IsReady table (called.Enter name found) operands =
     IsCallable table (callee_of found) × HasArguments (callee_of found) operands
 
 abbrev pub is_stop : Effect → Bool

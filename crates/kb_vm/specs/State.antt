@@ -1,6 +1,7 @@
 -- What the machine's state stands for: what is left to do from it.
-use Rattle.std.specs.Prelude.{◌≡◌, ℕ, zero, suc, ◌+◌, ◌-◌, ◌≤◌, ◌<◌, Bool, true, false, List, [], ◌∷◌, sum_by}
-use Rattle.std.specs.Prelude.{Option, Some, None, Result, Ok, Err, length, drop}
+use Rattle.std.specs.Prelude.{◌≡◌, ℕ, zero, suc, ◌+◌, ◌-◌, ◌≤◌, ◌<◌, ◌^◌, Bool, true, false, List}
+use Rattle.std.specs.Prelude.{[], ◌∷◌, sum_by}
+use Rattle.std.specs.Prelude.{Option, Some, None, Result, Ok, Err, length, drop, slice_get}
 use Rattle.kb_core.specs.declared.arg.Arg.{Arg}
 use Rattle.kb_core.specs.declared.native.Native.{Native}
 use Rattle.kb_core.specs.declared.run.Core.{Core}
@@ -10,10 +11,13 @@ use Rattle.kb_vm.specs.declared.trap.Trap.{Trap}
 use Rattle.kb_vm.specs.declared.trap.Trap.TheVariants.{OutOfBudget, BadCode}
 use Rattle.kb_vm.specs.declared.machine.Frame.{Frame}
 use Rattle.kb_vm.specs.declared.machine.Machine.{Machine}
+use Rattle.kb_vm.specs.declared.machine.Pause.{Pause}
+use Rattle.kb_vm.specs.declared.machine.Pause.TheVariants as pause
+use Rattle.kb_vm.specs.declared.machine.Paused.{Paused}
 use Rattle.kb_vm.specs.declared.machine.Turn.{Turn}
 use Rattle.kb_vm.specs.declared.machine.Turn.TheVariants as turn
 use Rattle.kb_codes.specs.Callee.{Callee, Table, declared_by}
-use Rattle.kb_vm.specs.Effect.{Effect, Enter, effect, topmost}
+use Rattle.kb_vm.specs.Effect.{Effect, Enter, called, effect, topmost}
 use Rattle.kb_vm.specs.Meaning.{World, Answer, Done, Stuck, and_then, run, follow, native_called, with_step}
 use Rattle.kb_vm.specs.Memory.{RefusedLast, goes_on}
 use Rattle.kb_vm.specs.Outcome.{Shows, Precedes, world_of}
@@ -95,12 +99,6 @@ fetched_at None left = Err BadCode
 fetched_at (Some instr) zero = Err OutOfBudget
 fetched_at (Some instr) (suc left) = Ok instr
 
--- an instruction is begun
-abbrev pub stepped : Table → Machine → Instr → World → World
-stepped table m instr w =
-    let f = m.frame in
-    with_step instr (f.left - 1) (effect table f.handler f.args w.core f.operands instr) w
-
 -- whether a command is called
 abbrev pub is_enter : Effect → Bool
 is_enter (Enter name callee args operands) = true
@@ -110,13 +108,40 @@ is_enter _ = false
 abbrev pub CallMayBeRefused : ℕ → Effect → World → Type 0
 CallMayBeRefused left e w = is_enter e ≡ true → goes_on left e ≡ true → RefusedLast w
 
--- what is left to do, where an instruction is paid for and done first
-abbrev pub after_instr : Table → Machine → Instr → World → Answer
-after_instr table m instr w =
-    let f = m.frame in
-    let e = effect table f.handler f.args w.core f.operands instr in
-    finish table m.callers.items
-    (follow (run table) f.handler f.args (f.left - 1) f.place (stepped table m instr w) e)
+-- the effect of the call at an index in the list of calls of the handler that runs
+abbrev pub called_by : Table → Machine → ℕ → Effect
+called_by table m index =
+    let h = m.frame.handler in
+    called table h.signature.depth (slice_get h.calls index) m.frame.operands
+
+-- so many instructions are begun on the way from one world to another, and nothing else happens
+pub record Begun (n : ℕ) (w v : World) : Type 0 where
+  pub core : v.core ≡ w.core
+  pub lines : v.lines ≡ w.lines
+  pub natives : v.natives ≡ w.natives
+  pub steps : length v.steps ≡ length w.steps + n
+
+-- what a frame that pauses at a place leaves of an answer that was still to come
+abbrev pub PausedFrom : Table → HandlerData → List Arg → List Arg → Answer → World → ℕ → ℕ → Pause → Type 0
+PausedFrom table h args operands a v place left (pause.Stop trap) = a ≡ Stuck trap h.command place v
+PausedFrom table h args operands a v place left pause.Leave = a ≡ Done v
+PausedFrom table h args operands a v place left (pause.Call index) =
+    let e = called table h.signature.depth (slice_get h.calls index) operands in
+    CallMayBeRefused left e v × (a ≡ follow (run table) h args left place v e)
+PausedFrom table h args operands a v place left pause.NoMemory = Precedes v (world_of a) × RefusedLast v
+
+-- a frame runs from a place with an allowance and operands up to where it pauses, whatever commands are live
+abbrev pub Pauses : HandlerData → List Arg → Core → List Arg → ℕ → ℕ → List Arg → Paused → Type 0
+Pauses h args core operands place left after p =
+    (table : Table) (w : World) → w.core ≡ core → (v : World) × Begun (left - p.left) w v
+    × PausedFrom table h args after (run table h args left place operands w) v p.place p.left p.why
+
+-- where there is an instruction at which a frame pauses, it was paid for
+abbrev pub IsPaid : ℕ → ℕ → ℕ → Pause → Type 0
+IsPaid before place left (pause.Stop trap) = Unit {0}
+IsPaid before place left pause.Leave = left < before
+IsPaid before place left (pause.Call index) = (left < before) × (place + 1 < 2 ^ 64)
+IsPaid before place left pause.NoMemory = left < before
 
 -- the machine at the start of a handler
 pub record Begins (h : HandlerData) (args : List Arg) (core : Core) (m : Machine) : Type 0 where

@@ -1,6 +1,8 @@
 //! What one instruction does.
-ghost use Rattle.std.specs.Prelude.{◌≡◌, ◌<◌, false, true, IfOk, OnErr, option_map, slice_get, length};
-ghost use Rattle.kb_vm.specs.Action.{Does, IsReady, IsCallable, MayLackMemory, is_stop};
+ghost use Rattle.std.specs.Prelude.{◌≡◌, ◌<◌, false, true, IfOk, MatchOption, OnErr};
+ghost use Rattle.std.specs.Prelude.{option_map, slice_get, length};
+ghost use Rattle.kb_vm.specs.Action.{Calls, Does, IsReady, IsCallable, MayLackMemory, is_stop};
+ghost use Rattle.kb_vm.specs.Memory.{is_call};
 ghost use Rattle.kb_vm.specs.Effect.{effect, pushed, pushed_at, pushed_context, dropped, doubled};
 ghost use Rattle.kb_vm.specs.Effect.{swapped, made};
 ghost use Rattle.kb_vm.specs.Effect.{with_one, with_two, branched, entered, called};
@@ -10,6 +12,7 @@ ghost use Rattle.kb_vm.specs.Values.{size_of};
 ghost use Rattle.kb_vm.specs.declared.values.One.TheVariants.{Show};
 ghost use Rattle.kb_vm.specs.declared.values.Two.TheVariants.{Join};
 ghost use Rattle.kb_core.specs.declared.arg.Arg.TheVariants as arg;
+ghost use Rattle.kb_code.specs.declared.instr.Instr.TheVariants as instr_kind;
 
 use crate::arena::Arena;
 use crate::given::{Given, fits};
@@ -21,9 +24,9 @@ use kb_codes::{Commands, Found, Linked};
 use kb_context::{NoMemory, Text};
 use kb_core::Core;
 
-/// What follows an instruction.
-#[derive(Drop)]
-pub(crate) enum Action<'r> {
+/// What follows an instruction. It is small, since there is one for each instruction.
+#[derive(Clone, Copy, Debug)]
+pub(crate) enum Action {
     /// The handler can't go on.
     Stop(Trap),
     /// The handler ends.
@@ -31,13 +34,20 @@ pub(crate) enum Action<'r> {
     /// The next instruction.
     Next,
     /// The instruction at this place, if it is a later one.
-    Goto(usize),
-    /// A command of this name, which is called with the topmost operands.
+    Goto(u16),
+}
+
+/// What a call comes to.
+#[derive(Drop)]
+pub(crate) enum Called<'r> {
+    /// The handler can't go on.
+    Stop(Trap),
+    /// A live command of this name, which is called with the topmost operands.
     Enter(&'r Text, Found<'r>),
 }
 
 /// Puts a value on top.
-fn push<'r, 'a>(operands: &mut Operands<'a>, value: Operand<'a>) -> Action<'r>
+fn push<'a>(operands: &mut Operands<'a>, value: Operand<'a>) -> Action
     ensures { Does (pushed (arg_of value.entry) operands.old) result operands.new }
 {
     if operands.len() < 64 {
@@ -49,7 +59,7 @@ fn push<'r, 'a>(operands: &mut Operands<'a>, value: Operand<'a>) -> Action<'r>
 }
 
 /// Puts a text of the handler on top.
-fn push_text<'r: 'a, 'a>(operands: &mut Operands<'a>, texts: &'r [Text], index: u16) -> Action<'r>
+fn push_text<'a>(operands: &mut Operands<'a>, texts: &'a [Text], index: u16) -> Action
     ensures { Does (pushed_at (option_map arg.Text (slice_get texts.now index)) operands.old)
         result operands.new }
 {
@@ -60,7 +70,7 @@ fn push_text<'r: 'a, 'a>(operands: &mut Operands<'a>, texts: &'r [Text], index: 
 }
 
 /// Puts an argument on top.
-fn push_arg<'r, 'a>(operands: &mut Operands<'a>, args: &Given<'a>, index: u16) -> Action<'r>
+fn push_arg<'a>(operands: &mut Operands<'a>, args: &Given<'a>, index: u16) -> Action
     ensures { Does (pushed_at (slice_get args.now index) operands.old) result operands.new }
 {
     match args.get(usize::from(index)) {
@@ -70,13 +80,13 @@ fn push_arg<'r, 'a>(operands: &mut Operands<'a>, args: &Given<'a>, index: u16) -
 }
 
 /// Puts the value of a context key on top.
-fn push_context<'r, 'a>(
+fn push_context<'a>(
     arena: &'a Arena,
     operands: &mut Operands<'a>,
     core: &Core,
-    texts: &'r [Text],
+    texts: &[Text],
     index: u16,
-) -> Result<Action<'r>, NoMemory>
+) -> Result<Action, NoMemory>
     ensures does { IfOk result (λ a. Does (pushed_context core.now (slice_get texts.now index) operands.old)
         a operands.new) }
     ensures memory { OnErr result (is_stop (pushed_context core.now (slice_get texts.now index) operands.old)
@@ -95,7 +105,7 @@ fn push_context<'r, 'a>(
 }
 
 /// Drops the topmost operand.
-fn drop_top<'r, 'a>(operands: &mut Operands<'a>) -> Action<'r>
+fn drop_top<'a>(operands: &mut Operands<'a>) -> Action
     ensures { Does (dropped operands.old) result operands.new }
 {
     match operands.pop() {
@@ -105,7 +115,7 @@ fn drop_top<'r, 'a>(operands: &mut Operands<'a>) -> Action<'r>
 }
 
 /// Puts the topmost operand on top once more.
-fn double<'r, 'a>(operands: &mut Operands<'a>) -> Action<'r>
+fn double<'a>(operands: &mut Operands<'a>) -> Action
     ensures { Does (doubled operands.old) result operands.new }
 {
     let Some(x) = operands.pop() else {
@@ -121,7 +131,7 @@ fn double<'r, 'a>(operands: &mut Operands<'a>) -> Action<'r>
 }
 
 /// Exchanges the two topmost operands.
-fn swap<'r, 'a>(operands: &mut Operands<'a>) -> Action<'r>
+fn swap<'a>(operands: &mut Operands<'a>) -> Action
     ensures { Does (swapped operands.old) result operands.new }
 {
     let (Some(y), Some(x)) = (operands.pop(), operands.pop()) else {
@@ -133,7 +143,7 @@ fn swap<'r, 'a>(operands: &mut Operands<'a>) -> Action<'r>
 }
 
 /// Puts what was made on top.
-fn put<'r, 'a>(operands: &mut Operands<'a>, value: Option<Operand<'a>>) -> Action<'r>
+fn put<'a>(operands: &mut Operands<'a>, value: Option<Operand<'a>>) -> Action
     requires { length operands.old < 64 }
     ensures { Does (made (option_map arg_of value.entry) operands.old) result operands.new }
 {
@@ -147,11 +157,11 @@ fn put<'r, 'a>(operands: &mut Operands<'a>, value: Option<Operand<'a>>) -> Actio
 }
 
 /// Takes one operand, and puts what is made of it in its place.
-fn apply_one<'r, 'a>(
+fn apply_one<'a>(
     arena: &'a Arena,
     operands: &mut Operands<'a>,
     what: One,
-) -> Result<Action<'r>, NoMemory>
+) -> Result<Action, NoMemory>
     ensures does { IfOk result (λ a. Does (with_one what operands.old) a operands.new) }
     ensures shows { OnErr result (what ≡ Show) }
     ensures memory { OnErr result (is_stop (with_one what operands.old) ≡ false) }
@@ -164,11 +174,11 @@ fn apply_one<'r, 'a>(
 }
 
 /// Takes two operands, and puts what is made of them in their place.
-fn apply_two<'r, 'a>(
+fn apply_two<'a>(
     arena: &'a Arena,
     operands: &mut Operands<'a>,
     what: Two,
-) -> Result<Action<'r>, NoMemory>
+) -> Result<Action, NoMemory>
     ensures does { IfOk result (λ a. Does (with_two what operands.old) a operands.new) }
     ensures joins { OnErr result (what ≡ Join) }
     ensures memory { OnErr result (is_stop (with_two what operands.old) ≡ false) }
@@ -184,50 +194,50 @@ fn apply_two<'r, 'a>(
 }
 
 /// Takes a truth value, and goes on at a place if it is false.
-fn branch<'r, 'a>(operands: &mut Operands<'a>, to: u16) -> Action<'r>
+fn branch<'a>(operands: &mut Operands<'a>, to: u16) -> Action
     ensures { Does (branched to operands.old) result operands.new }
 {
     match operands.pop() {
         None => Action::Stop(Trap::MissingOperand),
         Some(Operand::Truth(true)) => Action::Next,
-        Some(Operand::Truth(false)) => Action::Goto(usize::from(to)),
+        Some(Operand::Truth(false)) => Action::Goto(to),
         Some(_) => Action::Stop(Trap::WrongArgument),
     }
 }
 
 /// Calls a live command from a handler of this depth.
-fn enter<'r>(operands: &Operands<'_>, depth: u8, name: &'r Text, callee: Found<'r>) -> Action<'r>
-    ensures does { Does (entered depth name.now (callee_of callee.entry) operands.now) result operands.now }
+fn enter<'r>(operands: &Operands<'_>, depth: u8, name: &'r Text, callee: Found<'r>) -> Called<'r>
+    ensures does { Calls (entered depth name.now (callee_of callee.entry) operands.now) result operands.now }
     ensures ready { (table : _) → IsCallable table (callee_of callee.entry)
         → IsReady table result operands.now }
 {
     let count = callee.params();
     if operands.len() < count {
-        return Action::Stop(Trap::MissingOperand);
+        return Called::Stop(Trap::MissingOperand);
     }
     if !fits(&callee, operands.topmost(count)) {
-        return Action::Stop(Trap::WrongArgument);
+        return Called::Stop(Trap::WrongArgument);
     }
     if callee.depth() < depth {
-        Action::Enter(name, callee)
+        Called::Enter(name, callee)
     } else {
-        Action::Stop(Trap::TooDeep)
+        Called::Stop(Trap::TooDeep)
     }
 }
 
 /// Calls the command that a handler's list of calls names at an index.
-fn call<'r, L: Commands>(
+pub(crate) fn call<'r, L: Commands>(
     commands: &'r L,
     handler: &Linked<'r>,
     operands: &Operands<'_>,
     index: u16,
-) -> Action<'r>
-    ensures does { Does (called (L.live commands.now) handler.now.signature.depth
+) -> Called<'r>
+    ensures does { Calls (called (L.live commands.now) handler.now.signature.depth
         (slice_get handler.now.calls index) operands.now) result operands.now }
     ensures ready { IsReady (L.live commands.now) result operands.now }
 {
     if usize::from(index) >= handler.handler().calls().len() {
-        return Action::Stop(Trap::UnknownCommand);
+        return Called::Stop(Trap::UnknownCommand);
     }
     let (name, native) = handler.call(usize::from(index));
     match commands.command(name.as_str(), native) {
@@ -237,24 +247,34 @@ fn call<'r, L: Commands>(
             name,
             callee,
         ),
-        None => Action::Stop(Trap::UnknownCommand),
+        None => Called::Stop(Trap::UnknownCommand),
     }
 }
 
-/// One instruction of a handler that runs on these arguments.
-pub(crate) fn perform<'r: 'a, 'a, L: Commands>(
+/// The index in the handler's list of calls of what an instruction calls, if it is a call.
+#[inline]
+pub(crate) fn index_of(instr: Instr) -> Option<u16>
+    ensures { MatchOption result (is_call instr ≡ false) (λ n. instr ≡ instr_kind.Call n) }
+{
+    match instr {
+        Instr::Call(n) => Some(n),
+        _ => None,
+    }
+}
+
+/// One instruction that is no call, of a handler that runs on these arguments.
+pub(crate) fn perform<'r: 'a, 'a>(
     arena: &'a Arena,
-    commands: &'r L,
     handler: &Linked<'r>,
     args: &Given<'a>,
     core: &Core,
     operands: &mut Operands<'a>,
     instr: Instr,
-) -> Result<Action<'r>, NoMemory>
-    ensures does { IfOk result (λ a. Does (effect (L.live commands.now) handler.now args.now core.now
+) -> Result<Action, NoMemory>
+    requires { is_call instr ≡ false }
+    ensures does { (table : _) → IfOk result (λ a. Does (effect table handler.now args.now core.now
         operands.old instr) a operands.new) }
-    ensures ready { IfOk result (λ a. IsReady (L.live commands.now) a operands.new) }
-    ensures memory { OnErr result (MayLackMemory instr (effect (L.live commands.now) handler.now args.now
+    ensures memory { (table : _) → OnErr result (MayLackMemory instr (effect table handler.now args.now
         core.now operands.old instr)) }
 {
     match instr {
@@ -276,9 +296,9 @@ pub(crate) fn perform<'r: 'a, 'a, L: Commands>(
         Instr::Size => apply_one(arena, operands, One::Size),
         Instr::IsTrue => apply_one(arena, operands, One::IsTrue),
         Instr::Number => apply_one(arena, operands, One::AsNumber),
-        Instr::Jump(to) => Ok(Action::Goto(usize::from(to))),
+        Instr::Jump(to) => Ok(Action::Goto(to)),
         Instr::JumpIfFalse(to) => Ok(branch(operands, to)),
-        Instr::Call(n) => Ok(call(commands, handler, operands, n)),
+        Instr::Call(_) => unreachable!(),
         Instr::Context(n) => push_context(arena, operands, core, handler.handler().texts(), n),
         Instr::Before => Ok(push(
             operands,

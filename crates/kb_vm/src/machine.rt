@@ -3,18 +3,19 @@ ghost use Rattle.std.specs.Prelude.{◌≡◌, ◌≤◌, ◌<◌, ◌+◌, ◌^
 ghost use Rattle.kb_core.specs.Native.{budget_of, parameters_of};
 ghost use Rattle.kb_core.specs.Ran.{Does};
 ghost use Rattle.kb_core.specs.Signature.{fits};
-ghost use Rattle.kb_vm.specs.Action.{Does as Performs, HasArguments, IsCallable, IsReady};
+ghost use Rattle.kb_vm.specs.Action.{HasArguments, IsCallable};
 ghost use Rattle.kb_codes.specs.Callee.{IsLive, declared_by};
-ghost use Rattle.kb_vm.specs.Effect.{Effect, Enter, Goto};
+ghost use Rattle.kb_vm.specs.Effect.{Enter};
 ghost use Rattle.kb_codes.specs.Found.{callee_of};
 ghost use Rattle.kb_vm.specs.Leave.{Left};
 ghost use Rattle.kb_vm.specs.Meaning.{World, run, first_world};
 ghost use Rattle.kb_vm.specs.Outcome.{Shows, Ends};
 ghost use Rattle.kb_vm.specs.Memory.{RefusedLast};
 ghost use Rattle.kb_vm.specs.State.{Begins, Turned, TurnedFrom, Pays, PaysFrom, after_native, after_coded};
-ghost use Rattle.kb_vm.specs.State.{rest_of, credit, after_call, fetched_at, after_instr, CallMayBeRefused};
+ghost use Rattle.kb_vm.specs.State.{rest_of, credit, after_call, fetched_at, called_by};
+ghost use Rattle.kb_vm.specs.State.{CallMayBeRefused, IsPaid, Pauses};
 
-use crate::action::{Action, perform};
+use crate::action::{Action, Called, call, index_of, perform};
 use crate::arena::Arena;
 use crate::call_line::call_line;
 use crate::given::Given;
@@ -45,6 +46,27 @@ pub(crate) struct Machine<'r, 'a> {
     pub core: Core,
     pub lines: Lines,
     pub spent: u64,
+}
+
+/// Why a frame pauses.
+#[derive(Clone, Copy, Debug)]
+pub(crate) enum Pause {
+    /// The handler can't go on.
+    Stop(Trap),
+    /// The handler ends.
+    Leave,
+    /// The command that the handler's list of calls names at this index is called.
+    Call(u16),
+    /// Memory was refused.
+    NoMemory,
+}
+
+/// Where a frame pauses, and what it may still spend.
+#[derive(Clone, Copy, Debug)]
+pub(crate) struct Paused {
+    pub place: usize,
+    pub left: u32,
+    pub why: Pause,
 }
 
 /// What follows a turn.
@@ -290,55 +312,35 @@ fn enter_callee<'r, 'a, L: Commands>(
     begin_call(alloc, commands, machine, name, callee, given)
 }
 
-/// Goes on at a place, if it is a later one.
-fn go_to<'r, 'a>(mut machine: Machine<'r, 'a>, place: usize) -> Turn<'r, 'a>
-    ensures turned { (table : _) → (w : World)
-        → Shows w machine.entry.core machine.entry.lines machine.entry.spent
-        → TurnedFrom table (rest_of table machine.entry (Goto place machine.entry.frame.operands) w) result }
-    ensures pays { PaysFrom 0 machine.entry result }
-{
-    if place <= machine.frame.place {
-        return Turn::Trapped(machine, Trap::BadCode);
-    }
-    machine.frame.place = place;
-    Turn::On(machine)
-}
-
-/// What follows an instruction.
-fn act<'r, 'a, L: Commands>(
+/// The command is called that the handler's list of calls names at an index.
+fn enter_call<'r, 'a, L: Commands>(
     alloc: Global,
     commands: &'r L,
-    mut machine: Machine<'r, 'a>,
-    action: Action<'r>,
+    machine: Machine<'r, 'a>,
+    index: u16,
 ) -> Turn<'r, 'a>
-    requires ready { IsReady (L.live commands.now) action machine.frame.operands }
     requires room { machine.spent + machine.frame.left < 2 ^ 64 }
     requires place { machine.frame.place + 1 < 2 ^ 64 }
-    ensures turned { (w : World) → (e : Effect) → Performs e action.entry machine.entry.frame.operands
-        → Shows w machine.entry.core machine.entry.lines machine.entry.spent
-        → CallMayBeRefused machine.entry.frame.left e w
-        → TurnedFrom (L.live commands.now) (rest_of (L.live commands.now) machine.entry e w) result }
+    ensures turned { (w : World) → Shows w machine.entry.core machine.entry.lines machine.entry.spent
+        → CallMayBeRefused machine.entry.frame.left (called_by (L.live commands.now) machine.entry index) w
+        → TurnedFrom (L.live commands.now) (rest_of (L.live commands.now) machine.entry
+        (called_by (L.live commands.now) machine.entry index) w) result }
     ensures pays { PaysFrom 0 machine.entry result }
 {
-    match action {
-        Action::Stop(trap) => Turn::Trapped(machine, trap),
-        Action::Leave => leave(machine),
-        Action::Next => {
-            machine.frame.place += 1;
-            Turn::On(machine)
-        }
-        Action::Goto(to) => go_to(machine, to),
-        Action::Enter(name, callee) => enter_callee(alloc, commands, machine, name, callee),
+    let frame = &machine.frame;
+    match call(commands, &frame.handler, &frame.operands, index) {
+        Called::Stop(trap) => Turn::Trapped(machine, trap),
+        Called::Enter(name, callee) => enter_callee(alloc, commands, machine, name, callee),
     }
 }
 
-/// The instruction at a place of a handler, if as much is left as it costs.
-pub(crate) fn fetch(handler: &Linked<'_>, place: usize, left: u32) -> Result<Instr, Trap>
-    ensures instr { result ≡ fetched_at (slice_get handler.now.code place) left }
+/// The instruction at a place of a handler's code, if as much is left as it costs.
+#[inline]
+pub(crate) fn fetch(code: &[Instr], place: usize, left: u32) -> Result<Instr, Trap>
+    ensures instr { result ≡ fetched_at (slice_get code.now place) left }
     ensures paid { IfOk result (λ _. 1 ≤ left) }
     ensures place { IfOk result (λ _. place + 1 < 2 ^ 64) }
 {
-    let code = handler.handler().code();
     if code.len() <= place {
         return Err(Trap::BadCode);
     }
@@ -348,19 +350,67 @@ pub(crate) fn fetch(handler: &Linked<'_>, place: usize, left: u32) -> Result<Ins
     Ok(code[place])
 }
 
-/// Pays for the instruction at the place, and does what it says.
-fn run_instr<'r: 'a, 'a, L: Commands>(
+/// A frame pauses.
+#[inline]
+fn paused_at(place: usize, left: u32, why: Pause) -> Paused
+    ensures { result ≡ record { place = place; left = left; why = why } }
+{
+    Paused { place, left, why }
+}
+
+/// Runs the instructions of a frame from a place, each of which costs 1, up to the first that calls a
+/// command, ends the handler or can't go on. The frame's state stays where it is, so that an instruction
+/// moves nothing.
+fn run_on<'r: 'a, 'a>(
+    arena: &'a Arena,
+    handler: &Linked<'r>,
+    args: &Given<'a>,
+    core: &Core,
+    operands: &mut Operands<'a>,
+    place: usize,
+    left: u32,
+) -> Paused
+    ensures pauses { Pauses handler.now args.now core.now operands.old place left operands.new result }
+    ensures few { result.left ≤ left }
+    ensures paid { IsPaid left result.place result.left result.why }
+{
+    let code = handler.handler().code();
+    let mut place = place;
+    let mut left = left;
+    loop {
+        let instr = match fetch(code, place, left) {
+            Ok(instr) => instr,
+            Err(trap) => return paused_at(place, left, Pause::Stop(trap)),
+        };
+        left -= 1;
+        if let Some(index) = index_of(instr) {
+            return paused_at(place, left, Pause::Call(index));
+        }
+        match perform(arena, handler, args, core, operands, instr) {
+            Ok(Action::Next) => place += 1,
+            Ok(Action::Goto(to)) => {
+                let to = usize::from(to);
+                if to <= place {
+                    return paused_at(place, left, Pause::Stop(Trap::BadCode));
+                }
+                place = to;
+            }
+            Ok(Action::Stop(trap)) => return paused_at(place, left, Pause::Stop(trap)),
+            Ok(Action::Leave) => return paused_at(place, left, Pause::Leave),
+            Err(_) => return paused_at(place, left, Pause::NoMemory),
+        }
+    }
+}
+
+/// One turn: the instructions of the frame up to one that no frame does alone, and what follows it.
+fn take_turn<'r: 'a, 'a, L: Commands>(
     alloc: Global,
     arena: &'a Arena,
     commands: &'r L,
     machine: Machine<'r, 'a>,
-    instr: Instr,
 ) -> Turn<'r, 'a>
-    requires room { machine.spent + credit machine < 2 ^ 64 }
-    requires paid { 1 ≤ machine.frame.left }
-    requires place { machine.frame.place + 1 < 2 ^ 64 }
-    ensures turned { (w : World) → Shows w machine.entry.core machine.entry.lines machine.entry.spent
-        → TurnedFrom (L.live commands.now) (after_instr (L.live commands.now) machine.entry instr w) result }
+    requires { machine.spent + credit machine < 2 ^ 64 }
+    ensures turned { Turned (L.live commands.now) machine.entry result }
     ensures pays { Pays machine.entry result }
 {
     let Machine {
@@ -377,53 +427,30 @@ fn run_instr<'r: 'a, 'a, L: Commands>(
         left,
         mut operands,
     } = frame;
-    let action = perform(
-        arena,
-        commands,
-        &handler,
-        &args,
-        &core,
-        &mut operands,
-        instr,
-    );
+    let paused = run_on(arena, &handler, &args, &core, &mut operands, place, left);
     let machine = Machine {
         frame: Frame {
             handler,
             args,
-            place,
-            left: left - 1,
+            place: paused.place,
+            left: paused.left,
             operands,
         },
         callers,
         core,
         lines,
-        spent: spent + 1,
+        spent: spent + u64::from(left - paused.left),
     };
-    match action {
-        Ok(action) => act(alloc, commands, machine, action),
-        Err(_) => Turn::NoMemory(machine),
+    match paused.why {
+        Pause::Stop(trap) => Turn::Trapped(machine, trap),
+        Pause::Leave => leave(machine),
+        Pause::Call(index) => enter_call(alloc, commands, machine, index),
+        Pause::NoMemory => Turn::NoMemory(machine),
     }
 }
 
-/// One turn: one instruction, and what follows it.
-fn take_turn<'r: 'a, 'a, L: Commands>(
-    alloc: Global,
-    arena: &'a Arena,
-    commands: &'r L,
-    machine: Machine<'r, 'a>,
-) -> Turn<'r, 'a>
-    requires { machine.spent + credit machine < 2 ^ 64 }
-    ensures turned { Turned (L.live commands.now) machine.entry result }
-    ensures pays { Pays machine.entry result }
-{
-    let frame = &machine.frame;
-    match fetch(&frame.handler, frame.place, frame.left) {
-        Ok(instr) => run_instr(alloc, arena, commands, machine, instr),
-        Err(trap) => Turn::Trapped(machine, trap),
-    }
-}
-
-/// The machine at the start of a handler.
+/// The machine at the start of a handler, with room for the frames that may wait: the calls of a callee nest
+/// less deep than its caller's, so there are fewer of them than the handler declares.
 fn begin<'r, 'a>(
     alloc: Global,
     handler: Linked<'r>,
@@ -434,6 +461,10 @@ fn begin<'r, 'a>(
     ensures err { IfErr result (λ back. back ≡ core) }
 {
     let left = handler.handler().signature().budget();
+    let waiting = handler.handler().signature().depth() - 1;
+    let Ok(callers) = Vec::with_capacity(alloc, usize::from(waiting)) else {
+        return Err(core);
+    };
     match Operands::new(alloc) {
         Ok(operands) => Ok(Machine {
             frame: Frame {
@@ -443,7 +474,7 @@ fn begin<'r, 'a>(
                 left,
                 operands,
             },
-            callers: Vec::new(alloc),
+            callers,
             core,
             lines: Lines::new(alloc),
             spent: 0,

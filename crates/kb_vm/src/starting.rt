@@ -91,7 +91,8 @@ fn start_handler<'r, L: Commands>(
         handler.entry.signature.budget 0 [] (first_world core)) result result.finish }
     ensures bound { result.spent ≤ handler.entry.signature.budget }
 {
-    match fetch(&handler, 0, handler.handler().signature().budget()) {
+    let begun = handler.handler();
+    match fetch(begun.code(), 0, begun.signature().budget()) {
         Ok(_) => start_begun(alloc, commands, handler, args, core),
         Err(trap) => {
             let command = handler.handler().command().as_str();

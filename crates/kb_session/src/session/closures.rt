@@ -43,8 +43,8 @@ impl<C: HostCommand> Session<C> {
     /// Ends the registration that has a ticket, and gives its closure back. A chord that is open stays (our
     /// decision).
     ///
-    /// Errors: `Refused` where no closure that is live has the ticket (72), or a live handler calls its native (73,
-    /// with the first such handler's command); `Stopped` where the session was
+    /// Errors: `Refused` where no closure that is live has the ticket (72), or a live handler calls its
+    /// native (73, with the first such handler's command); `Stopped` where the session was
     /// stopped before; `NoMemory` where memory was refused: the session is stopped and else as before.
     pub fn dispose(&mut self, ticket: Ticket) -> Result<C, SessionFault>
         ensures ok { IfOk result (λ command.

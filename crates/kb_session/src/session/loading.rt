@@ -1,4 +1,5 @@
-//! What a session has at first beside its files: the commands that are live, and the lists of unread patterns.
+//! What a session has at first beside its files: the commands that are live, and the lists of unread
+//! patterns.
 ghost use Rattle.std.specs.Prelude.{◌≡◌, ◌≤◌, ℕ, [], ◌∷◌, length, map, IfOk};
 ghost use Rattle.kb_context.specs.Failure.{Gives};
 ghost use Rattle.kb_bindings.specs.Unread.{unread_of};

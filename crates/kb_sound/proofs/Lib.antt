@@ -1,0 +1,11 @@
+pub mod Tests
+pub mod Shapes
+pub mod Moves
+pub mod Paths
+pub mod NeverStuck
+pub mod Found
+pub mod Callees
+pub mod Stays
+pub mod Disposals
+pub mod Loads
+pub mod SoundRows

@@ -1,0 +1,204 @@
+-- Handlers that are made live beside what is leave each live handler verified, and are so themselves.
+use Rattle.std.proofs.Common.{◌≡◌, ⊎_elim, ℕ, Bool, true, false, cond, List, [], ◌∷◌, ◌++◌, Option, Some}
+use Rattle.std.proofs.Common.{None, refl, sym, ap, ◌∙◌, find, is_some, if◌then◌else◌}
+use Rattle.std.specs.Prelude.{slice_get, option_map, option_and_then, nat_lt, bytes_eq}
+use Rattle.std.specs.List.{All}
+use Rattle.std.specs.Option.{option_or}
+use Rattle.std.proofs.lemmas.Bool.{false≢true}
+use Rattle.std.proofs.lemmas.List.Folds.{find-append}
+use Rattle.std.proofs.lemmas.Slice.Eq.{bytes_eq-Decides}
+use Rattle.kb_core.specs.declared.native.Native.{Native}
+use Rattle.kb_core.specs.Declaration.{Declaration}
+use Rattle.kb_core.specs.Native.{named}
+use Rattle.kb_code.specs.Handler.{HandlerData}
+use Rattle.kb_codes.specs.Callee.{Callee, Coded, declared_by}
+use Rattle.kb_codes.specs.Live.{Group, handlers_in, handler_named, is_reserved, is_taken, has_taken}
+use Rattle.kb_codes.specs.Live.{with_group}
+use Rattle.kb_registry.specs.declared.fault.RegistryFault.TheVariants.{AlreadyExists}
+use Rattle.kb_registry.specs.Live.{Live, callee_by, table_of, with_code}
+use Rattle.kb_sound.specs.Sound.{IsVerified}
+use Rattle.kb_sound.specs.Stays.{IsSound, MayJoin, CodeStaysSound}
+use Rattle.kb_sound.proofs.Tests.{or_false}
+use Rattle.kb_sound.proofs.Found.{found_all}
+use Rattle.kb_sound.proofs.Stays.{Stays, declared_stays, verified_stays, coded_by, coded_live}
+
+nothing : {X : Type 0} (o : Option X) → is_some o ≡ false → o ≡ None
+nothing None e = refl
+nothing (Some x) e = absurd (cc)
+
+-- ---- one or the other of two finds
+
+or_none : {X : Type 0} (o : Option X) → option_or o None ≡ o
+or_none None = refl
+or_none (Some x) = refl
+
+both_none : {X : Type 0} (a b : Option X) → option_or a b ≡ None → (a ≡ None) × (b ≡ None)
+both_none None b e = (refl, e)
+both_none (Some x) b e = absurd (cc)
+
+module _ (p : HandlerData → Bool) (new : Group) where
+  -- a group without what is looked for changes nothing
+  old_found : (gs : List Group) → find p new.handlers ≡ None →
+      find p (handlers_in (with_group new gs)) ≡ find p (handlers_in gs)
+  old_found [] none = find-append p new.handlers [] ∙ ap (λ o. option_or o None) none
+  old_found (g ∷ gs) none = by (nat_lt new.extension g.extension) (old_found gs none)
+    where
+      by : (b : Bool) → find p (handlers_in (with_group new gs)) ≡ find p (handlers_in gs) →
+          find p (handlers_in (if b then new ∷ g ∷ gs else g ∷ with_group new gs))
+          ≡ find p (handlers_in (g ∷ gs))
+      by true rest =
+          find-append p new.handlers (handlers_in (g ∷ gs))
+          ∙ ap (λ o. option_or o (find p (handlers_in (g ∷ gs)))) none
+      by false rest =
+          find-append p g.handlers (handlers_in (with_group new gs))
+          ∙ ap (option_or (find p g.handlers)) rest ∙ sym (find-append p g.handlers (handlers_in gs))
+
+  -- what no group has is found in the group that comes
+  new_found : (gs : List Group) → find p (handlers_in gs) ≡ None →
+      find p (handlers_in (with_group new gs)) ≡ find p new.handlers
+  new_found [] none = find-append p new.handlers [] ∙ or_none (find p new.handlers)
+  new_found (g ∷ gs) none =
+      let each = both_none (find p g.handlers) (find p (handlers_in gs))
+      (sym (find-append p g.handlers (handlers_in gs)) ∙ none) in
+      by (nat_lt new.extension g.extension) each.0 (new_found gs each.1)
+    where
+      by : (b : Bool) → find p g.handlers ≡ None →
+          find p (handlers_in (with_group new gs)) ≡ find p new.handlers →
+          find p (handlers_in (if b then new ∷ g ∷ gs else g ∷ with_group new gs)) ≡ find p new.handlers
+      by true first rest =
+          find-append p new.handlers (handlers_in (g ∷ gs))
+          ∙ ap (option_or (find p new.handlers)) none ∙ or_none (find p new.handlers)
+      by false first rest =
+          find-append p g.handlers (handlers_in (with_group new gs))
+          ∙ ap (λ o. option_or o (find p (handlers_in (with_group new gs)))) first ∙ rest
+
+-- ---- names that aren't taken
+
+-- a handler has no name of those above
+free : (above hs : List HandlerData) → has_taken above hs ≡ false → (name : List ℕ) (h : HandlerData) →
+    handler_named name above ≡ Some h → handler_named name hs ≡ None
+free above [] e name h is = refl
+free above (x ∷ hs) e name h is =
+    let each = or_false (is_taken above x) (has_taken (above ++ x ∷ []) hs) e in
+    by (bytes_eq name x.command) refl (or_false (is_reserved x.command) _ each.0).1
+    (free (above ++ x ∷ []) hs each.1 name h
+    (find-append (λ g. bytes_eq name g.command) above (x ∷ [])
+    ∙ ap (λ o. option_or o (handler_named name (x ∷ []))) is))
+  where
+    by : (b : Bool) → bytes_eq name x.command ≡ b → is_some (handler_named x.command above) ≡ false →
+        handler_named name hs ≡ None → cond b (Some x) (handler_named name hs) ≡ None
+    by true same other rest =
+        let its : name ≡ x.command = (bytes_eq-Decides name x.command).0 same in
+        absurd (false≢true (sym other ∙ ap (λ n. is_some (handler_named n above)) (sym its) ∙ ap is_some is))
+    by false same other rest = rest
+
+-- nor a native's
+unreserved : (above hs : List HandlerData) → has_taken above hs ≡ false → (name : List ℕ) (h : HandlerData) →
+    handler_named name hs ≡ Some h → named name ≡ None
+unreserved above [] e name h is = absurd (cc)
+unreserved above (x ∷ hs) e name h is =
+    let each = or_false (is_taken above x) (has_taken (above ++ x ∷ []) hs) e in
+    by (bytes_eq name x.command) refl (or_false (is_reserved x.command) _ each.0).0
+    (unreserved (above ++ x ∷ []) hs each.1 name h) is
+  where
+    by : (b : Bool) → bytes_eq name x.command ≡ b → is_reserved x.command ≡ false →
+        (handler_named name hs ≡ Some h → named name ≡ None) →
+        cond b (Some x) (handler_named name hs) ≡ Some h →
+        named name ≡ None
+    by true same plain rest is =
+        let its : name ≡ x.command = (bytes_eq-Decides name x.command).0 same in
+        ap named its ∙ nothing (named x.command) (or_false (is_some (named x.command)) _ plain).0
+    by false same plain rest is = rest is
+
+-- ---- what is live behind
+
+not_taken : (b : Bool) → (if b then Some AlreadyExists else None) ≡ None → b ≡ false
+not_taken false e = refl
+not_taken true e = absurd (cc)
+
+module _ (extension : ℕ) (handlers : List HandlerData) (live : Live)
+    (untaken : has_taken (handlers_in live.code) handlers ≡ false) where
+  abbrev then_live : Live
+  then_live = with_code extension handlers live
+
+  abbrev group : Group
+  group = record { extension = extension; handlers = handlers }
+
+  handler_stays : (name : List ℕ) (c : Callee) (o : Option HandlerData) →
+      handler_named name (handlers_in live.code) ≡ o → option_map Coded o ≡ Some c →
+      option_map Coded (handler_named name (handlers_in then_live.code)) ≡ Some c
+  handler_stays name c None is e = absurd (cc)
+  handler_stays name c (Some h) is e =
+      ap (option_map Coded) (old_found (λ g. bytes_eq name g.command) group live.code
+      (free (handlers_in live.code) handlers untaken name h is) ∙ is) ∙ e
+
+  each_stays : (o : Option Native) (name : List ℕ) (c : Callee) → callee_by o name live ≡ Some c →
+      callee_by o name then_live ≡ Some c
+  each_stays None name c e = handler_stays name c (handler_named name (handlers_in live.code)) refl e
+  each_stays (Some n) name c e = e
+
+  stays : Stays (table_of live) (table_of then_live)
+  stays name c e = each_stays (named name) name c e
+
+  -- a name of a handler that comes was no live handler's
+  was_free : (name : List ℕ) (h : HandlerData) → handler_named name handlers ≡ Some h →
+      (o : Option HandlerData) →
+      handler_named name (handlers_in live.code) ≡ o → o ≡ None
+  was_free name h is None before = refl
+  was_free name h is (Some g) before =
+      let none = free (handlers_in live.code) handlers untaken name g before in absurd (cc)
+
+  comes : (name : List ℕ) (h : HandlerData) → handler_named name handlers ≡ Some h →
+      handler_named name (handlers_in then_live.code) ≡ Some h
+  comes name h is =
+      new_found (λ g. bytes_eq name g.command) group live.code
+      (was_free name h is (handler_named name (handlers_in live.code)) refl) ∙ is
+
+  comes_live : (name : List ℕ) (h : HandlerData) → handler_named name handlers ≡ Some h →
+      table_of then_live name ≡ Some (Coded h)
+  comes_live name h is =
+      coded_live name then_live h (unreserved (handlers_in live.code) handlers untaken name h is)
+      (comes name h is)
+
+  declared_comes : (o : Option (List ℕ)) (d : Declaration) →
+      option_map (λ (g : HandlerData). g.signature)
+      (option_and_then (λ name. handler_named name handlers) o) ≡ Some d →
+      option_map declared_by (option_and_then (table_of then_live) o) ≡ Some d
+  declared_comes None d e = absurd (cc)
+  declared_comes (Some name) d e = by (handler_named name handlers) refl e
+    where
+      by : (o : Option HandlerData) → handler_named name handlers ≡ o →
+          option_map (λ (g : HandlerData). g.signature) o ≡ Some d →
+          option_map declared_by (table_of then_live name) ≡ Some d
+      by None is e = absurd (cc)
+      by (Some h) is e = ap (option_map declared_by) (comes_live name h is) ∙ e
+
+  joins : (h : HandlerData) → MayJoin live handlers h → IsVerified (table_of then_live) h
+  joins h may = record {
+    commands = may.commands;
+    accepted = may.accepted;
+    callees = λ p n d c. ⊎_elim
+        (declared_stays (table_of live) (table_of then_live) (slice_get h.calls n)
+        (λ name c is. stays name c) d)
+        (declared_comes (slice_get h.calls n) d) (may.callees p n d c);
+  }
+
+  verified_then : All (MayJoin live handlers) handlers → IsSound live → (name : List ℕ) (h : HandlerData) →
+      named name ≡ None → handler_named name (handlers_in then_live.code) ≡ Some h →
+      (o : Option HandlerData) →
+      handler_named name handlers ≡ o → IsVerified (table_of then_live) h
+  verified_then all sound name h none is None before =
+      verified_stays (table_of live) (table_of then_live) stays h
+      (sound name h (coded_live name live h none
+      (sym (old_found (λ g. bytes_eq name g.command) group live.code before) ∙ is)))
+  verified_then all sound name h none is (Some g) before =
+      let same : g ≡ h = cc (comes name g before, is) in
+      joins h (found_all (MayJoin live handlers) (λ g. bytes_eq name g.command) handlers h all
+      (before ∙ ap Some same))
+
+pub code_stays_sound : CodeStaysSound
+code_stays_sound extension handlers live fault all sound name h e =
+    let untaken = not_taken (has_taken (handlers_in live.code) handlers) fault in
+    let is = coded_by (named name) name (with_code extension handlers live) h e in
+    verified_then extension handlers live untaken all sound name h is.0 is.1
+    (handler_named name handlers) refl

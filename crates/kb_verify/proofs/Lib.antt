@@ -1,0 +1,9 @@
+pub mod Calls
+pub mod Checks
+pub mod Dearest
+pub mod Edges
+pub mod Listed
+pub mod Lists
+pub mod Passes
+pub mod Refutes
+pub mod Swapped

@@ -1,0 +1,37 @@
+use Rattle.std.proofs.Common.{◌∙◌, inr, sym, subst, arith}
+use Rattle.kb_verify.specs.Faults.{IsFailure}
+use Rattle.kb_verify.specs.Marks.{FlowsFrom}
+use Rattle.kb_verify.proofs.Edges.{at_place}
+use Rattle.kb_verify.proofs.Passes.{skipped, differs_first, failed_first, looked_on, read_as}
+use Rattle.kb_verify.proofs.forward.look.Goals as goal
+
+pub returns-in-Unreached-clause-marked : goal.returns-in-Unreached-clause-marked
+returns-in-Unreached-clause-marked c = λ marked.
+    let ms = c.args.marks.now.items in
+    let has = read_as ms c.args.place c.index.result.now _ (omega (arith, c.requires.size, c.requires.within)) c.index.ensures c.in-Unreached.is in
+    skipped c.args.callable.now c.args.handler.now c.args.place ms marked has
+
+pub returns-in-Differs-clause-marked : goal.returns-in-Differs-clause-marked
+returns-in-Differs-clause-marked c = λ marked.
+    let ms = c.args.marks.now.items in
+    let has = read_as ms c.args.place c.index.result.now _ (omega (arith, c.requires.size, c.requires.within)) c.index.ensures c.in-Differs.is in
+    inr (differs_first c.args.callable.now c.args.handler.now c.args.place ms marked has)
+
+pub returns-in-Err-clause-marked : goal.returns-in-Err-clause-marked
+returns-in-Err-clause-marked c = λ marked.
+    let ms = c.args.marks.now.items in
+    let h = c.args.handler.now in
+    let has = read_as ms c.args.place c.index.result.now _ (omega (arith, c.requires.size, c.requires.within)) c.index.ensures c.in-Has.is in
+    let at = at_place h.code c.code.result.now c.args.place c.code.ensures c.requires.within in
+    subst (IsFailure c.args.callable.now h) (sym c.failure_at.ensures)
+    (failed_first c.args.callable.now h c.args.place ms c.in-Has.shape _ c.in-Err.failure marked c.requires.within has at c.in-Err.ensures)
+
+pub returns-in_ok-flow_from-in-Ok-clause-marked : goal.returns-in_ok-flow_from-in-Ok-clause-marked
+returns-in_ok-flow_from-in-Ok-clause-marked c = λ marked.
+    let ms = c.args.marks.now.items in
+    let ns = c.flow_from.new.marks.items in
+    let h = c.args.handler.now in
+    let has = read_as ms c.args.place c.index.result.now _ (omega (arith, c.requires.size, c.requires.within)) c.index.ensures c.in-Has.is in
+    let at = at_place h.code c.code.result.now c.args.place c.code.ensures c.requires.within in
+    let flows = subst (λ x. FlowsFrom x ms c.in-Ok.after ns) c.exits_at.ensures c.in_ok-flow_from-in-Ok.ensures.flows in
+    looked_on c.args.callable.now h c.args.place ms ns c.in-Has.shape c.in-Ok.after _ marked has at c.in-Ok.ensures (c.flow_from.ensures.size ∙ c.requires.size) flows

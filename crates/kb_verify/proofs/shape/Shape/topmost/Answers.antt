@@ -1,0 +1,12 @@
+use Rattle.std.proofs.Common.{◌≡◌, ◌-◌, ◌∙◌, ap, length, drop}
+use Rattle.std.proofs.lemmas.List.{take_rest}
+use Rattle.kb_verify.proofs.Lists.{taken_from}
+use Rattle.kb_verify.proofs.shape.Shape.topmost.Goals as goal
+
+pub returns : goal.returns
+returns c =
+    let kinds = c.self.inside.kinds in
+    let n = c.len.result - c.args.count in
+    let at : n ≡ length kinds.items - c.args.count = ap (λ m. m - c.args.count) (c.len.ensures ∙ kinds.ok.0) in
+    take_rest c.deref.result.now n ∙ ap (drop n) c.deref.ensures.value
+    ∙ taken_from kinds.items c.args.self.now c.args.count n c.self.view_is c.requires at

@@ -1,0 +1,118 @@
+-- The check of an instruction at a place. A shape lists the kinds of the operands, the topmost first.
+use Rattle.std.specs.Prelude.{ℕ, suc, Bool, true, false, nat_lt, nat_le, ◌&&◌, if◌then◌else◌, ⊤}
+use Rattle.std.specs.Prelude.{List, [], ◌∷◌, length, reverse, take, drop}
+use Rattle.std.specs.Prelude.{Option, Some, None, slice_get, Result, Ok, Err}
+use Rattle.kb_context.specs.Reading.{◌>>=◌, ◌>>◌, seen, unless, guard}
+use Rattle.kb_core.specs.declared.arg.Kind.{Kind}
+use Rattle.kb_core.specs.declared.arg.Kind.TheVariants as kind
+use Rattle.kb_core.specs.declared.parameter.Param.{Param}
+use Rattle.kb_core.specs.Declaration.{Declaration}
+use Rattle.kb_code.specs.declared.instr.Instr.{Instr}
+use Rattle.kb_code.specs.declared.instr.Instr.TheVariants as i
+use Rattle.kb_code.specs.Handler.{HandlerData}
+use Rattle.kb_verify.specs.declared.fault.Defect.{Defect}
+use Rattle.kb_verify.specs.declared.fault.Defect.TheVariants as defect
+use Rattle.kb_verify.specs.Callable.{Commands, declaration_at}
+
+-- whether what takes operands of the first kind takes one of the second
+abbrev pub takes : Kind → Kind → Bool
+takes kind.Any k = true
+takes kind.Text kind.Text = true
+takes kind.Number kind.Number = true
+takes kind.Truth kind.Truth = true
+takes _ _ = false
+
+-- the same of a list of parameters
+abbrev pub takes_each : List Param → List Kind → Bool
+takes_each [] [] = true
+takes_each (p ∷ ps) (k ∷ ks) = takes p.kind k && takes_each ps ks
+takes_each _ _ = false
+
+-- a shape, or what is wrong
+abbrev pub Checked : Type 0
+Checked = Result (List Kind) Defect
+
+-- a kind on top, where something stands at its index
+abbrev pub with_text : Option (List ℕ) → Kind → List Kind → Checked
+with_text None k ks = Err defect.WrongOperand
+with_text (Some text) k ks = Ok (k ∷ ks)
+
+abbrev pub with_param : Option Param → List Kind → Checked
+with_param None ks = Err defect.WrongOperand
+with_param (Some p) ks = Ok (p.kind ∷ ks)
+
+abbrev pub doubled : List Kind → Checked
+doubled [] = Err defect.MissingOperand
+doubled (x ∷ ks) = Ok (x ∷ x ∷ ks)
+
+abbrev pub swapped : List Kind → Checked
+swapped (y ∷ x ∷ ks) = Ok (x ∷ y ∷ ks)
+swapped _ = Err defect.MissingOperand
+
+-- without the topmost one or two, of a kind
+abbrev pub without_one : Kind → List Kind → Checked
+without_one k [] = Err defect.MissingOperand
+without_one k (x ∷ ks) = if takes k x then Ok ks else Err defect.WrongOperand
+
+abbrev pub without_two : Kind → List Kind → Checked
+without_two k (y ∷ x ∷ ks) = if takes k y && takes k x then Ok ks else Err defect.WrongOperand
+without_two k _ = Err defect.MissingOperand
+
+-- without the arguments of a command, the last on top
+abbrev pub without_args : Option Declaration → List Kind → Checked
+without_args None ks = Err defect.UnknownCommand
+without_args (Some d) ks =
+    if nat_lt (length ks) (length d.params) then Err defect.MissingOperand
+    else if takes_each d.params (reverse (take (length d.params) ks)) then Ok (drop (length d.params) ks)
+    else Err defect.WrongArgument
+
+-- a kind put on what was left
+abbrev pub put : Kind → Checked → Checked
+put k left = seen (λ ks. k ∷ ks) left
+
+-- what an instruction makes of a shape
+abbrev pub effect : Commands → HandlerData → Instr → List Kind → Checked
+effect commands h i.Return ks = Ok ks
+effect commands h (i.Text n) ks = with_text (slice_get h.texts n) kind.Text ks
+effect commands h (i.Num n) ks = Ok (kind.Number ∷ ks)
+effect commands h (i.Truth b) ks = Ok (kind.Truth ∷ ks)
+effect commands h (i.Arg n) ks = with_param (slice_get h.signature.params n) ks
+effect commands h i.Drop ks = without_one kind.Any ks
+effect commands h i.Dup ks = doubled ks
+effect commands h i.Swap ks = swapped ks
+effect commands h i.Add ks = put kind.Number (without_two kind.Number ks)
+effect commands h i.Sub ks = put kind.Number (without_two kind.Number ks)
+effect commands h i.Less ks = put kind.Truth (without_two kind.Number ks)
+effect commands h i.Same ks = put kind.Truth (without_two kind.Any ks)
+effect commands h i.Not ks = put kind.Truth (without_one kind.Truth ks)
+effect commands h i.Join ks = put kind.Text (without_two kind.Text ks)
+effect commands h i.Show ks = put kind.Text (without_one kind.Any ks)
+effect commands h i.Size ks = put kind.Number (without_one kind.Text ks)
+effect commands h i.IsTrue ks = put kind.Truth (without_one kind.Any ks)
+effect commands h i.Number ks = put kind.Number (without_one kind.Any ks)
+effect commands h (i.Jump to) ks = Ok ks
+effect commands h (i.JumpIfFalse to) ks = without_one kind.Truth ks
+effect commands h (i.Call n) ks = without_args (declaration_at commands h n) ks
+effect commands h (i.Context n) ks = with_text (slice_get h.texts n) kind.Any ks
+effect commands h i.Before ks = Ok (kind.Number ∷ ks)
+effect commands h i.After ks = Ok (kind.Number ∷ ks)
+
+-- a jump goes to a later place of the code, and the next place is within the code
+abbrev pub jumps_on : ℕ → ℕ → ℕ → Result ⊤ Defect
+jumps_on size place to = guard defect.BadJump (nat_lt place to && nat_lt to size)
+
+abbrev pub falls_on : ℕ → ℕ → Result ⊤ Defect
+falls_on size place = guard defect.FallsOff (nat_lt (suc place) size)
+
+-- where an instruction leads is right
+abbrev pub leads : ℕ → ℕ → Instr → Result ⊤ Defect
+leads size place i.Return = Ok tt
+leads size place (i.Jump to) = jumps_on size place to
+leads size place (i.JumpIfFalse to) = jumps_on size place to >> falls_on size place
+leads size place _ = falls_on size place
+
+-- what is behind an instruction: its operands come first, then where it leads, then that 64 have room
+abbrev pub check : Commands → HandlerData → ℕ → List Kind → Instr → Checked
+check commands h place ks instr =
+    effect commands h instr ks >>= (λ after.
+    leads (length h.code) place instr >> unless defect.TooHigh (nat_le (length after) 64) after)

@@ -1,0 +1,46 @@
+-- What each fault says of a handler.
+use Rattle.std.specs.Prelude.{◌≡◌, ℕ, ◌<◌, ◌⊎◌, length}
+use Rattle.kb_context.specs.declared.failure.Failure.{Failure}
+use Rattle.kb_context.specs.declared.failure.Failure.TheVariants.{NoMemory, Fault}
+use Rattle.kb_code.specs.Handler.{HandlerData}
+use Rattle.kb_verify.specs.declared.fault.Defect.{Defect}
+use Rattle.kb_verify.specs.declared.fault.Defect.TheVariants as defect
+use Rattle.kb_verify.specs.declared.fault.VerifyFault.{VerifyFault}
+use Rattle.kb_verify.specs.declared.fault.VerifyFault.TheVariants.{Wrong, OverBudget, OverDepth}
+use Rattle.kb_verify.specs.Callable.{Commands}
+use Rattle.kb_verify.specs.Shapes.{HasShapes, IsFirstWrong}
+use Rattle.kb_verify.specs.Paths.{IsWithinBudget, IsOverBudget}
+use Rattle.kb_verify.specs.Accepted.{IsFirstTooDeep}
+
+-- without code the first place is where it falls off
+abbrev pub IsEmpty : HandlerData → Defect → ℕ → Type 0
+IsEmpty h wrong place = (length h.code ≡ 0) × (wrong ≡ defect.FallsOff) × (place ≡ 0)
+
+-- each fault is the first, where shapes come before the budget, and the budget before the depth
+abbrev pub IsFault : Commands → HandlerData → VerifyFault → Type 0
+IsFault commands h (Wrong wrong place) = IsEmpty h wrong place ⊎ IsFirstWrong commands h place wrong
+IsFault commands h (OverBudget path) = HasShapes commands h × IsOverBudget commands h path
+IsFault commands h (OverDepth place) =
+    HasShapes commands h × IsWithinBudget commands h × IsFirstTooDeep commands h place
+
+-- a handler has the fault, or memory was refused; without code none is taken
+abbrev pub IsFailure : Commands → HandlerData → Failure VerifyFault → Type 0
+IsFailure commands h NoMemory = 0 < length h.code
+IsFailure commands h (Fault fault) = IsFault commands h fault
+
+-- the same fault, where a path may be any that costs too much
+abbrev pub IsSameFault : VerifyFault → VerifyFault → Type 0
+IsSameFault (Wrong d p) (Wrong e q) = (d ≡ e) × (p ≡ q)
+IsSameFault (OverBudget path) (OverBudget other) = Unit {0}
+IsSameFault (OverDepth p) (OverDepth q) = p ≡ q
+IsSameFault _ _ = ⊥
+
+-- a fault, and not refused memory
+abbrev pub IsTrueFault : Failure VerifyFault → Type 0
+IsTrueFault NoMemory = ⊥
+IsTrueFault (Fault fault) = Unit {0}
+
+-- the defect of a check, at its place
+abbrev pub failure_at : ℕ → Failure Defect → Failure VerifyFault
+failure_at place NoMemory = NoMemory
+failure_at place (Fault wrong) = Fault (Wrong wrong place)

@@ -1,0 +1,9 @@
+pub mod Fault
+pub mod Callable
+pub mod Check
+pub mod Shapes
+pub mod Paths
+pub mod Accepted
+pub mod Faults
+pub mod Marks
+pub mod Costs

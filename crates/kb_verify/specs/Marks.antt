@@ -1,0 +1,94 @@
+-- The marks of the pass forward.
+use Rattle.std.specs.Prelude.{◌≡◌, ℕ, suc, ◌<◌, ◌≢◌, ◌⊎◌, List, [], length, Some, Ok}
+use Rattle.std.specs.Prelude.{slice_get, slice_set, slice_index_or}
+use Rattle.kb_core.specs.declared.arg.Kind.{Kind}
+use Rattle.kb_code.specs.declared.instr.Instr.{Instr}
+use Rattle.kb_code.specs.declared.exits.Exits.{Exits}
+use Rattle.kb_code.specs.declared.exits.Exits.TheVariants.{Stop, One, Two}
+use Rattle.kb_code.specs.Exits.{exits_of}
+use Rattle.kb_code.specs.Handler.{HandlerData}
+use Rattle.kb_code.specs.Reachable.{Follows, Reachable}
+use Rattle.kb_verify.specs.declared.forward.Mark.{Mark}
+use Rattle.kb_verify.specs.declared.forward.Mark.TheVariants as mark
+use Rattle.kb_verify.specs.Callable.{Commands}
+use Rattle.kb_verify.specs.Check.{check}
+
+abbrev pub mark_at : List Mark → ℕ → Mark
+mark_at ms p = slice_index_or ms p mark.Unreached
+
+-- a mark has been given this shape, and perhaps others
+abbrev pub HasBeen : Mark → List Kind → Type 0
+HasBeen m after = (m ≡ mark.Has after) ⊎ (m ≡ mark.Differs)
+
+-- a mark, and then a shape
+abbrev pub Meets : Mark → List Kind → Mark → Type 0
+Meets mark.Unreached after n = n ≡ mark.Has after
+Meets (mark.Has before) after n =
+    ((before ≡ after) × (n ≡ mark.Has before)) ⊎ ((before ≢ after) × (n ≡ mark.Differs))
+Meets mark.Differs after n = n ≡ mark.Differs
+
+-- a shape flows to a place
+abbrev pub FlowsTo : List Mark → ℕ → List Kind → List Mark → Type 0
+FlowsTo ms to after ns = (m : Mark) × Meets (mark_at ms to) after m × (ns ≡ slice_set ms to m)
+
+-- a shape flows from an instruction
+abbrev pub FlowsFrom : Exits → List Mark → List Kind → List Mark → Type 0
+FlowsFrom Stop ms after ns = ns ≡ ms
+FlowsFrom (One q) ms after ns = FlowsTo ms q after ns
+FlowsFrom (Two q r) ms after ns = (ks : List Mark) × FlowsTo ms q after ks × FlowsTo ks r after ns
+
+-- a place is an exit, exits are within so many places, and later than a place
+abbrev pub IsExit : Exits → ℕ → Type 0
+IsExit Stop q = ⊥
+IsExit (One a) q = q ≡ a
+IsExit (Two a b) q = (q ≡ a) ⊎ (q ≡ b)
+
+abbrev pub AreWithin : Exits → ℕ → Type 0
+AreWithin Stop size = Unit {0}
+AreWithin (One q) size = q < size
+AreWithin (Two q r) size = (q < size) × (r < size)
+
+abbrev pub AreLater : Exits → ℕ → Type 0
+AreLater Stop p = Unit {0}
+AreLater (One q) p = p < q
+AreLater (Two q r) p = (p < q) × (p < r)
+
+-- each instruction that is reached leads to later places of the code
+pub record LeadsOn (code : List Instr) : Type 0 where
+  pub later : (p : ℕ) (i : Instr) → Reachable code p → slice_get code p ≡ Some i →
+      AreLater (exits_of (suc p) i) p
+  pub within : (p : ℕ) (i : Instr) → Reachable code p → slice_get code p ≡ Some i →
+      AreWithin (exits_of (suc p) i) (length code)
+
+-- a shape was sent to a place, at the start or by one of the places that were looked at
+pub data Sent (commands : Commands) (h : HandlerData) (i : ℕ) (ms : List Mark) :
+    ℕ → List Kind → Type 0 where
+  starts : Sent commands h i ms 0 []
+  flows : {p q : ℕ} {before after : List Kind} → p < i → mark_at ms p ≡ mark.Has before →
+      (f : Follows h.code p q) → check commands h p before f.instr ≡ Ok after →
+      Sent commands h i ms q after
+
+-- what was sent explains a mark
+abbrev pub Explains : Commands → HandlerData → ℕ → List Mark → ℕ → Mark → Type 0
+Explains commands h i ms q mark.Unreached = Unit {0}
+Explains commands h i ms q (mark.Has ks) = Sent commands h i ms q ks
+Explains commands h i ms q mark.Differs =
+    (a : List Kind) × (b : List Kind) × Sent commands h i ms q a × Sent commands h i ms q b × (a ≢ b)
+
+-- what is known of a place that was looked at
+pub record Looked (commands : Commands) (h : HandlerData) (ms : List Mark) (p : ℕ) : Type 0 where
+  pub before : List Kind
+  pub after : List Kind
+  pub instr : Instr
+  pub has : mark_at ms p ≡ mark.Has before
+  pub at : slice_get h.code p ≡ Some instr
+  pub right : check commands h p before instr ≡ Ok after
+  pub flows : (q : ℕ) → IsExit (exits_of (suc p) instr) q → HasBeen (mark_at ms q) after
+
+-- the marks, where all places below i were looked at
+pub record IsMarked (commands : Commands) (h : HandlerData) (i : ℕ) (ms : List Mark) : Type 0 where
+  pub size : length ms ≡ length h.code
+  pub root : HasBeen (mark_at ms 0) []
+  pub reached : (p : ℕ) → mark_at ms p ≢ mark.Unreached → Reachable h.code p
+  pub looked : (p : ℕ) → p < i → mark_at ms p ≢ mark.Unreached → Looked commands h ms p
+  pub explained : (p : ℕ) → Explains commands h i ms p (mark_at ms p)

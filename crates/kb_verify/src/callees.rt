@@ -1,0 +1,82 @@
+//! The callees, and how deep they nest.
+ghost use Rattle.std.specs.Prelude.{◌≡◌, ◌<◌, length, MatchOption, MatchResult};
+ghost use Rattle.kb_code.specs.Reachable.{Calls};
+ghost use Rattle.kb_verify.specs.Accepted.{AreCallees, IsCallee, IsShallow};
+ghost use Rattle.kb_verify.specs.Faults.{IsFailure};
+ghost use Rattle.kb_verify.specs.Marks.{IsMarked};
+ghost use Rattle.kb_verify.specs.Paths.{IsWithinBudget};
+ghost use Rattle.kb_verify.specs.Shapes.{HasShapes};
+
+use crate::callable::{Callable, SharedSignature};
+use crate::check::signature_at;
+use crate::fault::VerifyFault;
+use crate::forward::Mark;
+use kb_code::{Handler, Instr};
+use kb_context::{Failure, Seq};
+use std::alloc::Global;
+
+/// A command that a handler calls. Its name isn't copied: it is that of the handler's list of calls at the
+/// index.
+#[derive(Drop)]
+pub struct Callee {
+    /// The index of the command's name in the handler's list of calls.
+    pub index: u16,
+    /// What the command declared when the handler was verified.
+    pub signature: SharedSignature,
+}
+
+/// The callees, or the first call that nests too deep.
+pub(crate) fn shallow_callees(
+    alloc: Global,
+    callable: &Callable,
+    handler: &Handler,
+    marks: &[Mark],
+) -> Result<Seq<Callee>, Failure<VerifyFault>>
+    requires marked { IsMarked callable.now handler.now (length handler.now.code) marks.now }
+    requires some_code { 0 < length handler.now.code }
+    requires shapes { HasShapes callable.now handler.now }
+    requires within_budget { IsWithinBudget callable.now handler.now }
+    ensures { MatchResult result
+        (λ callees. AreCallees callable.now handler.now callees × IsShallow callable.now handler.now)
+        (λ failure. IsFailure callable.now handler.now failure) }
+{
+    let mut callees = Vec::new(alloc);
+    for place in 0..handler.code().len() {
+        if let Some((index, signature)) = callee_at(callable, handler, marks, place) {
+            if signature.as_signature().depth() >= handler.signature().depth() {
+                return Err(Failure::Fault(VerifyFault::OverDepth(place)));
+            }
+            callees.push(Callee {
+                index,
+                signature: signature.share()?,
+            })?;
+        }
+    }
+    Ok(Seq::from_vec(callees))
+}
+
+/// The callee at a place, if a call stands there and is reached.
+fn callee_at<'a>(
+    callable: &'a Callable,
+    handler: &Handler,
+    marks: &[Mark],
+    place: usize,
+) -> Option<(u16, &'a SharedSignature)>
+    requires marked { IsMarked callable.now handler.now (length handler.now.code) marks.now }
+    requires shapes { HasShapes callable.now handler.now }
+    requires within { place < length handler.now.code }
+    ensures { MatchOption result
+        ((index : _) → Calls handler.now place index → ⊥)
+        (λ found. IsCallee callable.now handler.now place found.0 found.1.now) }
+{
+    if let Mark::Unreached = &marks[place] {
+        return None;
+    }
+    let Instr::Call(index) = handler.code()[place] else {
+        return None;
+    };
+    match signature_at(callable, handler, index) {
+        Some(signature) => Some((index, signature)),
+        None => None,
+    }
+}

@@ -1,0 +1,156 @@
+//! One pass forward, for the shapes.
+ghost use Rattle.std.specs.Prelude.{◌≡◌, ◌<◌, ◌+◌, ◌-◌, ◌^◌, ◌∷◌, [], suc, length, replicate};
+ghost use Rattle.std.specs.Prelude.{IfOk, OnOk, MatchResult};
+ghost use Rattle.kb_code.specs.Exits.{exits_of};
+ghost use Rattle.kb_verify.specs.Faults.{IsFailure, failure_at};
+ghost use Rattle.kb_verify.specs.Marks.{AreWithin, FlowsFrom, FlowsTo, IsMarked, Meets};
+
+use crate::callable::Callable;
+use crate::check::check_instr;
+use crate::fault::{Defect, VerifyFault};
+use crate::shape::Shape;
+use kb_code::{Exits, Handler, Instr};
+use kb_context::{Failure, NoMemory};
+use std::alloc::Global;
+use std::mem;
+
+/// What came to a place: no shape yet, one, or two that differ.
+#[derive(Debug, Drop)]
+pub(crate) enum Mark {
+    Unreached,
+    Has(Shape),
+    Differs,
+}
+
+/// The shapes of all places that are reached, or the first place that is wrong.
+pub(crate) fn assign(
+    alloc: Global,
+    callable: &Callable,
+    handler: &Handler,
+) -> Result<Vec<Mark>, Failure<VerifyFault>>
+    requires { 0 < length handler.now.code }
+    ensures { MatchResult result
+        (λ marks. IsMarked callable.now handler.now (length handler.now.code) marks.items)
+        (λ failure. IsFailure callable.now handler.now failure) }
+{
+    let size = handler.code().len();
+    let mut marks = blank(alloc, size)?;
+    for place in 0..size {
+        look(alloc, callable, handler, &mut marks, place)?;
+    }
+    Ok(marks)
+}
+
+/// The marks of so many places before any is looked at: no operand stands at the first.
+fn blank(alloc: Global, size: usize) -> Result<Vec<Mark>, NoMemory>
+    requires { 0 < size }
+    ensures { IfOk result (λ marks. marks.items ≡ Mark.Has [] ∷ replicate (size - 1) Mark.Unreached) }
+{
+    let mut marks = Vec::with_capacity(alloc, size)?;
+    marks.push(Mark::Has(Shape::new(alloc)))?;
+    for _ in 1..size {
+        marks.push(Mark::Unreached)?;
+    }
+    Ok(marks)
+}
+
+/// Looks at a place, and lets the shape behind it flow on.
+fn look(
+    alloc: Global,
+    callable: &Callable,
+    handler: &Handler,
+    marks: &mut Vec<Mark>,
+    place: usize,
+) -> Result<(), Failure<VerifyFault>>
+    requires size { length marks.old.items ≡ length handler.now.code }
+    requires within { place < length handler.now.code }
+    ensures marked { IsMarked callable.now handler.now place marks.old.items → MatchResult result
+        (λ _. IsMarked callable.now handler.now (place + 1) marks.new.items)
+        (λ failure. IsFailure callable.now handler.now failure) }
+    ensures size { length marks.new.items ≡ length handler.now.code }
+{
+    let instr = handler.code()[place];
+    let checked = match &marks[place] {
+        Mark::Unreached => return Ok(()),
+        Mark::Differs => return Err(Failure::Fault(VerifyFault::Wrong(
+            Defect::ShapesDiffer,
+            place,
+        ))),
+        Mark::Has(shape) => check_instr(alloc, callable, handler, place, shape, instr),
+    };
+    match checked {
+        Ok(after) => {
+            flow_from(alloc, marks, exits_at(instr, place), after)?;
+            Ok(())
+        }
+        Err(failure) => Err(failure_at(place, failure)),
+    }
+}
+
+/// Why a check gave nothing, at its place.
+fn failure_at(place: usize, failure: Failure<Defect>) -> Failure<VerifyFault>
+    ensures { result ≡ failure_at place failure }
+{
+    match failure {
+        Failure::NoMemory => Failure::NoMemory,
+        Failure::Fault(defect) => Failure::Fault(VerifyFault::Wrong(defect, place)),
+    }
+}
+
+/// The exits of an instruction at a place.
+pub(crate) fn exits_at(instr: Instr, place: usize) -> Exits
+    requires { place + 1 < 2 ^ 64 }
+    ensures { result ≡ exits_of (suc place) instr }
+{
+    Exits::of(instr, place + 1)
+}
+
+/// A shape flows to all exits.
+fn flow_from(
+    alloc: Global,
+    marks: &mut Vec<Mark>,
+    exits: Exits,
+    after: Shape,
+) -> Result<(), NoMemory>
+    requires { AreWithin exits (length marks.old.items) }
+    ensures flows { OnOk result (FlowsFrom exits marks.old.items after marks.new.items) }
+    ensures size { length marks.new.items ≡ length marks.old.items }
+{
+    match exits {
+        Exits::Stop => {}
+        Exits::One(next) => flow_to(marks, next, after),
+        Exits::Two(next, target) => {
+            let copy = after.copied(alloc)?;
+            flow_to(marks, next, copy);
+            flow_to(marks, target, after);
+        }
+    }
+    Ok(())
+}
+
+/// A shape flows to a place.
+fn flow_to(marks: &mut Vec<Mark>, to: usize, after: Shape)
+    requires { to < length marks.old.items }
+    ensures flows { FlowsTo marks.old.items to after marks.new.items }
+    ensures size { length marks.new.items ≡ length marks.old.items }
+{
+    let mark = mem::replace(&mut marks[to], Mark::Unreached);
+    marks[to] = meet(mark, after);
+}
+
+/// A mark, where one more shape comes.
+fn meet(mark: Mark, after: Shape) -> Mark
+    ensures { Meets mark after result }
+{
+    match mark {
+        Mark::Unreached => Mark::Has(after),
+        Mark::Has(before) => {
+            if before.is_same(&after) {
+                Mark::Has(before)
+            } else {
+                Mark::Differs
+            }
+        }
+        Mark::Differs => Mark::Differs,
+    }
+}

@@ -1,0 +1,121 @@
+//! Handlers that are accepted.
+ghost use Rattle.std.specs.Prelude.{◌≡◌, ◌<◌, length, MatchResult, IfOk, IfErr};
+ghost use Rattle.kb_verify.specs.Accepted.{AreCallees, IsAccepted};
+ghost use Rattle.kb_verify.specs.Callable.{Commands};
+ghost use Rattle.kb_verify.specs.Faults.{IsFailure, IsTrueFault};
+ghost use Rattle.kb_verify.specs.Paths.{IsWithinBudget};
+ghost use Rattle.kb_verify.specs.Shapes.{HasShapes};
+
+use crate::backward::{dearest_costs, dearest_path};
+use crate::callable::Callable;
+use crate::callees::{Callee, shallow_callees};
+use crate::fault::{Defect, VerifyFault};
+use crate::forward::assign;
+use kb_code::Handler;
+use kb_context::{Failure, Seq};
+use std::alloc::Global;
+use std::marker::Model;
+
+/// A handler that is accepted against some commands that it may call, with its callees as these commands
+/// declare them.
+#[derive(Drop)]
+pub struct Verified {
+    handler: Handler,
+    callees: Seq<Callee>,
+}
+
+impl Model for Verified {
+    ghost use Rattle.kb_verify.specs.Accepted.{AreCallees, CheckedHandler, IsAccepted};
+    ghost use Rattle.kb_verify.specs.Callable.{Commands};
+
+    ghost Value = { CheckedHandler };
+
+    ghost view = { λ v. record { handler = v.handler; callees = v.callees } };
+
+    ghost invariant = { λ v. (commands : Commands) × IsAccepted commands v.handler
+        × AreCallees commands v.handler v.callees };
+}
+
+impl Verified {
+    /// The handler.
+    pub fn handler(&self) -> &Handler
+        ensures { result.now ≡ self.now.handler }
+    {
+        &self.handler
+    }
+
+    /// The callees: one for each call at a place that is reached, in order of place.
+    pub fn callees(&self) -> &[Callee]
+        ensures callees { result.now ≡ self.now.callees }
+        ensures accepted { (commands : Commands) × IsAccepted commands self.now.handler
+            × AreCallees commands self.now.handler self.now.callees }
+    {
+        self.callees.as_slice()
+    }
+
+    /// The handler, given back.
+    pub fn into_handler(self) -> Handler
+        ensures { result ≡ self.handler }
+    {
+        let Verified { handler, .. } = self;
+        handler
+    }
+}
+
+/// Takes a handler that is accepted against the commands that it may call, and hands any other back with its
+/// first fault (our decision: shapes, 60 to 67, come before the budget, 69, and that before the depth, 68).
+/// It is linear in the code. Refused memory hands the handler back too; no handler without code is refused
+/// for that.
+pub fn verify(
+    alloc: Global,
+    handler: Handler,
+    callable: &Callable,
+) -> Result<Verified, (Handler, Failure<VerifyFault>)>
+    ensures accepts { MatchResult result (λ v. IsAccepted callable.now handler)
+        (λ e. IsTrueFault e.1 → IsAccepted callable.now handler → ⊥) }
+    ensures handler { MatchResult result (λ v. v.handler ≡ handler) (λ e. e.0 ≡ handler) }
+    ensures callees { IfOk result (λ v. AreCallees callable.now handler v.callees) }
+    ensures fault { IfErr result (λ e. IsFailure callable.now handler e.1) }
+{
+    match examine(alloc, callable, &handler) {
+        Ok(callees) => Ok(Verified { handler, callees }),
+        Err(failure) => Err((handler, failure)),
+    }
+}
+
+/// The callees of a handler that is accepted.
+fn examine(
+    alloc: Global,
+    callable: &Callable,
+    handler: &Handler,
+) -> Result<Seq<Callee>, Failure<VerifyFault>>
+    ensures { MatchResult result
+        (λ callees. IsAccepted callable.now handler.now × AreCallees callable.now handler.now callees)
+        (λ failure. IsFailure callable.now handler.now failure) }
+{
+    if handler.code().is_empty() {
+        return Err(Failure::Fault(VerifyFault::Wrong(Defect::FallsOff, 0)));
+    }
+    let marks = assign(alloc, callable, handler)?;
+    check_budget(alloc, callable, handler)?;
+    shallow_callees(alloc, callable, handler, marks.as_slice())
+}
+
+/// Whether each path is within the budget.
+fn check_budget(
+    alloc: Global,
+    callable: &Callable,
+    handler: &Handler,
+) -> Result<(), Failure<VerifyFault>>
+    requires some_code { 0 < length handler.now.code }
+    requires shapes { HasShapes callable.now handler.now }
+    ensures { MatchResult result (λ _. IsWithinBudget callable.now handler.now)
+        (λ failure. IsFailure callable.now handler.now failure) }
+{
+    let costs = dearest_costs(alloc, callable, handler)?;
+    if costs[0] <= u64::from(handler.signature().budget()) {
+        return Ok(());
+    }
+    let path = dearest_path(alloc, callable, handler, costs.as_slice())?;
+    Err(Failure::Fault(VerifyFault::OverBudget(path)))
+}
