@@ -1,4 +1,5 @@
 pub mod Fault
+pub mod Codes
 pub mod Live
 pub mod Links
 pub mod Names

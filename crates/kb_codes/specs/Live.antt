@@ -7,17 +7,18 @@ use Rattle.kb_core.specs.contracts.native.NativePartialEq.TheImpl as equality
 use Rattle.kb_core.specs.Native.{named}
 use Rattle.kb_code.specs.Handler.{HandlerData}
 use Rattle.kb_code.specs.Callees.{callees_of}
+use Rattle.kb_codes.specs.Codes.{CodesData}
 use Rattle.kb_codes.specs.declared.fault.CodesFault.{CodesFault}
 use Rattle.kb_codes.specs.declared.fault.CodesFault.TheVariants.{AlreadyExists}
 
--- the live handlers of an extension, in file order; extensions are numbered in load order, from 0
+-- the live code of an extension; extensions are numbered in load order, from 0
 pub record Group : Type 0 where
   pub extension : ℕ
-  pub handlers : List HandlerData
+  pub codes : CodesData
 
 -- all live handlers, in load and file order
 abbrev pub handlers_in : List Group → List HandlerData
-handlers_in groups = flat_map (λ g. g.handlers) groups
+handlers_in groups = flat_map (λ g. g.codes.handlers) groups
 
 -- the first handler of a name
 abbrev pub handler_named : List ℕ → List HandlerData → Option HandlerData
@@ -41,19 +42,18 @@ abbrev pub codes_fault : List HandlerData → List Group → Option CodesFault
 codes_fault handlers groups =
     if has_taken (handlers_in groups) handlers then Some AlreadyExists else None
 
--- the handlers of an extension, where it holds a group
-abbrev pub group_of : ℕ → List Group → Option (List HandlerData)
-group_of extension groups = option_map (λ g. g.handlers) (find (λ g. nat_eq g.extension extension) groups)
+-- the code of an extension, where it holds a group
+abbrev pub group_of : ℕ → List Group → Option CodesData
+group_of extension groups = option_map (λ g. g.codes) (find (λ g. nat_eq g.extension extension) groups)
 
 -- with a group more, in load order
 abbrev pub with_group : Group → List Group → List Group
 with_group new [] = new ∷ []
 with_group new (g ∷ gs) = if nat_lt new.extension g.extension then new ∷ g ∷ gs else g ∷ with_group new gs
 
--- with the handlers of an extension
-abbrev pub with_handlers : ℕ → List HandlerData → List Group → List Group
-with_handlers extension handlers groups =
-    with_group (record { extension = extension; handlers = handlers }) groups
+-- with the code of an extension
+abbrev pub with_codes : ℕ → CodesData → List Group → List Group
+with_codes extension codes groups = with_group (record { extension = extension; codes = codes }) groups
 
 -- without the group of an extension
 abbrev pub without_group : ℕ → List Group → List Group

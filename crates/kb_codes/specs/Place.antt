@@ -8,5 +8,5 @@ abbrev pub IsPlaceOf : ℕ → List Group → Option ℕ → Type 0
 IsPlaceOf extension groups place =
     MatchOption place ((group_of extension groups ≡ None) × (without_group extension groups ≡ groups))
     (λ i. (i < length groups)
-    × (group_of extension groups ≡ option_map (λ g. g.handlers) (slice_get groups i))
+    × (group_of extension groups ≡ option_map (λ g. g.codes) (slice_get groups i))
     × (without_group extension groups ≡ remove groups i))

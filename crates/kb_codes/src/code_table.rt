@@ -5,7 +5,7 @@ ghost use Rattle.std.specs.List.{AllZip};
 ghost use Rattle.kb_context.specs.Failure.{IsRefusal, IsRefusalOrMemory};
 ghost use Rattle.kb_codes.specs.Group.{IsGroup, FindsFirst, is_kept};
 ghost use Rattle.kb_codes.specs.Live.{handlers_in, handler_named, is_reserved, codes_fault};
-ghost use Rattle.kb_codes.specs.Live.{group_of, with_group, with_handlers, without_group, caller_of};
+ghost use Rattle.kb_codes.specs.Live.{group_of, with_group, without_group, caller_of};
 ghost use Rattle.kb_codes.specs.Live.{Group as GroupData};
 ghost use Rattle.kb_codes.specs.Place.{IsPlaceOf};
 ghost use Rattle.kb_context.specs.declared.failure.Failure.TheVariants as failure;
@@ -23,7 +23,7 @@ use std::alloc::Global;
 use std::marker::Model;
 
 /// The live handlers, by the extension that brought them and by name. Contracts see the groups of the
-/// extensions in load order, each with its handlers in file order.
+/// extensions in load order, each with its code.
 #[derive(Drop)]
 pub struct CodeTable {
     alloc: Global,
@@ -89,26 +89,20 @@ impl CodeTable {
         None
     }
 
-    /// Makes an extension's handlers live. They are handed back where one has a name that is taken, or where
-    /// memory is refused and none has; then the table stays as it was.
-    pub fn register(
-        &mut self,
+    /// The code of an extension, ready to be made live. It is handed back where a handler has a name that is
+    /// taken (70), or where memory is refused and none has.
+    pub fn prepare(
+        &self,
         extension: u32,
         codes: Codes,
-    ) -> Result<(), (Codes, Failure<CodesFault>)>
-        ensures free { OnOk result (codes_fault codes self.old ≡ None) }
-        ensures ok { OnOk result (self.new ≡ with_handlers extension codes self.old) }
-        ensures why { IfErr result (λ e. IsRefusalOrMemory (codes_fault codes self.old) e.1) }
+    ) -> Result<Group, (Codes, Failure<CodesFault>)>
+        ensures free { OnOk result (codes_fault codes.handlers self.now ≡ None) }
+        ensures ok { IfOk result (λ group. group ≡ record { extension = extension; codes = codes }) }
+        ensures why { IfErr result (λ e. IsRefusalOrMemory (codes_fault codes.handlers self.now) e.1) }
         ensures back { IfErr result (λ e. e.0 ≡ codes) }
-        ensures err { OnErr result (self.new ≡ self.old) }
     {
         match self.resolved(codes.handlers()) {
-            Ok((links, names)) => self.put(Group::new(
-                extension,
-                codes.into_handlers(),
-                links,
-                names,
-            )),
+            Ok((links, names)) => Ok(Group::new(extension, codes, links, names)),
             Err(Failure::Fault(fault)) => Err((codes, Failure::Fault(fault))),
             Err(Failure::NoMemory) => {
                 let failure = self.failure_of(codes.handlers());
@@ -117,28 +111,28 @@ impl CodeTable {
         }
     }
 
-    /// Puts a group among the others. Its handlers are handed back where memory is refused.
-    fn put(&mut self, group: Group) -> Result<(), (Codes, Failure<CodesFault>)>
+    /// Makes the code of an extension live. It is handed back where memory is refused; then the table stays
+    /// as it was.
+    pub fn put(&mut self, group: Group) -> Result<(), Codes>
         ensures ok { OnOk result (self.new ≡ with_group group self.old) }
-        ensures why { IfErr result (λ e. e.1 ≡ failure.NoMemory) }
-        ensures back { IfErr result (λ e. e.0 ≡ group.handlers) }
+        ensures back { IfErr result (λ back. back ≡ group.codes) }
         ensures err { OnErr result (self.new ≡ self.old) }
     {
         let place = place_for(self.groups.as_slice(), group.extension());
         match self.groups.insert(place, group) {
             Ok(()) => Ok(()),
-            Err(refused) => Err((Codes::raw(refused.value.into_handlers()), Failure::NoMemory)),
+            Err(refused) => Err(refused.value.into_codes()),
         }
     }
 
-    /// Takes the handlers of an extension away and gives them back, or `None` where it holds no group.
+    /// Takes the code of an extension away and gives it back, or `None` where the extension holds no group.
     /// It takes no memory.
     pub fn dispose(&mut self, extension: u32) -> Option<Codes>
         ensures codes { result ≡ group_of extension self.old }
         ensures table { self.new ≡ without_group extension self.old }
     {
         match place_of(self.groups.as_slice(), extension) {
-            Some(place) => Some(Codes::raw(self.groups.remove(place).into_handlers())),
+            Some(place) => Some(self.groups.remove(place).into_codes()),
             None => None,
         }
     }

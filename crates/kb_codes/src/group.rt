@@ -1,24 +1,25 @@
-//! The handlers of an extension, with what is resolved once of them.
-ghost use Rattle.std.specs.Prelude.{◌≡◌, IfOk, find, length, slice_get, option_copied};
+//! The code of an extension, with what is resolved once of it.
+ghost use Rattle.std.specs.Prelude.{◌≡◌, IfOk, find, length, slice_get, option_copied, option_map};
 ghost use Rattle.std.specs.List.{AllZip};
 ghost use Rattle.kb_codes.specs.Group.{IsGroup};
 ghost use Rattle.kb_codes.specs.Links.{AreLinks};
 ghost use Rattle.kb_codes.specs.Live.{handler_named, calls_native};
 
+use crate::codes::Codes;
 use crate::commands::Linked;
 use crate::links::Links;
 use crate::names::Names;
 use kb_code::Handler;
 use kb_context::{NoMemory, Seq};
-use kb_core::Native;
+use kb_core::{Native, Signature};
 use std::alloc::Global;
 use std::marker::Model;
 
-/// The handlers of an extension, which is numbered in load order. Contracts see both.
+/// The code of an extension, which is numbered in load order, ready to be live. Contracts see both.
 #[derive(Drop)]
-pub(crate) struct Group {
+pub struct Group {
     extension: u32,
-    handlers: Seq<Handler>,
+    codes: Codes,
     links: Seq<Links>,
     names: Names,
 }
@@ -29,25 +30,20 @@ impl Model for Group {
 
     ghost Value = { GroupData };
 
-    ghost view = { λ g. record { extension = g.extension; handlers = g.handlers } };
+    ghost view = { λ g. record { extension = g.extension; codes = g.codes } };
 
-    ghost invariant = { λ g. IsGroup g.names g.links g.handlers };
+    ghost invariant = { λ g. IsGroup g.names g.links g.codes.handlers };
 }
 
 impl Group {
     /// A group, with the links and names of its handlers. It takes no memory.
-    pub(crate) fn new(
-        extension: u32,
-        handlers: Seq<Handler>,
-        links: Seq<Links>,
-        names: Names,
-    ) -> Group
-        requires { IsGroup names links handlers }
-        ensures { result ≡ record { extension = extension; handlers = handlers } }
+    pub(crate) fn new(extension: u32, codes: Codes, links: Seq<Links>, names: Names) -> Group
+        requires { IsGroup names links codes.handlers }
+        ensures { result ≡ record { extension = extension; codes = codes } }
     {
         Group {
             extension,
-            handlers,
+            codes,
             links,
             names,
         }
@@ -60,29 +56,47 @@ impl Group {
         self.extension
     }
 
-    /// The handlers, given back. It takes no memory.
-    pub(crate) fn into_handlers(self) -> Seq<Handler>
-        ensures { result ≡ self.handlers }
+    /// The code. It takes no memory.
+    pub fn codes(&self) -> &Codes
+        ensures { result.now ≡ self.now.codes }
     {
-        let Group { handlers, .. } = self;
-        handlers
+        &self.codes
+    }
+
+    /// The code, given back. It takes no memory.
+    pub fn into_codes(self) -> Codes
+        ensures { result ≡ self.codes }
+    {
+        let Group { codes, .. } = self;
+        codes
     }
 
     /// The handler of a name, with its links. It takes no memory.
     pub(crate) fn linked(&self, name: &str) -> Option<Linked<'_>>
-        ensures { result ≡ handler_named name.now self.now.handlers }
+        ensures { result ≡ handler_named name.now self.now.codes.handlers }
     {
         match self.names.place(name) {
-            Some(place) => linked_at(self.handlers.as_slice(), self.links.as_slice(), place),
+            Some(place) => linked_at(self.codes.handlers(), self.links.as_slice(), place),
+            None => None,
+        }
+    }
+
+    /// What the handler of a name declares. It takes no memory.
+    pub fn signature(&self, name: &str) -> Option<&Signature>
+        ensures { option_copied result
+            ≡ option_map (λ h. h.signature) (handler_named name.now self.now.codes.handlers) }
+    {
+        match self.linked(name) {
+            Some(linked) => Some(linked.handler().signature()),
             None => None,
         }
     }
 
     /// The first handler that has the native as a callee. It takes no memory.
     pub(crate) fn caller_of(&self, native: Native) -> Option<&Handler>
-        ensures { option_copied result ≡ find (calls_native native) self.now.handlers }
+        ensures { option_copied result ≡ find (calls_native native) self.now.codes.handlers }
     {
-        caller_in(self.handlers.as_slice(), self.links.as_slice(), native)
+        caller_in(self.codes.handlers(), self.links.as_slice(), native)
     }
 }
 

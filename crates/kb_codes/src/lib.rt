@@ -5,7 +5,7 @@ pub mod code_table;
 pub mod codes;
 pub mod commands;
 pub mod fault;
-mod group;
+pub mod group;
 mod links;
 mod names;
 
@@ -13,3 +13,4 @@ pub use code_table::CodeTable;
 pub use codes::Codes;
 pub use commands::{Commands, Found, Linked};
 pub use fault::CodesFault;
+pub use group::Group;

@@ -6,4 +6,5 @@ pub mod Listed
 pub mod Lists
 pub mod Passes
 pub mod Refutes
+pub mod SameLemmas
 pub mod Swapped

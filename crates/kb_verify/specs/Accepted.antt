@@ -68,3 +68,7 @@ IsSwapped commands other h =
 pub record CheckedHandler : Type 0 where
   pub handler : HandlerData
   pub callees : List Callee
+
+-- the handler was accepted against some commands, and these are its callees, as those declare them
+abbrev pub IsChecked : CheckedHandler → Type 0
+IsChecked v = (commands : Commands) × IsAccepted commands v.handler × AreCallees commands v.handler v.callees

@@ -1,5 +1,6 @@
 pub mod Fault
 pub mod Callable
+pub mod Same
 pub mod Check
 pub mod Shapes
 pub mod Paths

@@ -6,6 +6,7 @@ ghost use Rattle.kb_verify.specs.Accepted.{AreCallees, HasCallee, IsAccepted, Is
 ghost use Rattle.kb_verify.specs.Accepted.{IsNamed, IsSwapped};
 ghost use Rattle.kb_verify.specs.Callable.{Commands};
 ghost use Rattle.kb_verify.specs.Faults.{IsFault, IsSameFault};
+ghost use Rattle.kb_verify.specs.Same.{SameIsEqual};
 ghost use Rattle.kb_verify.specs.declared.callees.Callee.{Callee};
 ghost use Rattle.kb_verify.specs.declared.fault.VerifyFault.{VerifyFault};
 
@@ -35,4 +36,9 @@ pub fn each_callee_is_named()
 pub fn accepted_by_its_callees()
     ensures { (commands other : Commands) (h : HandlerData) → IsAccepted commands h →
         IsSwapped commands other h → IsAccepted other h }
+{}
+
+/// Two commands declare the same exactly where what they declare is equal.
+pub fn same_is_equal()
+    ensures { SameIsEqual }
 {}

@@ -8,6 +8,7 @@ mod check;
 pub mod fault;
 mod forward;
 pub mod laws;
+mod same;
 mod shape;
 pub mod verified;
 

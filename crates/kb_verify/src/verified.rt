@@ -1,7 +1,6 @@
 //! Handlers that are accepted.
 ghost use Rattle.std.specs.Prelude.{◌≡◌, ◌<◌, length, MatchResult, IfOk, IfErr};
-ghost use Rattle.kb_verify.specs.Accepted.{AreCallees, IsAccepted};
-ghost use Rattle.kb_verify.specs.Callable.{Commands};
+ghost use Rattle.kb_verify.specs.Accepted.{AreCallees, IsAccepted, IsChecked};
 ghost use Rattle.kb_verify.specs.Faults.{IsFailure, IsTrueFault};
 ghost use Rattle.kb_verify.specs.Paths.{IsWithinBudget};
 ghost use Rattle.kb_verify.specs.Shapes.{HasShapes};
@@ -47,18 +46,18 @@ impl Verified {
     /// The callees: one for each call at a place that is reached, in order of place.
     pub fn callees(&self) -> &[Callee]
         ensures callees { result.now ≡ self.now.callees }
-        ensures accepted { (commands : Commands) × IsAccepted commands self.now.handler
-            × AreCallees commands self.now.handler self.now.callees }
+        ensures accepted { IsChecked self.now }
     {
         self.callees.as_slice()
     }
 
-    /// The handler, given back.
-    pub fn into_handler(self) -> Handler
-        ensures { result ≡ self.handler }
+    /// The handler and its callees, given back. It takes no memory.
+    pub fn into_parts(self) -> (Handler, Seq<Callee>)
+        ensures handler { result.0 ≡ self.handler }
+        ensures callees { result.1 ≡ self.callees }
     {
-        let Verified { handler, .. } = self;
-        handler
+        let Verified { handler, callees } = self;
+        (handler, callees)
     }
 }
 

@@ -1,0 +1,48 @@
+//! Whether two commands declare the same.
+ghost use Rattle.std.specs.Prelude.{◌≡◌};
+ghost use Rattle.kb_verify.specs.Same.{same_declaration, same_kind, same_params};
+
+use crate::callable::SharedSignature;
+use kb_core::{Kind, Param, Signature};
+
+impl SharedSignature {
+    /// Whether a command's signature is the same: its parameters, with their names, its budget and its depth.
+    /// It takes no memory.
+    pub fn is_same(&self, other: &Signature) -> bool
+        ensures { result ≡ same_declaration self.now other.now }
+    {
+        let own = self.as_signature();
+        own.budget() == other.budget()
+            && own.depth() == other.depth()
+            && same_params(own.params(), other.params())
+    }
+}
+
+/// Whether two lists of parameters are the same.
+fn same_params(own: &[Param], other: &[Param]) -> bool
+    ensures { result ≡ same_params own.now other.now }
+{
+    match own {
+        [] => other.is_empty(),
+        [first, rest @ ..] => match other {
+            [] => false,
+            [other, others @ ..] => {
+                first.name.as_str() == other.name.as_str()
+                    && same_kind(first.kind, other.kind)
+                    && same_params(rest, others)
+            }
+        },
+    }
+}
+
+fn same_kind(own: Kind, other: Kind) -> bool
+    ensures { result ≡ same_kind own other }
+{
+    matches!(
+        (own, other),
+        (Kind::Text, Kind::Text)
+            | (Kind::Number, Kind::Number)
+            | (Kind::Truth, Kind::Truth)
+            | (Kind::Any, Kind::Any)
+    )
+}
