@@ -1,8 +1,9 @@
 -- The code of an extension, verified or not.
 use Rattle.std.specs.Prelude.{List, Option, Some, None, map}
+use Rattle.std.specs.List.{AllZip}
 use Rattle.kb_code.specs.Handler.{HandlerData}
 use Rattle.kb_verify.specs.declared.callees.Callee.{Callee}
-use Rattle.kb_verify.specs.Accepted.{CheckedHandler}
+use Rattle.kb_verify.specs.Accepted.{CheckedHandler, IsChecked}
 
 -- the handlers, in file order; where each was verified, for each its callees, as they were declared then
 pub record CodesData : Type 0 where
@@ -17,3 +18,15 @@ checked verified = record {
   handlers = map (λ v. v.handler) verified;
   callees = Some (map (λ v. v.callees) verified);
 }
+
+-- each handler was accepted against some commands, and has its callees, as those declare them
+abbrev pub EachChecked : List HandlerData → List (List Callee) → Type 0
+EachChecked handlers all = AllZip (λ h callees. IsChecked (record { handler = h; callees = callees })) handlers all
+
+abbrev pub HaveCallees : List HandlerData → Option (List (List Callee)) → Type 0
+HaveCallees handlers None = ⊥
+HaveCallees handlers (Some all) = EachChecked handlers all
+
+-- the code was verified
+abbrev pub AreChecked : CodesData → Type 0
+AreChecked codes = HaveCallees codes.handlers codes.callees

@@ -4,9 +4,9 @@ use Rattle.std.specs.Prelude.{option_map, is_some, Result, Ok, Err, if◌then◌
 use Rattle.std.specs.List.{list_any}
 use Rattle.kb_core.specs.declared.native.Native.{Native}
 use Rattle.kb_core.specs.Native.{named}
-use Rattle.kb_code.specs.Handler.{HandlerData}
 use Rattle.kb_codes.specs.Callee.{Callee, Plain, Coded, Table}
-use Rattle.kb_codes.specs.Live.{Group, handlers_in, handler_named, caller_of, has_taken, with_handlers}
+use Rattle.kb_codes.specs.Codes.{CodesData}
+use Rattle.kb_codes.specs.Live.{Group, handlers_in, handler_named, caller_of, with_codes}
 use Rattle.kb_codes.specs.Live.{without_group, same_native}
 use Rattle.kb_registry.specs.declared.fault.RegistryFault.{RegistryFault}
 use Rattle.kb_registry.specs.declared.fault.RegistryFault.TheVariants.{AlreadyExists, Exhausted, StaleTicket}
@@ -100,18 +100,13 @@ callee identifier live = callee_by (named identifier) identifier live
 abbrev pub table_of : Live → Table
 table_of live = λ identifier. callee identifier live
 
--- with an extension's handlers live
-abbrev pub with_code : ℕ → List HandlerData → Live → Live
-with_code extension handlers live =
-    record live { code = with_handlers extension handlers live.code }
+-- with an extension's code live
+abbrev pub with_code : ℕ → CodesData → Live → Live
+with_code extension codes live = record live { code = with_codes extension codes live.code }
 
--- with an extension's handlers taken away
+-- with an extension's code taken away
 abbrev pub without_code : ℕ → Live → Live
 without_code extension live = record live { code = without_group extension live.code }
-
--- why an extension's handlers can't be live, if they can't
-abbrev pub code_fault : List HandlerData → Live → Option RegistryFault
-code_fault handlers live = if has_taken (handlers_in live.code) handlers then Some AlreadyExists else None
 
 -- what comes next, unless there is a fault
 abbrev pub unless_fault : Option RegistryFault → Result Live RegistryFault → Result Live RegistryFault

@@ -19,6 +19,10 @@ pub enum RegistryFault {
     /// A live handler calls the native of the closure.
     #[error("a live handler calls this native command")]
     InUse = 73,
+    /// A callee of verified code is neither live nor of that code, as it was declared when the code was
+    /// verified.
+    #[error("a command that the code calls is not live as it was declared")]
+    CalleeNotLive = 74,
 }
 
 impl RegistryFault {

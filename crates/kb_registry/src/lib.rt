@@ -3,6 +3,7 @@
 
 pub mod command;
 pub mod fault;
+mod missing;
 pub mod registry;
 
 pub use command::{HostCommand, NativeCommand, Run};

@@ -11,14 +11,17 @@ ghost use Rattle.kb_codes.specs.Found.{callee_of};
 ghost use Rattle.kb_codes.specs.Live.{handlers_in, handler_named, caller_of, group_of, same_native};
 ghost use Rattle.kb_registry.specs.Live.{fresh, is_live, live_native, registration_fault, registered};
 ghost use Rattle.kb_registry.specs.Live.{holder, disposed, disposal_fault, callee, callee_by, table_of};
-ghost use Rattle.kb_registry.specs.Live.{code_fault, with_code, without_code};
+ghost use Rattle.kb_registry.specs.CodeFault.{callee_fault, code_fault};
+ghost use Rattle.kb_registry.specs.Live.{with_code, without_code};
+ghost use Rattle.kb_registry.specs.Missing.{missing_callee};
 ghost use Rattle.kb_registry.specs.Place.{IsPlace};
 
 use crate::command::HostCommand;
 use crate::fault::RegistryFault;
+use crate::missing::Among;
 use indexmap::IndexMap;
 use kb_code::Handler;
-use kb_codes::{CodeTable, Codes, CodesFault, Commands, Found, Linked};
+use kb_codes::{CodeTable, Codes, CodesFault, Commands, Found, Group, Linked};
 use kb_context::{Failure, NoMemory};
 use kb_core::{Args, Core, Native, Ran, Signature};
 use std::alloc::Global;
@@ -339,9 +342,11 @@ impl<C: HostCommand> Registry<C> {
         self.code.handler(command)
     }
 
-    /// Makes the handlers of an extension live, which is numbered in load order. They are handed back as
-    /// refused by 70, where one has the name of a native command, of `runCommands`, or of another handler
-    /// that is live or comes with it, or where memory is refused; then the registry stays as it was.
+    /// Makes the code of an extension live, which is numbered in load order. It is handed back as refused
+    /// where a handler has the name of a native command, of `runCommands`, or of another handler that is live
+    /// or comes with it (70), then where a callee of verified code is neither live nor of that code, as it
+    /// was declared when the code was verified (74), or where memory is refused; then the registry stays as
+    /// it was.
     pub fn register_code(
         &mut self,
         extension: u32,
@@ -353,16 +358,52 @@ impl<C: HostCommand> Registry<C> {
         ensures back { IfErr result (λ e. e.0 ≡ codes) }
         ensures err { OnErr result (self.new ≡ self.old) }
     {
-        match self.code.register(extension, codes) {
-            Ok(()) => Ok(()),
+        match self.code.prepare(extension, codes) {
+            Ok(group) => self.admit_code(group),
             Err((codes, Failure::Fault(CodesFault::AlreadyExists))) => {
                 Err((codes, Failure::Fault(RegistryFault::AlreadyExists)))
             }
-            Err((codes, Failure::NoMemory)) => Err((codes, Failure::NoMemory)),
+            Err((codes, Failure::NoMemory)) => {
+                let failure = self.callee_failure(&codes);
+                Err((codes, failure))
+            }
         }
     }
 
-    /// Takes the handlers of an extension away and gives them back, or `None` where it holds no group.
+    /// Makes code live whose names are free.
+    fn admit_code(&mut self, group: Group) -> Result<(), (Codes, Failure<RegistryFault>)>
+        ensures allowed { OnOk result (callee_fault (missing_callee group.codes self.old) ≡ None) }
+        ensures ok { OnOk result (self.new ≡ with_code group.extension group.codes self.old) }
+        ensures why { let fault = callee_fault (missing_callee group.codes self.old) in
+            IfErr result (λ e. IsRefusalOrMemory fault e.1) }
+        ensures back { IfErr result (λ e. e.0 ≡ group.codes) }
+        ensures err { OnErr result (self.new ≡ self.old) }
+    {
+        let is_missing = self
+            .missing_among(&Among::Group(&group), group.codes())
+            .is_some();
+        if is_missing {
+            let fault = Failure::Fault(RegistryFault::CalleeNotLive);
+            return Err((group.into_codes(), fault));
+        }
+        match self.code.put(group) {
+            Ok(()) => Ok(()),
+            Err(codes) => Err((codes, Failure::NoMemory)),
+        }
+    }
+
+    /// Why code can't be live for which memory was refused: for a callee that is missing, or for want of
+    /// memory.
+    fn callee_failure(&self, codes: &Codes) -> Failure<RegistryFault>
+        ensures { IsRefusalOrMemory (callee_fault (missing_callee codes.now self.now)) result }
+    {
+        match self.missing_callee(codes) {
+            Some(_) => Failure::Fault(RegistryFault::CalleeNotLive),
+            None => Failure::NoMemory,
+        }
+    }
+
+    /// Takes the code of an extension away and gives it back, or `None` where the extension holds none.
     /// It takes no memory.
     pub fn dispose_code(&mut self, extension: u32) -> Option<Codes>
         ensures codes { result ≡ group_of extension self.old.code }
