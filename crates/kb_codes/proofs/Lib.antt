@@ -1,3 +1,4 @@
+pub mod CheckedLemmas
 pub mod GroupLemmas
 pub mod Groups
 pub mod Taken

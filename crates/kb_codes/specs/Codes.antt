@@ -1,5 +1,5 @@
 -- The code of an extension, verified or not.
-use Rattle.std.specs.Prelude.{List, Option, Some, None, map}
+use Rattle.std.specs.Prelude.{⊤, List, Option, Some, None, map}
 use Rattle.std.specs.List.{AllZip}
 use Rattle.kb_code.specs.Handler.{HandlerData}
 use Rattle.kb_verify.specs.declared.callees.Callee.{Callee}
@@ -23,6 +23,11 @@ checked verified = record {
 abbrev pub EachChecked : List HandlerData → List (List Callee) → Type 0
 EachChecked handlers all = AllZip (λ h callees. IsChecked (record { handler = h; callees = callees })) handlers all
 
+-- the same, where callees are kept at all
+abbrev pub CalleesAreChecked : List HandlerData → Option (List (List Callee)) → Type 0
+CalleesAreChecked handlers None = ⊤
+CalleesAreChecked handlers (Some all) = EachChecked handlers all
+
 abbrev pub HaveCallees : List HandlerData → Option (List (List Callee)) → Type 0
 HaveCallees handlers None = ⊥
 HaveCallees handlers (Some all) = EachChecked handlers all
@@ -30,3 +35,10 @@ HaveCallees handlers (Some all) = EachChecked handlers all
 -- the code was verified
 abbrev pub AreChecked : CodesData → Type 0
 AreChecked codes = HaveCallees codes.handlers codes.callees
+
+-- ---- for private functions
+
+-- handlers that were verified, and their callees beside them
+pub record PartsData : Type 0 where
+  pub handlers : List HandlerData
+  pub callees : List (List Callee)

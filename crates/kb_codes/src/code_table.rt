@@ -125,6 +125,16 @@ impl CodeTable {
         }
     }
 
+    /// The code of an extension, lent, or `None` where the extension holds no group. It takes no memory.
+    pub fn codes(&self, extension: u32) -> Option<&Codes>
+        ensures { option_copied result ≡ group_of extension self.now }
+    {
+        match place_of(self.groups.as_slice(), extension) {
+            Some(place) => Some(self.groups[place].codes()),
+            None => None,
+        }
+    }
+
     /// Takes the code of an extension away and gives it back, or `None` where the extension holds no group.
     /// It takes no memory.
     pub fn dispose(&mut self, extension: u32) -> Option<Codes>

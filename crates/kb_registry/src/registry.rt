@@ -12,7 +12,7 @@ ghost use Rattle.kb_codes.specs.Live.{handlers_in, handler_named, caller_of, gro
 ghost use Rattle.kb_registry.specs.Live.{fresh, is_live, live_native, registration_fault, registered};
 ghost use Rattle.kb_registry.specs.Live.{holder, disposed, disposal_fault, callee, callee_by, table_of};
 ghost use Rattle.kb_registry.specs.CodeFault.{callee_fault, code_fault};
-ghost use Rattle.kb_registry.specs.Live.{with_code, without_code};
+ghost use Rattle.kb_registry.specs.Live.{where_live, with_code, without_code};
 ghost use Rattle.kb_registry.specs.Missing.{missing_callee};
 ghost use Rattle.kb_registry.specs.Place.{IsPlace};
 
@@ -326,6 +326,23 @@ impl<C: HostCommand> Registry<C> {
                 None => None,
             },
         }
+    }
+
+    /// What a native declares, or `None` where no closure is live for it. It takes no memory.
+    pub fn native_signature(&self, native: Native) -> Option<&Signature>
+        ensures { option_copied result ≡ option_map declaration_of (where_live (Some native) self.now) }
+    {
+        match self.entry(native) {
+            Some(entry) => Some(&entry.signature),
+            None => None,
+        }
+    }
+
+    /// The code of an extension, lent, or `None` where the extension holds none. It takes no memory.
+    pub fn codes(&self, extension: u32) -> Option<&Codes>
+        ensures { option_copied result ≡ group_of extension self.now.code }
+    {
+        self.code.codes(extension)
     }
 
     /// The live handler of a name, with what its calls are, lent. It takes no memory.

@@ -55,6 +55,7 @@ impl Verified {
     pub fn into_parts(self) -> (Handler, Seq<Callee>)
         ensures handler { result.0 ≡ self.handler }
         ensures callees { result.1 ≡ self.callees }
+        ensures accepted { IsChecked self }
     {
         let Verified { handler, callees } = self;
         (handler, callees)

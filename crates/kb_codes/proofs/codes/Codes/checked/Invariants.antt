@@ -5,7 +5,7 @@ use Rattle.kb_codes.proofs.codes.Codes.checked.Given as goal
 -- those that are left come behind those that were parted
 abbrev pub invariant-loop-verified : goal.invariant-loop-verified
 invariant-loop-verified l =
-    (l.handlers.items ++ map (λ v. v.handler) (into_iter_items l.verified-iterator)
+    (l.parts.handlers ++ map (λ v. v.handler) (into_iter_items l.verified-iterator)
     ≡ map (λ v. v.handler) l.fn.verified)
-    × (l.callees.items ++ map (λ v. v.callees) (into_iter_items l.verified-iterator)
+    × (l.parts.callees ++ map (λ v. v.callees) (into_iter_items l.verified-iterator)
     ≡ map (λ v. v.callees) l.fn.verified)
