@@ -8,4 +8,5 @@ pub mod Callees
 pub mod Stays
 pub mod Disposals
 pub mod Loads
+pub mod Joins
 pub mod SoundRows

@@ -1,6 +1,6 @@
 -- Handlers that are made live beside what is leave each live handler verified, and are so themselves.
-use Rattle.std.proofs.Common.{◌≡◌, ⊎_elim, ℕ, Bool, true, false, cond, List, [], ◌∷◌, ◌++◌, Option, Some}
-use Rattle.std.proofs.Common.{None, refl, sym, ap, ◌∙◌, find, is_some, if◌then◌else◌}
+use Rattle.std.proofs.Common.{◌≡◌, ◌⊎◌, ⊎_elim, ℕ, Bool, true, false, cond, List, [], ◌∷◌, ◌++◌, Option}
+use Rattle.std.proofs.Common.{Some, None, refl, sym, ap, ◌∙◌, subst, find, is_some, if◌then◌else◌, arith}
 use Rattle.std.specs.Prelude.{slice_get, option_map, option_and_then, nat_lt, bytes_eq}
 use Rattle.std.specs.List.{All}
 use Rattle.std.specs.Option.{option_or}
@@ -12,16 +12,33 @@ use Rattle.kb_core.specs.Declaration.{Declaration}
 use Rattle.kb_core.specs.Native.{named}
 use Rattle.kb_code.specs.Handler.{HandlerData}
 use Rattle.kb_codes.specs.Callee.{Callee, Coded, declared_by}
+use Rattle.kb_codes.specs.Codes.{CodesData}
 use Rattle.kb_codes.specs.Live.{Group, handlers_in, handler_named, is_reserved, is_taken, has_taken}
 use Rattle.kb_codes.specs.Live.{with_group}
-use Rattle.kb_registry.specs.declared.fault.RegistryFault.TheVariants.{AlreadyExists}
 use Rattle.kb_registry.specs.Live.{Live, callee_by, table_of, with_code}
-use Rattle.kb_sound.specs.Sound.{IsVerified}
-use Rattle.kb_sound.specs.Stays.{IsSound, MayJoin, CodeStaysSound}
+use Rattle.kb_verify.specs.Callable.{Commands}
+use Rattle.kb_verify.specs.Accepted.{IsAccepted, IsCallee}
+use Rattle.kb_sound.specs.Sound.{IsVerified, live_declaration_at}
+use Rattle.kb_sound.specs.Stays.{IsSound, NoCodeStaysSound}
 use Rattle.kb_sound.proofs.Tests.{or_false}
 use Rattle.kb_sound.proofs.Found.{found_all}
 use Rattle.kb_sound.proofs.Stays.{Stays, declared_stays, verified_stays, coded_by, coded_live}
 
+-- what the handler declares, among these, that a handler's list of calls has at an index
+abbrev pub declaration_among : List HandlerData → HandlerData → ℕ → Option Declaration
+declaration_among handlers h n =
+    option_map (λ g. g.signature)
+    (option_and_then (λ name. handler_named name handlers) (slice_get h.calls n))
+
+-- a handler was accepted against some commands, and each of its callees declares the same, whether it is
+-- live or one of the handlers that are to be live
+pub record MayJoin (live : Live) (handlers : List HandlerData) (h : HandlerData) : Type 0 where
+  pub commands : Commands
+  pub accepted : IsAccepted commands h
+  pub callees : (place index : ℕ) (d : Declaration) → IsCallee commands h place index d →
+      (live_declaration_at (table_of live) h index ≡ Some d) ⊎ (declaration_among handlers h index ≡ Some d)
+
+-- where there isn't some, there is none
 nothing : {X : Type 0} (o : Option X) → is_some o ≡ false → o ≡ None
 nothing None e = refl
 nothing (Some x) e = absurd (cc)
@@ -32,44 +49,47 @@ or_none : {X : Type 0} (o : Option X) → option_or o None ≡ o
 or_none None = refl
 or_none (Some x) = refl
 
-both_none : {X : Type 0} (a b : Option X) → option_or a b ≡ None → (a ≡ None) × (b ≡ None)
+-- where one or the other is none, both are
+pub both_none : {X : Type 0} (a b : Option X) → option_or a b ≡ None → (a ≡ None) × (b ≡ None)
 both_none None b e = (refl, e)
 both_none (Some x) b e = absurd (cc)
 
 module _ (p : HandlerData → Bool) (new : Group) where
   -- a group without what is looked for changes nothing
-  old_found : (gs : List Group) → find p new.handlers ≡ None →
+  old_found : (gs : List Group) → find p new.codes.handlers ≡ None →
       find p (handlers_in (with_group new gs)) ≡ find p (handlers_in gs)
-  old_found [] none = find-append p new.handlers [] ∙ ap (λ o. option_or o None) none
+  old_found [] none = find-append p new.codes.handlers [] ∙ ap (λ o. option_or o None) none
   old_found (g ∷ gs) none = by (nat_lt new.extension g.extension) (old_found gs none)
     where
       by : (b : Bool) → find p (handlers_in (with_group new gs)) ≡ find p (handlers_in gs) →
           find p (handlers_in (if b then new ∷ g ∷ gs else g ∷ with_group new gs))
           ≡ find p (handlers_in (g ∷ gs))
       by true rest =
-          find-append p new.handlers (handlers_in (g ∷ gs))
+          find-append p new.codes.handlers (handlers_in (g ∷ gs))
           ∙ ap (λ o. option_or o (find p (handlers_in (g ∷ gs)))) none
       by false rest =
-          find-append p g.handlers (handlers_in (with_group new gs))
-          ∙ ap (option_or (find p g.handlers)) rest ∙ sym (find-append p g.handlers (handlers_in gs))
+          find-append p g.codes.handlers (handlers_in (with_group new gs))
+          ∙ ap (option_or (find p g.codes.handlers)) rest
+          ∙ sym (find-append p g.codes.handlers (handlers_in gs))
 
   -- what no group has is found in the group that comes
   new_found : (gs : List Group) → find p (handlers_in gs) ≡ None →
-      find p (handlers_in (with_group new gs)) ≡ find p new.handlers
-  new_found [] none = find-append p new.handlers [] ∙ or_none (find p new.handlers)
+      find p (handlers_in (with_group new gs)) ≡ find p new.codes.handlers
+  new_found [] none = find-append p new.codes.handlers [] ∙ or_none (find p new.codes.handlers)
   new_found (g ∷ gs) none =
-      let each = both_none (find p g.handlers) (find p (handlers_in gs))
-      (sym (find-append p g.handlers (handlers_in gs)) ∙ none) in
+      let each = both_none (find p g.codes.handlers) (find p (handlers_in gs))
+      (sym (find-append p g.codes.handlers (handlers_in gs)) ∙ none) in
       by (nat_lt new.extension g.extension) each.0 (new_found gs each.1)
     where
-      by : (b : Bool) → find p g.handlers ≡ None →
-          find p (handlers_in (with_group new gs)) ≡ find p new.handlers →
-          find p (handlers_in (if b then new ∷ g ∷ gs else g ∷ with_group new gs)) ≡ find p new.handlers
+      by : (b : Bool) → find p g.codes.handlers ≡ None →
+          find p (handlers_in (with_group new gs)) ≡ find p new.codes.handlers →
+          find p (handlers_in (if b then new ∷ g ∷ gs else g ∷ with_group new gs))
+          ≡ find p new.codes.handlers
       by true first rest =
-          find-append p new.handlers (handlers_in (g ∷ gs))
-          ∙ ap (option_or (find p new.handlers)) none ∙ or_none (find p new.handlers)
+          find-append p new.codes.handlers (handlers_in (g ∷ gs))
+          ∙ ap (option_or (find p new.codes.handlers)) none ∙ or_none (find p new.codes.handlers)
       by false first rest =
-          find-append p g.handlers (handlers_in (with_group new gs))
+          find-append p g.codes.handlers (handlers_in (with_group new gs))
           ∙ ap (λ o. option_or o (find p (handlers_in (with_group new gs)))) first ∙ rest
 
 -- ---- names that aren't taken
@@ -112,17 +132,13 @@ unreserved above (x ∷ hs) e name h is =
 
 -- ---- what is live behind
 
-not_taken : (b : Bool) → (if b then Some AlreadyExists else None) ≡ None → b ≡ false
-not_taken false e = refl
-not_taken true e = absurd (cc)
-
-module _ (extension : ℕ) (handlers : List HandlerData) (live : Live)
-    (untaken : has_taken (handlers_in live.code) handlers ≡ false) where
+module _ (extension : ℕ) (codes : CodesData) (live : Live)
+    (untaken : has_taken (handlers_in live.code) codes.handlers ≡ false) where
   abbrev then_live : Live
-  then_live = with_code extension handlers live
+  then_live = with_code extension codes live
 
   abbrev group : Group
-  group = record { extension = extension; handlers = handlers }
+  group = record { extension = extension; codes = codes }
 
   handler_stays : (name : List ℕ) (c : Callee) (o : Option HandlerData) →
       handler_named name (handlers_in live.code) ≡ o → option_map Coded o ≡ Some c →
@@ -130,7 +146,7 @@ module _ (extension : ℕ) (handlers : List HandlerData) (live : Live)
   handler_stays name c None is e = absurd (cc)
   handler_stays name c (Some h) is e =
       ap (option_map Coded) (old_found (λ g. bytes_eq name g.command) group live.code
-      (free (handlers_in live.code) handlers untaken name h is) ∙ is) ∙ e
+      (free (handlers_in live.code) codes.handlers untaken name h is) ∙ is) ∙ e
 
   each_stays : (o : Option Native) (name : List ℕ) (c : Callee) → callee_by o name live ≡ Some c →
       callee_by o name then_live ≡ Some c
@@ -141,39 +157,41 @@ module _ (extension : ℕ) (handlers : List HandlerData) (live : Live)
   stays name c e = each_stays (named name) name c e
 
   -- a name of a handler that comes was no live handler's
-  was_free : (name : List ℕ) (h : HandlerData) → handler_named name handlers ≡ Some h →
+  was_free : (name : List ℕ) (h : HandlerData) → handler_named name codes.handlers ≡ Some h →
       (o : Option HandlerData) →
       handler_named name (handlers_in live.code) ≡ o → o ≡ None
   was_free name h is None before = refl
   was_free name h is (Some g) before =
-      let none = free (handlers_in live.code) handlers untaken name g before in absurd (cc)
+      let none = free (handlers_in live.code) codes.handlers untaken name g before in absurd (cc)
 
-  comes : (name : List ℕ) (h : HandlerData) → handler_named name handlers ≡ Some h →
+  comes : (name : List ℕ) (h : HandlerData) → handler_named name codes.handlers ≡ Some h →
       handler_named name (handlers_in then_live.code) ≡ Some h
   comes name h is =
       new_found (λ g. bytes_eq name g.command) group live.code
       (was_free name h is (handler_named name (handlers_in live.code)) refl) ∙ is
 
-  comes_live : (name : List ℕ) (h : HandlerData) → handler_named name handlers ≡ Some h →
+  comes_live : (name : List ℕ) (h : HandlerData) → handler_named name codes.handlers ≡ Some h →
       table_of then_live name ≡ Some (Coded h)
   comes_live name h is =
-      coded_live name then_live h (unreserved (handlers_in live.code) handlers untaken name h is)
+      coded_live name then_live h (unreserved (handlers_in live.code) codes.handlers untaken name h is)
       (comes name h is)
 
+  -- what a handler that comes declares is what is live then
   declared_comes : (o : Option (List ℕ)) (d : Declaration) →
       option_map (λ (g : HandlerData). g.signature)
-      (option_and_then (λ name. handler_named name handlers) o) ≡ Some d →
+      (option_and_then (λ name. handler_named name codes.handlers) o) ≡ Some d →
       option_map declared_by (option_and_then (table_of then_live) o) ≡ Some d
   declared_comes None d e = absurd (cc)
-  declared_comes (Some name) d e = by (handler_named name handlers) refl e
+  declared_comes (Some name) d e = by (handler_named name codes.handlers) refl e
     where
-      by : (o : Option HandlerData) → handler_named name handlers ≡ o →
+      by : (o : Option HandlerData) → handler_named name codes.handlers ≡ o →
           option_map (λ (g : HandlerData). g.signature) o ≡ Some d →
           option_map declared_by (table_of then_live name) ≡ Some d
       by None is e = absurd (cc)
       by (Some h) is e = ap (option_map declared_by) (comes_live name h is) ∙ e
 
-  joins : (h : HandlerData) → MayJoin live handlers h → IsVerified (table_of then_live) h
+  -- a handler that may join is verified then
+  joins : (h : HandlerData) → MayJoin live codes.handlers h → IsVerified (table_of then_live) h
   joins h may = record {
     commands = may.commands;
     accepted = may.accepted;
@@ -183,22 +201,32 @@ module _ (extension : ℕ) (handlers : List HandlerData) (live : Live)
         (declared_comes (slice_get h.calls n) d) (may.callees p n d c);
   }
 
-  verified_then : All (MayJoin live handlers) handlers → IsSound live → (name : List ℕ) (h : HandlerData) →
-      named name ≡ None → handler_named name (handlers_in then_live.code) ≡ Some h →
-      (o : Option HandlerData) →
-      handler_named name handlers ≡ o → IsVerified (table_of then_live) h
+  -- and each is that has no native's name
+  verified_then : All (MayJoin live codes.handlers) codes.handlers → IsSound live →
+      (name : List ℕ) (h : HandlerData) → named name ≡ None →
+      handler_named name (handlers_in then_live.code) ≡ Some h →
+      (o : Option HandlerData) → handler_named name codes.handlers ≡ o → IsVerified (table_of then_live) h
   verified_then all sound name h none is None before =
       verified_stays (table_of live) (table_of then_live) stays h
       (sound name h (coded_live name live h none
       (sym (old_found (λ g. bytes_eq name g.command) group live.code before) ∙ is)))
   verified_then all sound name h none is (Some g) before =
       let same : g ≡ h = cc (comes name g before, is) in
-      joins h (found_all (MayJoin live handlers) (λ g. bytes_eq name g.command) handlers h all
-      (before ∙ ap Some same))
+      joins h (found_all (MayJoin live codes.handlers) (λ g. bytes_eq name g.command) codes.handlers h
+      all (before ∙ ap Some same))
 
-pub code_stays_sound : CodeStaysSound
-code_stays_sound extension handlers live fault all sound name h e =
-    let untaken = not_taken (has_taken (handlers_in live.code) handlers) fault in
-    let is = coded_by (named name) name (with_code extension handlers live) h e in
-    verified_then extension handlers live untaken all sound name h is.0 is.1
-    (handler_named name handlers) refl
+-- handlers that may join, whose names aren't taken, leave each live handler verified
+pub joined_stays_sound : (extension : ℕ) (codes : CodesData) (live : Live) →
+    has_taken (handlers_in live.code) codes.handlers ≡ false →
+    All (MayJoin live codes.handlers) codes.handlers → IsSound live →
+    IsSound (with_code extension codes live)
+joined_stays_sound extension codes live untaken all sound name h e =
+    let is = coded_by (named name) name (with_code extension codes live) h e in
+    verified_then extension codes live untaken all sound name h is.0 is.1
+    (handler_named name codes.handlers) refl
+
+-- where no handler comes, all that come may join
+pub no_code_stays_sound : NoCodeStaysSound
+no_code_stays_sound extension codes live none =
+    joined_stays_sound extension codes live (ap (has_taken (handlers_in live.code)) none)
+    (subst (λ hs. All (MayJoin live hs) hs) (sym none) (λ k d lt. absurd (omega (arith, lt))))

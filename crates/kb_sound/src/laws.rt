@@ -2,7 +2,7 @@
 ghost use Rattle.kb_sound.specs.Sound.{NeverStuck, StartsNeverStuck};
 ghost use Rattle.kb_sound.specs.Callees.{VerifiedByCallees};
 ghost use Rattle.kb_sound.specs.Stays.{FreshIsSound, RegisteredStaysSound, DisposedStaysSound};
-ghost use Rattle.kb_sound.specs.Stays.{CodeStaysSound};
+ghost use Rattle.kb_sound.specs.Stays.{CodeStaysSound, NoCodeStaysSound};
 
 /// A verified handler with fitting arguments ends without a trap, whatever the state of the core.
 pub fn never_stuck()
@@ -35,8 +35,12 @@ pub fn disposed_stays_sound()
     ensures { DisposedStaysSound }
 {}
 
-/// Each live handler is verified when handlers were made live that were accepted, each of whose callees
-/// declares what the verifier took it to declare.
+/// Each live handler is verified when code was made live that was verified, and wasn't refused.
 pub fn code_stays_sound()
     ensures { CodeStaysSound }
+{}
+
+/// Each live handler stays verified when code without a handler was made live, verified or not.
+pub fn no_code_stays_sound()
+    ensures { NoCodeStaysSound }
 {}

@@ -1,4 +1,4 @@
-use Rattle.kb_sound.proofs.Loads.{code_stays_sound}
+use Rattle.kb_sound.proofs.Joins.{code_stays_sound}
 use Rattle.kb_sound.proofs.laws.code_stays_sound.Goals as goal
 
 pub returns : goal.returns
