@@ -1,12 +1,10 @@
 -- What the calls of a session do to it.
-use Rattle.std.specs.Prelude.{◌≡◌, ◌||◌, ℕ, ◌+◌, Option, Some, None, Bool, true, false, List, [], ◌∷◌}
+use Rattle.std.specs.Prelude.{◌≡◌, ◌⊎◌, ◌||◌, ℕ, Bool, true, false, List, [], ◌∷◌}
 use Rattle.std.specs.Prelude.{Result, Ok, Err}
 use Rattle.kb_context.specs.Failure.{Fails}
 use Rattle.kb_context.specs.Reading.{◌>>=◌, seen}
-use Rattle.kb_context.specs.Refusal.{numbered, refused_for}
 use Rattle.kb_context.specs.Scopes.{ScopesData}
 use Rattle.kb_context.specs.declared.failure.Failure.{Failure}
-use Rattle.kb_context.specs.declared.failure.Failure.TheVariants as failure
 use Rattle.kb_core.specs.declared.native.Native.{Native}
 use Rattle.kb_core.specs.declared.run.Core.{Core}
 use Rattle.kb_keys.specs.declared.keystroke.Keystroke.{Keystroke}
@@ -15,15 +13,11 @@ use Rattle.kb_bindings.specs.Load.{Files, LoadMarks, held_by, handlers_of, marks
 use Rattle.kb_bindings.specs.Sources.{Sources}
 use Rattle.kb_session.specs.State.{State, Told, happens, Answered, did, refused, step, step_on, out_of, next}
 use Rattle.kb_session.specs.State.{loaded_state}
-use Rattle.kb_bindings.specs.Fault.{refused_by, refused_file}
 use Rattle.kb_bindings.specs.declared.fault.LoadFault.{LoadFault}
-use Rattle.kb_bindings.specs.declared.fault.LoadFile.{LoadFile}
-use Rattle.kb_bindings.specs.declared.fault.LoadFile.TheVariants as file
-use Rattle.kb_bindings.specs.declared.inputs.HandlerFiles.{HandlerFiles}
-use Rattle.kb_code.specs.Handler.{HandlerData}
-use Rattle.kb_registry.specs.Fault as registry
-use Rattle.kb_registry.specs.Live.{Live, fresh, all_registered, code_fault, with_code}
-use Rattle.kb_registry.specs.declared.fault.RegistryFault.{RegistryFault}
+use Rattle.kb_bindings.specs.declared.load.Loaded.{Loaded}
+use Rattle.kb_live.specs.Checked.{LiveChecked}
+use Rattle.kb_live.specs.Raw.{raw_held}
+use Rattle.kb_registry.specs.Live.{Live}
 use Rattle.kb_session.specs.declared.fault.SessionFault.{SessionFault}
 use Rattle.kb_session.specs.declared.fault.SessionFault.TheVariants.{Refused, NoMemory, Stopped}
 use Rattle.kb_bindings.specs.declared.unread.UnreadIn.{UnreadIn}
@@ -37,42 +31,8 @@ use Rattle.kb_trace.specs.declared.event.Event.TheVariants as event
 abbrev pub Seen : Type 0
 Seen = Traced State
 
--- closures for these natives are registered in order, at most 1,000,000 in a session's life, behind all files
-abbrev pub natives_held : List Native → Result Live LoadFault
-natives_held natives =
-    refused_by file.Natives (numbered registry.number_of (all_registered natives (fresh 1000000)))
-
--- behind them the handlers of extensions, which are numbered from a number, unless one has a name that is
--- taken
-abbrev pub unless_refused : Option RegistryFault → ℕ → Result Live LoadFault → Result Live LoadFault
-unless_refused None number rest = rest
-unless_refused (Some fault) number rest =
-    Err (refused_file (file.Handlers number) (refused_for (registry.number_of fault)))
-
-abbrev pub codes_held : ℕ → List (List HandlerData) → Live → Result Live LoadFault
-codes_held number [] live = Ok live
-codes_held number (handlers ∷ rest) live =
-    unless_refused (code_fault handlers live) number
-    (codes_held (number + 1) rest (with_code number handlers live))
-
--- the commands that are live at first
-abbrev pub live_held : List Native → List (List HandlerData) → Result Live LoadFault
-live_held natives handlers = natives_held natives >>= λ live. codes_held 0 handlers live
-
 abbrev pub loaded_session : ScopesData → Sources → Live → Seen
 loaded_session scopes sources live = record { state = loaded_state scopes sources live; trace = [] }
-
--- what files load, for the marks of their patterns, with closures for these natives: a session, or the first
--- fault; files of handlers are read or not
-abbrev pub loaded : HandlerFiles → LoadMarks → Files → List Native → Result Seen LoadFault
-loaded reads marks files natives =
-    load.loaded reads marks files
-    >>= λ l. seen (loaded_session l.scopes l.bindings) (live_held natives l.handlers)
-
--- the same without what is loaded: no fault hangs on marks
-abbrev pub load_held : HandlerFiles → Files → List Native → Result Live LoadFault
-load_held reads files natives =
-    held_by reads files >>= λ held. live_held natives (handlers_of held.rules.extensions)
 
 -- the first list of unread patterns that a session tells, that of its load
 abbrev pub first_list : List (List UnreadIn) → List UnreadIn
@@ -83,11 +43,47 @@ first_list (told ∷ lists) = told
 abbrev pub marks_by : Files → Seen → LoadMarks
 marks_by files session = marks_told files (first_list session.state.unread)
 
--- a load answered what its files load for the marks that its session tells, or their fault, which is one for
--- all marks, or was refused memory
-abbrev pub Loads : HandlerFiles → Files → List Native → Result Seen (Failure LoadFault) → Type 0
-Loads reads files natives (Ok session) = loaded reads (marks_by files session) files natives ≡ Ok session
-Loads reads files natives (Err failure) = Fails failure (load_held reads files natives)
+-- ---- a load whose handlers are verified
+
+-- a session is of these files, with closures for these natives and the handlers of extensions, all of them
+-- verified, for the marks that it tells
+pub record IsOf (files : Files) (natives : List Native) (session : Seen) : Type 0 where
+  pub loaded : Loaded
+  pub held : load.loaded (marks_by files session) files ≡ Ok loaded
+  pub live : LiveChecked natives loaded.bindings.extensions loaded.handlers (Ok session.state.live)
+  pub is : session ≡ loaded_session loaded.scopes loaded.bindings session.state.live
+
+-- the files are taken, for some marks, and their commands can't be live; no fault hangs on marks
+pub record CommandsFail (files : Files) (natives : List Native) (failure : Failure LoadFault) : Type 0 where
+  pub marks : LoadMarks
+  pub loaded : Loaded
+  pub held : load.loaded marks files ≡ Ok loaded
+  pub fail : LiveChecked natives loaded.bindings.extensions loaded.handlers (Err failure)
+
+-- a load answered what its files load for the marks that its session tells, or the fault of a file, and else
+-- that of the commands, or was refused memory
+abbrev pub Loads : Files → List Native → Result Seen (Failure LoadFault) → Type 0
+Loads files natives (Ok session) = IsOf files natives session
+Loads files natives (Err failure) = Fails failure (held_by files) ⊎ CommandsFail files natives failure
+
+-- ---- a load whose handlers nobody verifies
+
+-- what files load, for the marks of their patterns, with closures for these natives: a session, or the first
+-- fault
+abbrev pub loaded_raw : LoadMarks → Files → List Native → Result Seen LoadFault
+loaded_raw marks files natives =
+    load.loaded marks files
+    >>= λ l. seen (loaded_session l.scopes l.bindings) (raw_held natives l.handlers)
+
+-- the same without what is loaded: no fault hangs on marks
+abbrev pub raw_load_held : Files → List Native → Result Live LoadFault
+raw_load_held files natives = held_by files >>= λ held. raw_held natives (handlers_of held.rules.extensions)
+
+abbrev pub LoadsRaw : Files → List Native → Result Seen (Failure LoadFault) → Type 0
+LoadsRaw files natives (Ok session) = loaded_raw (marks_by files session) files natives ≡ Ok session
+LoadsRaw files natives (Err failure) = Fails failure (raw_load_held files natives)
+
+-- ---- calls
 
 abbrev pub answered : Answer → Answered
 answered answer.Did = did
@@ -151,12 +147,6 @@ FailsAmong NoMemory told old new = (old.state.stopped ≡ false) × StopsAmong n
 FailsAmong Stopped told old new = (is_late told old.state ≡ true) × (new ≡ after_all next told old)
 
 -- ---- for private functions
-
--- why a load failed whose commands, of a file, could not all be registered
-abbrev pub load_failure : LoadFile → Failure RegistryFault → Failure LoadFault
-load_failure of_file failure.NoMemory = failure.NoMemory
-load_failure of_file (failure.Fault fault) =
-    failure.Fault (refused_file of_file (refused_for (registry.number_of fault)))
 
 -- a session that is running took what it was told, and this is its answer
 abbrev pub Does : Told → Seen → Answer → Seen → Type 0

@@ -11,7 +11,7 @@ use Rattle.kb_context.specs.declared.fault.ScopeFault.{ScopeFault}
 use Rattle.kb_context.specs.declared.fault.ScopeFault.TheVariants.{UnknownScope}
 use Rattle.kb_context.specs.declared.refusal.Refusal.{Refusal}
 use Rattle.kb_code.specs.Handler.{HandlerData}
-use Rattle.kb_codes.specs.Live.{caller_of, handlers_in}
+use Rattle.kb_codes.specs.Live.{caller_of}
 use Rattle.kb_core.specs.Core.{new_core, with_scopes}
 use Rattle.kb_core.specs.Native.{name_of}
 use Rattle.kb_core.specs.declared.native.Native.{Native}
@@ -26,6 +26,7 @@ use Rattle.kb_rules.specs.declared.origin.Origin.TheVariants.{User}
 use Rattle.kb_rules.specs.declared.unread.UnreadAt.{UnreadAt}
 use Rattle.kb_bindings.specs.Sources.{Sources, with_user_rules, pressed, still_pressed}
 use Rattle.kb_session.specs.Press.{press_started}
+use Rattle.kb_sound.specs.Stays.{IsSound}
 use Rattle.kb_start.specs.Start.{Started}
 use Rattle.kb_start.specs.declared.start.Finish.{Finish}
 use Rattle.kb_start.specs.declared.start.Finish.TheVariants.{Done, NotFound, BadArguments, Trapped}
@@ -207,11 +208,7 @@ loaded_state scopes sources live = record {
   unread = unread_of sources ∷ [];
 }
 
--- no handler is live
-abbrev pub HasNoHandler : State → Type 0
-HasNoHandler s = handlers_in s.live.code ≡ []
-
--- nothing that it is told stops a session in which no handler is live, and it stays one
+-- nothing that it is told stops a session each of whose live handlers is verified, and it stays one
 abbrev pub RunsOn : Type 0
-RunsOn = (told : Told) (s : State) → s.stopped ≡ false → HasNoHandler s
-    → ((step told s).state.stopped ≡ false) × HasNoHandler (step told s).state
+RunsOn = (told : Told) (s : State) → s.stopped ≡ false → IsSound s.live
+    → ((step told s).state.stopped ≡ false) × IsSound (step told s).state.live

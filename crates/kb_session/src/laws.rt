@@ -1,9 +1,9 @@
-//! What callers may rely on of sessions without handlers.
+//! What callers may rely on of sessions whose handlers are verified.
 ghost use Rattle.kb_session.specs.State.{RunsOn};
 
-/// Nothing that it is told stops a session in which no handler is live, as one that `Session::load` gives,
-/// and it stays one: only refused memory stops it.
-#[tactic(auto, using(crate::proofs::Calm::runs_on))]
-pub fn runs_on_without_handlers()
+/// Nothing that it is told stops a session each of whose live handlers is verified, as one that
+/// `Session::load` gives, and it stays one: no handler ever gets stuck, and only refused memory stops it.
+#[tactic(auto, using(crate::proofs::Sound::runs_on))]
+pub fn runs_on_when_verified()
     ensures { RunsOn }
 {}

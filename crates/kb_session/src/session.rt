@@ -5,12 +5,14 @@ ghost use Rattle.kb_context.specs.Refusal.{refused_for};
 ghost use Rattle.kb_context.specs.ScopeFault.{number_of};
 ghost use Rattle.kb_rules.specs.RuleList.{AreRightlyMarked};
 ghost use Rattle.kb_bindings.specs.Load.{files_of, MarksAreRight};
-ghost use Rattle.kb_session.specs.Session.{Loads, Takes, Does, halt, Undone, HalfDone};
-ghost use Rattle.kb_bindings.specs.declared.inputs.HandlerFiles.TheVariants.{Ignored, Raw};
+ghost use Rattle.kb_bindings.specs.Unread.{unread_of};
+ghost use Rattle.kb_context.specs.declared.failure.Failure.TheVariants as failure;
+ghost use Rattle.kb_session.specs.Session.{Loads, LoadsRaw, Takes, Does, halt, Undone, HalfDone};
+ghost use Rattle.kb_session.specs.Session.{loaded_session};
+ghost use Rattle.kb_sound.specs.Stays.{IsSound};
 ghost use Rattle.kb_session.specs.Session.{FailsAt, FailsAmong, is_late};
 ghost use Rattle.kb_bindings.specs.Sources.{source_of};
 ghost use Rattle.kb_session.specs.State.{happens, reload, next, left_lines, with_user, stops};
-ghost use Rattle.kb_session.specs.State.{HasNoHandler};
 ghost use Rattle.kb_bindings.specs.Warning.{warnings_of};
 ghost use Rattle.kb_session.specs.declared.fault.SessionFault.TheVariants.{NoMemory};
 ghost use Rattle.kb_stream.specs.Fold.{after_all};
@@ -18,14 +20,14 @@ ghost use Rattle.kb_trace.specs.Lines as line;
 
 use crate::fault::{SessionFault, fault_in};
 use crate::press::press_key;
-use crate::session::loading::prepare;
 use kb_bindings::{
-    Bindings, HandlerFiles, Inputs, LoadFault, Loaded, UnreadIn, Warning, load_files, unread_rules,
+    Bindings, Inputs, LoadFault, Loaded, UnreadIn, Warning, load_files, unread_rules,
 };
-use kb_context::{ContextValue, Failure, NoMemory, Refusal, ScopeFault, Seq};
+use kb_context::{ContextValue, Failure, NoMemory, Refusal, ScopeFault, Scopes, Seq};
 use kb_core::Core;
 use kb_files::read_rules;
 use kb_keys::Keystroke;
+use kb_live::{checked_commands, raw_commands};
 use kb_registry::{HostCommand, Registry};
 use kb_resolve::ChordState;
 use kb_rules::{Origin, RuleList};
@@ -37,7 +39,6 @@ use std::collections::VecDeque;
 use std::marker::Model;
 
 mod closures;
-mod loading;
 
 /// A session of the engine, over the host's closures for native commands. Contracts see its state (the core
 /// with its text and scopes, what binds keys, which natives have a closure that is live, the
@@ -98,64 +99,73 @@ impl<C: HostCommand> Model for Session<C> {
 
 impl<C: HostCommand> Session<C> {
     /// A session of these files, without text and trace, in which these closures are registered in order,
-    /// with the tickets from 1 on. All extensions are enabled. At most 1,000,000 closures are registered in a
-    /// session's life (our decision). Extensions' files of handlers aren't read.
+    /// with the tickets from 1 on, and then the handlers of the extensions' files of handlers in load order,
+    /// each verified against what its extension may call: the live natives, the handlers of the extensions
+    /// that it depends on, and its own (our decision). All extensions are enabled. At most 1,000,000 closures
+    /// are registered in a session's life (our decision).
     ///
     /// Errors: the first file that is refused, and why, in this order (our decision): the layout (1 to 4, 40,
-    /// 41, 21, 22), the default rules, the user's rules (1 to 4, 41 each), more than 100 extensions (44), the
-    /// manifests in load order (1 to 4, 40, 41), an extension that repeats the identifier of an earlier one
-    /// (91), one that depends on an extension that isn't before it (90), two closures for one native (70); or
-    /// refused memory. The closures are then dropped.
-    #[tactic(auto, using(crate::proofs::CalmLoads::loads_calm))]
+    /// 41, 21, 22), the default rules, the user's rules (1 to 4, 41 each), more than 100 extensions (44), for
+    /// each extension in load order its manifest (1 to 4, 40, 41) and its file of handlers (1 to 4, 40 to 44,
+    /// 50 to 52), an extension that repeats the identifier of an earlier one (91), one that depends on an
+    /// extension that isn't before it (90), two closures for one native (70), then for each extension in load
+    /// order the first handler that isn't accepted (60 to 69, with its command and place) and a handler whose
+    /// name is taken (70); or refused memory. The closures are then dropped.
+    #[tactic(auto, using(crate::proofs::LoadLemmas::loading, crate::proofs::SoundLoads::loads_sound))]
     pub fn load(
         alloc: Global,
         inputs: Inputs<'_>,
         natives: Vec<C>,
     ) -> Result<Session<C>, Failure<LoadFault>>
-        ensures read { Loads Ignored (files_of inputs.entry) (map C.stands_for natives.items) result }
+        ensures read { Loads (files_of inputs.entry) (map C.stands_for natives.items) result }
 
         // A pattern is told as unread only where `regex` doesn't read it, and isn't told only where it does.
         ensures right { IfOk result (λ session. MarksAreRight (files_of inputs.entry) session.state.sources) }
 
-        // No handler is live, so that only refused memory stops the session (`laws`).
-        ensures calm { IfOk result (λ session. HasNoHandler session.state) }
+        // Each live handler is verified, so that only refused memory stops the session (`laws`).
+        ensures sound { IfOk result (λ session. IsSound session.state.live) }
     {
-        Session::loaded(alloc, inputs, HandlerFiles::Ignored, natives)
+        let Loaded {
+            scopes,
+            bindings,
+            handlers,
+        } = load_files(alloc, inputs)?;
+        let registry = checked_commands(alloc, natives, bindings.extensions(), handlers)?;
+        Session::begun(alloc, scopes, bindings, registry)
     }
 
-    /// The same with the handlers of the extensions' files of handlers, whose code nobody verifies. They are
-    /// live from the start. One that can't go on stops the session.
+    /// The same, but that nobody verifies the handlers. One that can't go on stops the session.
     ///
-    /// Errors: as those of `load`, but that behind each manifest its file of handlers is read (1 to 4, 40 to
-    /// 44, 50 to 52), and that last, in load order, come handlers one of which has a name that is taken (70).
+    /// Errors: as those of `load`, without 60 to 69.
+    #[tactic(auto, using(crate::proofs::LoadLemmas::loading))]
     pub fn load_raw(
         alloc: Global,
         inputs: Inputs<'_>,
         natives: Vec<C>,
     ) -> Result<Session<C>, Failure<LoadFault>>
-        ensures read { Loads Raw (files_of inputs.entry) (map C.stands_for natives.items) result }
-        ensures right { IfOk result (λ session. MarksAreRight (files_of inputs.entry) session.state.sources) }
-    {
-        Session::loaded(alloc, inputs, HandlerFiles::Raw, natives)
-    }
-
-    /// A session of these files, with or without those of handlers.
-    #[tactic(auto, using(crate::proofs::LoadLemmas::files_fail))]
-    fn loaded(
-        alloc: Global,
-        inputs: Inputs<'_>,
-        files: HandlerFiles,
-        natives: Vec<C>,
-    ) -> Result<Session<C>, Failure<LoadFault>>
-        ensures read { Loads files (files_of inputs.entry) (map C.stands_for natives.items) result }
+        ensures read { LoadsRaw (files_of inputs.entry) (map C.stands_for natives.items) result }
         ensures right { IfOk result (λ session. MarksAreRight (files_of inputs.entry) session.state.sources) }
     {
         let Loaded {
             scopes,
             bindings,
             handlers,
-        } = load_files(alloc, inputs, files)?;
-        let (registry, unread) = prepare(alloc, &bindings, handlers, natives)?;
+        } = load_files(alloc, inputs)?;
+        let registry = raw_commands(alloc, natives, handlers)?;
+        Session::begun(alloc, scopes, bindings, registry)
+    }
+
+    /// A session with these scopes, bindings and commands, without text and trace.
+    fn begun(
+        alloc: Global,
+        scopes: Scopes,
+        bindings: Bindings,
+        registry: Registry<C>,
+    ) -> Result<Session<C>, Failure<LoadFault>>
+        ensures ok { IfOk result (λ session. session ≡ loaded_session scopes bindings registry) }
+        ensures err { IfErr result (λ why. why ≡ failure.NoMemory) }
+    {
+        let unread = first_list(alloc, &bindings)?;
         Ok(Session {
             core: HeldCore::new(Core::new(alloc, scopes)),
             bindings,
@@ -475,6 +485,15 @@ impl<C: HostCommand> Session<C> {
         self.bindings.renew(renewed);
         Ok(())
     }
+}
+
+/// The lists of unread patterns that a session has at first: that of its load.
+fn first_list(alloc: Global, bindings: &Bindings) -> Result<Seq<Seq<UnreadIn>>, NoMemory>
+    ensures { IfOk result (λ lists. lists ≡ unread_of bindings.now ∷ []) }
+{
+    let mut lists = Seq::new(alloc);
+    lists.push(bindings.unread(alloc)?)?;
+    Ok(lists)
 }
 
 /// Whether a start that ended so stops the session. It takes no memory.

@@ -1,0 +1,4 @@
+pub mod NativesLemmas
+pub mod RawLemmas
+pub mod VerifiedLemmas
+pub mod CheckedLemmas

@@ -1,0 +1,5 @@
+pub mod Natives
+pub mod Raw
+pub mod Callable
+pub mod Verified
+pub mod Checked

@@ -1,0 +1,12 @@
+//! The commands that are live when a session begins: the host's closures, and the handlers of extensions,
+//! verified or raw.
+#![tactic(auto)]
+
+mod callable;
+pub mod checked;
+mod natives;
+pub mod raw;
+mod verifying;
+
+pub use checked::checked_commands;
+pub use raw::raw_commands;

@@ -1,0 +1,173 @@
+-- A session each of whose live handlers is verified is stopped by nothing that it is told.
+use Rattle.std.proofs.Common.{◌≡◌, ◌∙◌, refl, sym, ap, subst, Bool, true, false, List, [], ◌∷◌, ℕ}
+use Rattle.std.specs.Prelude.{Option, Some, None, option_map, Result, Ok, Err, if◌then◌else◌, bytes_eq}
+use Rattle.std.specs.Prelude.{IfSome, IsTrue, is_some}
+use Rattle.serde_json.specs.Data.{Data}
+use Rattle.kb_bindings.specs.Sources.{pressed}
+use Rattle.kb_code.specs.Handler.{HandlerData}
+use Rattle.kb_codes.specs.Callee.{Callee, declared_by}
+use Rattle.kb_codes.specs.Live.{caller_of}
+use Rattle.kb_context.specs.declared.refusal.Refusal.{Refusal}
+use Rattle.kb_core.specs.Reading.{arguments_for}
+use Rattle.kb_core.specs.Signature.{fits}
+use Rattle.kb_core.specs.declared.arg.Arg.{Arg}
+use Rattle.kb_core.specs.declared.native.Native.{Native}
+use Rattle.kb_core.specs.declared.run.Core.{Core}
+use Rattle.kb_core.proofs.ReadFits.{fits-arguments_for}
+use Rattle.kb_files.specs.RuleFile.{rules_in}
+use Rattle.kb_registry.specs.Live.{Live, callee, disposal_fault, disposal_fault_of, holder, registration_fault}
+use Rattle.kb_registry.specs.Live.{table_of}
+use Rattle.kb_registry.specs.declared.fault.RegistryFault.{RegistryFault}
+use Rattle.kb_registry.specs.declared.fault.RegistryFault.TheVariants.{InUse}
+use Rattle.kb_resolve.specs.Pressed as press
+use Rattle.kb_resolve.specs.Pressed.{Step}
+use Rattle.kb_rules.specs.RuleList.{Listed}
+use Rattle.kb_rules.specs.declared.origin.Origin.TheVariants.{User}
+use Rattle.kb_session.specs.Press.{press_started, rule_started}
+use Rattle.kb_session.specs.State.{State, Told, Stepped, happens, reload, register, dispose, stops}
+use Rattle.kb_session.specs.State.{taken_unless, refusal_of, reloaded, registering, disposing, disposing_unless}
+use Rattle.kb_session.specs.State.{step, step_on, step_unless, RunsOn}
+use Rattle.kb_sound.specs.Sound.{IsDone}
+use Rattle.kb_sound.specs.Stays.{IsSound}
+use Rattle.kb_sound.proofs.NeverStuck.{starts_never_stuck}
+use Rattle.kb_sound.proofs.Stays.{registered_stays_sound}
+use Rattle.kb_sound.proofs.Disposals.{disposed_stays_sound}
+use Rattle.kb_start.specs.RunCommands.{Planned, plan_of, run_commands}
+use Rattle.kb_start.specs.Start.{Started, and_then, ran, run_all, run_one, run_plan, start_live, start_of}
+use Rattle.kb_start.specs.Start.{started_as, started_with}
+use Rattle.kb_start.specs.declared.start.Finish.{Finish}
+use Rattle.kb_start.specs.declared.start.Finish.TheVariants.{Done, NotFound, BadArguments, Trapped}
+use Rattle.kb_trace.specs.Lines as line
+use Rattle.kb_trace.specs.declared.event.Event.{Event}
+use Rattle.kb_trace.specs.declared.event.Event.TheVariants as event
+use Rattle.kb_vm.specs.Meaning as answer
+use Rattle.kb_vm.specs.Meaning.{Answer, first_world, run, run_callee, start_callee}
+use Rattle.kb_vm.specs.declared.trap.Trap.{Trap}
+use Rattle.kb_vm.specs.declared.trap.Trap.TheVariants.{WrongArgument}
+
+-- ---- starts
+
+ran_on : (a : Answer) → IsDone a → stops (ran a).finish ≡ false
+ran_on (answer.Done w) done = refl
+ran_on (answer.Stuck trap command place w) done = absurd done
+
+then_starts : (f : Finish) (p q : Started) → p.finish ≡ f → stops f ≡ false → stops q.finish ≡ false
+    → stops (and_then f p q).finish ≡ false
+then_starts Done p q e h k = k
+then_starts NotFound p q e h k = ap stops e ∙ h
+then_starts BadArguments p q e h k = ap stops e ∙ h
+then_starts Trapped p q e h k = ap stops e ∙ h
+
+either : (b : Bool) (p q : Started) → stops p.finish ≡ false → stops q.finish ≡ false
+    → stops (if b then p else q).finish ≡ false
+either true p q h k = h
+either false p q h k = k
+
+module _ (live : Live) (sound : IsSound live) where
+  with_starts : (id : List ℕ) (c : Callee) (args : Option (List Arg)) (core : Core) → table_of live id ≡ Some c
+      → IfSome args (λ args. IsTrue (fits (declared_by c).params args))
+      → stops (started_with (table_of live) id c args core).finish ≡ false
+  with_starts id c None core is fit = refl
+  with_starts id c (Some args) core is fit =
+      let a = run_callee (run (table_of live)) c args (first_world core) in
+      let same : start_callee (table_of live) id c args (first_world core) ≡ a =
+      ap (λ b. if b then a else answer.Stuck WrongArgument id 0 (first_world core)) fit in
+      ran_on a (starts_never_stuck (table_of live) sound id c is args fit core a
+      (ap (option_map (λ c. start_callee (table_of live) id c args (first_world core))) is ∙ ap Some same))
+
+  as_starts : (id : List ℕ) (o : Option Callee) (given : Option Data) (core : Core) → table_of live id ≡ o
+      → stops (started_as (table_of live) id o given core).finish ≡ false
+  as_starts id None given core is = refl
+  as_starts id (Some c) given core is =
+      with_starts id c (arguments_for (declared_by c).params given) core is
+      (fits-arguments_for (declared_by c).params given)
+
+  live_starts : (id : List ℕ) (given : Option Data) (core : Core)
+      → stops (start_live id given live core).finish ≡ false
+  live_starts id given core = as_starts id (callee id live) given core refl
+
+  all_start : (ps : List Planned) (core : Core) → stops (run_all ps live core).finish ≡ false
+  all_start [] core = refl
+  all_start (p ∷ ps) core =
+      let first = run_one p live core in
+      then_starts first.finish first (run_all ps live first.core) refl (live_starts p.command p.given core)
+      (all_start ps first.core)
+
+  plan_starts : (ps : Option (List Planned)) (core : Core) → stops (run_plan ps live core).finish ≡ false
+  plan_starts None core = refl
+  plan_starts (Some ps) core = all_start ps core
+
+  command_starts : (id : List ℕ) (given : Option Data) (core : Core)
+      → stops (start_of id given live core).finish ≡ false
+  unfolding start_of
+  command_starts id given core =
+      either (bytes_eq id run_commands) (run_plan (plan_of given) live core) (start_live id given live core)
+      (plan_starts (plan_of given) core) (live_starts id given core)
+
+  rule_starts : (text id : List ℕ) (given : Option Data) (core : Core)
+      → stops (rule_started text id given live core).finish ≡ false
+  rule_starts text [] given core = refl
+  rule_starts text (b ∷ bs) given core = command_starts (b ∷ bs) given core
+
+  press_starts : (text : List ℕ) (does : Step) (core : Core)
+      → stops (press_started text does live core).finish ≡ false
+  press_starts text (press.start rule) core = rule_starts text rule.command rule.args core
+  press_starts text press.more core = refl
+  press_starts text press.left core = refl
+  press_starts text press.unbound core = refl
+
+-- ---- steps
+
+-- a step goes on, and each live handler stays verified
+abbrev GoesOn : Stepped → Type 0
+GoesOn p = (p.state.stopped ≡ false) × IsSound p.state.live
+
+taken_goes : (refusal : Option Refusal) (e : Event) (s : State) → s.stopped ≡ false → IsSound s.live
+    → GoesOn (taken_unless refusal e s)
+taken_goes (Some refusal) e s running sound = (running, sound)
+taken_goes None (event.Key key) s running sound = (
+  press_starts s.live sound (line.key_text s.pressed key) (pressed s.pressed key s.core.scopes s.sources) s.core,
+  sound,
+)
+taken_goes None (event.Focus name) s running sound = (running, sound)
+taken_goes None (event.SetKey name key value) s running sound = (running, sound)
+taken_goes None (event.UnsetKey name key) s running sound = (running, sound)
+taken_goes None (event.Unread number) s running sound = (running, sound)
+taken_goes None event.NoClosure s running sound = (running, sound)
+
+reloaded_goes : (rules : Result Listed Refusal) (s : State) → s.stopped ≡ false → IsSound s.live
+    → GoesOn (reloaded rules s)
+reloaded_goes (Ok user) s running sound = (running, sound)
+reloaded_goes (Err refusal) s running sound = (running, sound)
+
+registering_goes : (fault : Option RegistryFault) (native : Native) (s : State) → s.stopped ≡ false
+    → IsSound s.live → GoesOn (registering fault native s)
+registering_goes None native s running sound = (running, registered_stays_sound native s.live sound)
+registering_goes (Some fault) native s running sound = (running, sound)
+
+unless_goes : (caller : Option HandlerData) (native : Native) (number : ℕ) (s : State) → s.stopped ≡ false
+    → IsSound s.live → holder number s.live ≡ Some native → caller_of native s.live.code ≡ caller
+    → GoesOn (disposing_unless caller native number s)
+unless_goes None native number s running sound held free =
+    let fault : disposal_fault number s.live ≡ None =
+    ap (λ o. disposal_fault_of o s.live) held
+    ∙ ap (λ (o : Option HandlerData). if is_some o then Some InUse else None) free in
+    (running, disposed_stays_sound number s.live fault sound)
+unless_goes (Some caller) native number s running sound held free = (running, sound)
+
+disposing_goes : (native : Option Native) (number : ℕ) (s : State) → s.stopped ≡ false → IsSound s.live
+    → holder number s.live ≡ native → GoesOn (disposing native number s)
+disposing_goes None number s running sound held = (running, sound)
+disposing_goes (Some native) number s running sound held =
+    unless_goes (caller_of native s.live.code) native number s running sound held refl
+
+step_on_goes : (told : Told) (s : State) → s.stopped ≡ false → IsSound s.live → GoesOn (step_on told s)
+step_on_goes (happens e) s running sound = taken_goes (refusal_of e s) e s running sound
+step_on_goes (reload bytes marks) s running sound = reloaded_goes (rules_in marks User bytes) s running sound
+step_on_goes (register native) s running sound =
+    registering_goes (registration_fault native s.live) native s running sound
+step_on_goes (dispose number) s running sound = disposing_goes (holder number s.live) number s running sound refl
+
+pub runs_on : RunsOn
+runs_on told s running sound =
+    subst (λ b. GoesOn (step_unless b told s)) (sym running) (step_on_goes told s running sound)
