@@ -28,14 +28,13 @@ use Rattle.kb_bindings.specs.Fault.{refused_by, refused_file, of_file}
 use Rattle.kb_bindings.specs.Load.{ExtensionBytes, Files, Held, HeldExtension, HeldLists, HeldRules}
 use Rattle.kb_bindings.specs.Load.{LoadMarks}
 use Rattle.kb_bindings.specs.Load.{extension_bytes, manifests, extension_held, extensions_from}
-use Rattle.kb_bindings.specs.Load.{extensions_held}
-use Rattle.kb_bindings.specs.Load.{outlines_of, handlers_of, handlers_held, lists_held, rules_held, loaded}
+use Rattle.kb_bindings.specs.Load.{extensions_held, handlers_in_file}
+use Rattle.kb_bindings.specs.Load.{outlines_of, handlers_of, lists_held, rules_held, loaded}
 use Rattle.kb_bindings.specs.Load.{is_among, names_of, names_in, names_fault, unless_fault, other_marks}
 use Rattle.kb_bindings.specs.Load.{extensions_by, marks_told, marks_in, sources_by, GivesOf, AreRules}
 use Rattle.kb_bindings.specs.Load.{AreLists, IsExtension, AreExtensions, IsHeld, AreHeld, AreSources, IsBound}
 use Rattle.kb_bindings.specs.Load.{AllRightlyMarked}
 use Rattle.kb_bindings.specs.declared.inputs.ExtensionFiles.{ExtensionFiles}
-use Rattle.kb_bindings.specs.declared.inputs.HandlerFiles.{HandlerFiles}
 use Rattle.kb_bindings.specs.declared.load.Loaded.{Loaded}
 use Rattle.kb_bindings.specs.declared.load.ReadExtensions.{ReadExtensions}
 use Rattle.kb_bindings.specs.Sources.{Sources}
@@ -172,16 +171,16 @@ extension_with_handlers number platform e handlers (Ok o) (Err f) h k = absurd (
 extension_with_handlers number platform e handlers (Err f) held h k = absurd h
 
 -- the file of handlers is refused behind a manifest that is read
-pub handlers_fail : (reads : HandlerFiles) (number : ℕ) (platform : Platform) (bytes : ExtensionBytes)
-    (e : Extension) (failure : Failure LoadFault)
+pub handlers_fail : (number : ℕ) (platform : Platform) (bytes : ExtensionBytes) (e : Extension)
+    (failure : Failure LoadFault)
     → MatchResult (refused_by (file.Package number) (outline_in bytes.manifest))
     (λ outline. IsExtension number platform outline e) (λ fault. ⊥)
-    → Fails failure (refused_by (file.Handlers number) (handlers_held reads bytes.handlers))
-    → Fails failure (extension_held reads number bytes)
-handlers_fail reads number platform bytes e failure h k =
+    → Fails failure (refused_by (file.Handlers number) (handlers_in_file bytes.handlers))
+    → Fails failure (extension_held number bytes)
+handlers_fail number platform bytes e failure h k =
     second_fails (λ outline. IsExtension number platform outline e) failure
     (refused_by (file.Package number) (outline_in bytes.manifest))
-    (refused_by (file.Handlers number) (handlers_held reads bytes.handlers)) held_extension h k
+    (refused_by (file.Handlers number) (handlers_in_file bytes.handlers)) held_extension h k
 
 -- ---- the extensions in turn
 
@@ -203,20 +202,19 @@ joined_behind (Ok one) (Ok done) (Err f) = refl
 joined_behind (Ok one) (Err f) rest = refl
 joined_behind (Err f) first rest = refl
 
-extensions-append : (reads : HandlerFiles) (number place : ℕ) (done more : List ExtensionBytes)
-    → number + length done ≡ place
-    → extensions_from reads number (done ++ more)
-    ≡ joined (extensions_from reads number done) (extensions_from reads place more)
-extensions-append reads number place [] more e =
+extensions-append : (number place : ℕ) (done more : List ExtensionBytes) → number + length done ≡ place
+    → extensions_from number (done ++ more)
+    ≡ joined (extensions_from number done) (extensions_from place more)
+extensions-append number place [] more e =
     let same : number ≡ place = omega (arith, e) in
-    sym (bind_ok (extensions_from reads number more))
-    ∙ ap (λ n. extensions_from reads n more >>= λ held. Ok held) same
-extensions-append reads number place (bytes ∷ done) more e =
+    sym (bind_ok (extensions_from number more))
+    ∙ ap (λ n. extensions_from n more >>= λ held. Ok held) same
+extensions-append number place (bytes ∷ done) more e =
     let rest : number + 1 + length done ≡ place = omega (arith, e) in
-    let r = extension_held reads number bytes in
+    let r = extension_held number bytes in
     ap (λ rest. r >>= λ one. rest >>= λ held. Ok (one ∷ held))
-    (extensions-append reads (number + 1) place done more rest)
-    ∙ joined_behind r (extensions_from reads (number + 1) done) (extensions_from reads place more)
+    (extensions-append (number + 1) place done more rest)
+    ∙ joined_behind r (extensions_from (number + 1) done) (extensions_from place more)
 
 extensions-length : (platform : Platform) (marks : List ExtensionMarks) (number : ℕ) (outlines : List Outline)
     → length (extensions_by platform marks number outlines) ≡ length outlines
@@ -248,16 +246,15 @@ pushed all e handlers = record {
 }
 
 -- the extensions of the files so far
-pub record Reads (reads : HandlerFiles) (platform : Platform) (all : ReadExtensions) (number : ℕ)
-    (done : List ExtensionBytes) : Type 0 where
-  pub made : MatchResult (extensions_from reads 0 done) (λ held. AreHeld platform held all) (λ fault. ⊥)
+pub record Reads (platform : Platform) (all : ReadExtensions) (number : ℕ) (done : List ExtensionBytes)
+    : Type 0 where
+  pub made : MatchResult (extensions_from 0 done) (λ held. AreHeld platform held all) (λ fault. ⊥)
   pub count : length done ≡ number
   pub size : length all.extensions ≡ number
   pub right : AllRightlyMarked (manifests done) all.extensions
 
-pub reads_none : (reads : HandlerFiles) (platform : Platform)
-    → Reads reads platform (record { extensions = []; handlers = [] }) 0 []
-reads_none reads platform = record {
+pub reads_none : (platform : Platform) → Reads platform (record { extensions = []; handlers = [] }) 0 []
+reads_none platform = record {
   made = record { extensions_are = refl; handlers_are = refl };
   count = refl;
   size = refl;
@@ -306,23 +303,23 @@ made_next platform all number e handlers (Ok held) (Ok one) size h k = record {
 }
 
 -- the files of one more
-pub reads_next : (reads : HandlerFiles) (platform : Platform) (all : ReadExtensions) (number : ℕ)
+pub reads_next : (platform : Platform) (all : ReadExtensions) (number : ℕ)
     (done : List ExtensionBytes) (bytes : ExtensionBytes) (e : Extension) (handlers : List HandlerData)
-    → Reads reads platform all number done
-    → MatchResult (extension_held reads number bytes) (λ held. IsHeld number platform held e handlers)
+    → Reads platform all number done
+    → MatchResult (extension_held number bytes) (λ held. IsHeld number platform held e handlers)
     (λ fault. ⊥) → IsRightlyMarked bytes.manifest e
-    → Reads reads platform (pushed all e handlers) (number + 1) (done ++ bytes ∷ [])
-reads_next reads platform all number done bytes e handlers r h right =
+    → Reads platform (pushed all e handlers) (number + 1) (done ++ bytes ∷ [])
+reads_next platform all number done bytes e handlers r h right =
     let place : 0 + length done ≡ number = omega (arith, r.count) in
-    let whole : extensions_from reads 0 (done ++ bytes ∷ [])
-    ≡ joined (extensions_from reads 0 done) (extension_held reads number bytes >>= λ one. Ok (one ∷ [])) =
-    extensions-append reads 0 number done (bytes ∷ []) place in
+    let whole : extensions_from 0 (done ++ bytes ∷ [])
+    ≡ joined (extensions_from 0 done) (extension_held number bytes >>= λ one. Ok (one ∷ [])) =
+    extensions-append 0 number done (bytes ∷ []) place in
     let len : length (manifests done) ≡ length all.extensions =
     length-map done (λ (b : ExtensionBytes). b.manifest) ∙ r.count ∙ sym r.size in
     record {
       made = rw whole
-          (made_next platform all number e handlers (extensions_from reads 0 done)
-          (extension_held reads number bytes) r.size r.made h);
+          (made_next platform all number e handlers (extensions_from 0 done)
+          (extension_held number bytes) r.size r.made h);
       count = length-append done (bytes ∷ []) ∙ ap (λ n. n + 1) r.count;
       size = length-append all.extensions (e ∷ []) ∙ ap (λ n. n + 1) r.size;
       right = rw (map-append (λ (b : ExtensionBytes). b.manifest) done (bytes ∷ []))
@@ -335,17 +332,17 @@ fails_joined P (Ok done) rest f h e = rw e refl
 fails_joined P (Err g) rest f h e = absurd h
 
 -- the files of an extension that are refused are the first fault
-pub reads_fail : (reads : HandlerFiles) (platform : Platform) (all : ReadExtensions) (number : ℕ)
+pub reads_fail : (platform : Platform) (all : ReadExtensions) (number : ℕ)
     (done rest : List ExtensionBytes) (bytes : ExtensionBytes) (failure : Failure LoadFault)
-    → Reads reads platform all number done → Fails failure (extension_held reads number bytes)
-    → Fails failure (extensions_from reads 0 (done ++ bytes ∷ rest))
-reads_fail reads platform all number done rest bytes NoMemory r h = tt
-reads_fail reads platform all number done rest bytes (Fault f) r h =
+    → Reads platform all number done → Fails failure (extension_held number bytes)
+    → Fails failure (extensions_from 0 (done ++ bytes ∷ rest))
+reads_fail platform all number done rest bytes NoMemory r h = tt
+reads_fail platform all number done rest bytes (Fault f) r h =
     let place : 0 + length done ≡ number = omega (arith, r.count) in
-    let here : extensions_from reads number (bytes ∷ rest) ≡ Err f = rw h refl in
-    extensions-append reads 0 number done (bytes ∷ rest) place
-    ∙ fails_joined (λ held. AreHeld platform held all) (extensions_from reads 0 done)
-    (extensions_from reads number (bytes ∷ rest)) f r.made here
+    let here : extensions_from number (bytes ∷ rest) ≡ Err f = rw h refl in
+    extensions-append 0 number done (bytes ∷ rest) place
+    ∙ fails_joined (λ held. AreHeld platform held all) (extensions_from 0 done)
+    (extensions_from number (bytes ∷ rest)) f r.made here
 
 -- ---- the files of a slice, and identifiers
 
@@ -364,26 +361,26 @@ all_of fs i d below =
     ap bytes_of (sym (take-append-drop i fs) ∙ ap (λ rest. take i fs ++ rest) (drop_more fs i d below))
     ∙ map-append extension_bytes (take i fs) (get_or fs i d ∷ drop (i + 1) fs)
 
-pub files_next : (reads : HandlerFiles) (platform : Platform) (fs : List ExtensionFiles) (i : ℕ)
-    (d : ExtensionFiles) (all : ReadExtensions) (number : ℕ) (e : Extension) (handlers : List HandlerData)
-    → i < length fs → Reads reads platform all number (bytes_of (take i fs))
-    → MatchResult (extension_held reads number (extension_bytes (get_or fs i d)))
+pub files_next : (platform : Platform) (fs : List ExtensionFiles) (i : ℕ) (d : ExtensionFiles)
+    (all : ReadExtensions) (number : ℕ) (e : Extension) (handlers : List HandlerData)
+    → i < length fs → Reads platform all number (bytes_of (take i fs))
+    → MatchResult (extension_held number (extension_bytes (get_or fs i d)))
     (λ held. IsHeld number platform held e handlers) (λ fault. ⊥)
     → IsRightlyMarked (get_or fs i d).package.now e
-    → Reads reads platform (pushed all e handlers) (number + 1) (bytes_of (take (i + 1) fs))
-files_next reads platform fs i d all number e handlers below r h right =
+    → Reads platform (pushed all e handlers) (number + 1) (bytes_of (take (i + 1) fs))
+files_next platform fs i d all number e handlers below r h right =
     rw (one_more fs i d below)
-    (reads_next reads platform all number (bytes_of (take i fs)) (extension_bytes (get_or fs i d)) e handlers
+    (reads_next platform all number (bytes_of (take i fs)) (extension_bytes (get_or fs i d)) e handlers
     r h right)
 
-pub files_fail : (reads : HandlerFiles) (platform : Platform) (fs : List ExtensionFiles) (i : ℕ)
-    (d : ExtensionFiles) (all : ReadExtensions) (number : ℕ) (failure : Failure LoadFault) → i < length fs
-    → Reads reads platform all number (bytes_of (take i fs))
-    → Fails failure (extension_held reads number (extension_bytes (get_or fs i d)))
-    → Fails failure (extensions_from reads 0 (bytes_of fs))
-files_fail reads platform fs i d all number failure below r h =
+pub files_fail : (platform : Platform) (fs : List ExtensionFiles) (i : ℕ) (d : ExtensionFiles)
+    (all : ReadExtensions) (number : ℕ) (failure : Failure LoadFault) → i < length fs
+    → Reads platform all number (bytes_of (take i fs))
+    → Fails failure (extension_held number (extension_bytes (get_or fs i d)))
+    → Fails failure (extensions_from 0 (bytes_of fs))
+files_fail platform fs i d all number failure below r h =
     rw (all_of fs i d below)
-    (reads_fail reads platform all number (bytes_of (take i fs)) (bytes_of (drop (i + 1) fs))
+    (reads_fail platform all number (bytes_of (take i fs)) (bytes_of (drop (i + 1) fs))
     (extension_bytes (get_or fs i d)) failure r h)
 
 pub among_here : (id : List ℕ) (others : List Extension) (i : ℕ) (e : Extension) → i < length others
@@ -416,11 +413,11 @@ judged platform outlines es h =
 few_enough : (n : ℕ) → n ≤ 100 → nat_lt 100 n ≡ false
 few_enough n h = grind (arith, nat_tests)
 
-held_all : (reads : HandlerFiles) (fs : List ExtensionFiles) → length fs ≤ 100
-    → extensions_held reads (bytes_of fs)
-    ≡ (extensions_from reads 0 (bytes_of fs)
+held_all : (fs : List ExtensionFiles) → length fs ≤ 100
+    → extensions_held (bytes_of fs)
+    ≡ (extensions_from 0 (bytes_of fs)
     >>= λ held. unless_fault (names_fault (map names_in (outlines_of held))) held)
-held_all reads fs few =
+held_all fs few =
     let count : length (bytes_of fs) ≤ 100 = omega (arith, few, length-map fs extension_bytes) in
     rw (few_enough (length (bytes_of fs)) count) refl
 
@@ -433,13 +430,13 @@ judged_fail platform (Ok held) all fault h e =
     (ap names_fault (judged platform (outlines_of held) all.extensions h.extensions_are) ∙ e)
 judged_fail platform (Err f) all fault h e = absurd h
 
-pub identifiers_fail : (reads : HandlerFiles) (platform : Platform) (fs : List ExtensionFiles)
-    (all : ReadExtensions) (fault : LoadFault) → length fs ≤ 100
-    → MatchResult (extensions_from reads 0 (bytes_of fs)) (λ held. AreHeld platform held all) (λ f. ⊥)
+pub identifiers_fail : (platform : Platform) (fs : List ExtensionFiles) (all : ReadExtensions)
+    (fault : LoadFault) → length fs ≤ 100
+    → MatchResult (extensions_from 0 (bytes_of fs)) (λ held. AreHeld platform held all) (λ f. ⊥)
     → names_fault (map names_of all.extensions) ≡ Some fault
-    → extensions_held reads (bytes_of fs) ≡ Err fault
-identifiers_fail reads platform fs all fault few h e =
-    held_all reads fs few ∙ judged_fail platform (extensions_from reads 0 (bytes_of fs)) all fault h e
+    → extensions_held (bytes_of fs) ≡ Err fault
+identifiers_fail platform fs all fault few h e =
+    held_all fs few ∙ judged_fail platform (extensions_from 0 (bytes_of fs)) all fault h e
 
 judged_pass : (platform : Platform) (read : Extensions) (all : ReadExtensions)
     → MatchResult read (λ held. AreHeld platform held all) (λ f. ⊥)
@@ -452,13 +449,13 @@ judged_pass platform (Ok held) all h e =
     rw passes h
 judged_pass platform (Err f) all h e = absurd h
 
-pub identifiers_pass : (reads : HandlerFiles) (platform : Platform) (fs : List ExtensionFiles)
-    (all : ReadExtensions) → length fs ≤ 100
-    → MatchResult (extensions_from reads 0 (bytes_of fs)) (λ held. AreHeld platform held all) (λ f. ⊥)
+pub identifiers_pass : (platform : Platform) (fs : List ExtensionFiles) (all : ReadExtensions)
+    → length fs ≤ 100
+    → MatchResult (extensions_from 0 (bytes_of fs)) (λ held. AreHeld platform held all) (λ f. ⊥)
     → names_fault (map names_of all.extensions) ≡ None
-    → MatchResult (extensions_held reads (bytes_of fs)) (λ held. AreHeld platform held all) (λ f. ⊥)
-identifiers_pass reads platform fs all few h e =
-    rw (held_all reads fs few) (judged_pass platform (extensions_from reads 0 (bytes_of fs)) all h e)
+    → MatchResult (extensions_held (bytes_of fs)) (λ held. AreHeld platform held all) (λ f. ⊥)
+identifiers_pass platform fs all few h e =
+    rw (held_all fs few) (judged_pass platform (extensions_from 0 (bytes_of fs)) all h e)
 
 -- ---- all files
 
@@ -498,16 +495,15 @@ one_before (Ok one) (Ok more) held h =
 one_before (Ok one) (Err f) held h = absurd (cc)
 one_before (Err f) rest held h = absurd (cc)
 
-extensions-count : (reads : HandlerFiles) (number : ℕ) (extensions : List ExtensionBytes)
-    (held : List HeldExtension) → extensions_from reads number extensions ≡ Ok held
-    → length extensions ≡ length held
-extensions-count reads number [] held h =
+extensions-count : (number : ℕ) (extensions : List ExtensionBytes) (held : List HeldExtension)
+    → extensions_from number extensions ≡ Ok held → length extensions ≡ length held
+extensions-count number [] held h =
     let e : [] ≡ held = cc in
     ap length e
-extensions-count reads number (bytes ∷ extensions) held h =
-    let p = one_before (extension_held reads number bytes) (extensions_from reads (number + 1) extensions)
+extensions-count number (bytes ∷ extensions) held h =
+    let p = one_before (extension_held number bytes) (extensions_from (number + 1) extensions)
     held h in
-    let rest = extensions-count reads (number + 1) extensions p.0 p.1 in
+    let rest = extensions-count (number + 1) extensions p.0 p.1 in
     omega (arith, rest, p.2)
 
 unless-same : (found : Option LoadFault) (held more : List HeldExtension)
@@ -527,11 +523,11 @@ few-same : (b : Bool) (fault : LoadFault) (r : Extensions) (more : List HeldExte
 few-same true fault r more h = absurd (cc)
 few-same false fault r more h = h
 
-held-count : (reads : HandlerFiles) (extensions : List ExtensionBytes) (held : List HeldExtension)
-    → extensions_held reads extensions ≡ Ok held → length extensions ≡ length held
-held-count reads extensions held h =
-    extensions-count reads 0 extensions held
-    (read-same (extensions_from reads 0 extensions) held
+held-count : (extensions : List ExtensionBytes) (held : List HeldExtension)
+    → extensions_held extensions ≡ Ok held → length extensions ≡ length held
+held-count extensions held h =
+    extensions-count 0 extensions held
+    (read-same (extensions_from 0 extensions) held
     (few-same (nat_lt 100 (length extensions)) (refused_file file.Extensions (refused_for 44)) _ held h))
 
 extensions-had : (lists : Result HeldLists LoadFault) (extensions : Extensions) (held : HeldRules)
@@ -543,16 +539,16 @@ extensions-had (Ok l) (Err f) held h = absurd (cc)
 extensions-had (Err f) extensions held h = absurd (cc)
 
 -- the marks that the patterns of what was read tell are its own
-told_own : (reads : HandlerFiles) (files : Files) (sources : Sources) (held : HeldRules)
-    → rules_held reads files ≡ Ok held → AreSources files.platform held sources
+told_own : (files : Files) (sources : Sources) (held : HeldRules) → rules_held files ≡ Ok held
+    → AreSources files.platform held sources
     → marks_told files (unread_of sources) ≡ marks_in sources
-told_own reads files sources held h are =
+told_own files sources held h are =
     let outlines = outlines_of held.extensions in
     let es : AreExtensions files.platform outlines sources.extensions =
     ap (λ (s : Sources). s.extensions) are in
     let count : length files.extensions ≡ length held.extensions =
-    held-count reads files.extensions held.extensions
-    (extensions-had (lists_held files.defaults files.user) (extensions_held reads files.extensions) held h) in
+    held-count files.extensions held.extensions
+    (extensions-had (lists_held files.defaults files.user) (extensions_held files.extensions) held h) in
     let len : length (manifests files.extensions) ≡ length sources.extensions =
     length-map files.extensions (λ (b : ExtensionBytes). b.manifest) ∙ count
     ∙ sym (length-map held.extensions (λ (x : HeldExtension). x.outline))
@@ -563,24 +559,24 @@ told_own reads files sources held h are =
 abbrev loaded_from : ScopesData → Sources → List (List HandlerData) → Loaded
 loaded_from scopes sources handlers = record { scopes = scopes; bindings = sources; handlers = handlers }
 
-all_made : (reads : HandlerFiles) (files : Files) (scopes : ScopesData) (sources : Sources)
-    (handlers : List (List HandlerData)) (rules : Result HeldRules LoadFault) → rules_held reads files ≡ rules
+all_made : (files : Files) (scopes : ScopesData) (sources : Sources)
+    (handlers : List (List HandlerData)) (rules : Result HeldRules LoadFault) → rules_held files ≡ rules
     → MatchResult rules (λ held. IsBound files.platform held sources handlers) (λ fault. ⊥)
     → seen (λ (held : Held). loaded_from held.scopes
     (sources_by (marks_told files (unread_of sources)) files.platform held.rules)
     (handlers_of held.rules.extensions))
     (both (Ok scopes) rules (λ s r. record { scopes = s; rules = r }))
     ≡ Ok (loaded_from scopes sources handlers)
-all_made reads files scopes sources handlers (Ok held) is are =
+all_made files scopes sources handlers (Ok held) is are =
     ap (λ (marks : LoadMarks).
     Ok (loaded_from scopes (sources_by marks files.platform held) (handlers_of held.extensions)))
-    (told_own reads files sources held is are.sources_are)
+    (told_own files sources held is are.sources_are)
     ∙ (λ i. Ok (loaded_from scopes (sym are.sources_are i) (sym are.handlers_are i)))
-all_made reads files scopes sources handlers (Err f) is are = absurd are
+all_made files scopes sources handlers (Err f) is are = absurd are
 
-pub all_loaded : (reads : HandlerFiles) (files : Files) (scopes : ScopesData) (sources : Sources)
+pub all_loaded : (files : Files) (scopes : ScopesData) (sources : Sources)
     (handlers : List (List HandlerData)) → refused_by file.Layout (layout_scopes files.layout) ≡ Ok scopes
-    → MatchResult (rules_held reads files) (λ held. IsBound files.platform held sources handlers) (λ fault. ⊥)
-    → loaded reads (marks_told files (unread_of sources)) files ≡ Ok (loaded_from scopes sources handlers)
-all_loaded reads files scopes sources handlers e h =
-    rw e (all_made reads files scopes sources handlers (rules_held reads files) refl h)
+    → MatchResult (rules_held files) (λ held. IsBound files.platform held sources handlers) (λ fault. ⊥)
+    → loaded (marks_told files (unread_of sources)) files ≡ Ok (loaded_from scopes sources handlers)
+all_loaded files scopes sources handlers e h =
+    rw e (all_made files scopes sources handlers (rules_held files) refl h)

@@ -30,8 +30,6 @@ use Rattle.kb_bindings.specs.Unread.{rules_told, extensions_told, unread_of}
 use Rattle.kb_bindings.specs.declared.fault.LoadFault.{LoadFault}
 use Rattle.kb_bindings.specs.declared.fault.LoadFile.TheVariants as file
 use Rattle.kb_bindings.specs.declared.inputs.ExtensionFiles.{ExtensionFiles}
-use Rattle.kb_bindings.specs.declared.inputs.HandlerFiles.{HandlerFiles}
-use Rattle.kb_bindings.specs.declared.inputs.HandlerFiles.TheVariants.{Ignored, Raw}
 use Rattle.kb_bindings.specs.declared.inputs.Inputs.{Inputs}
 use Rattle.kb_bindings.specs.declared.load.Loaded.{Loaded}
 use Rattle.kb_bindings.specs.declared.load.ReadExtensions.{ReadExtensions}
@@ -75,29 +73,24 @@ abbrev pub handlers_in_file : Option (List ℕ) → Result (List HandlerData) Re
 handlers_in_file None = Ok []
 handlers_in_file (Some bytes) = handlers_in bytes
 
--- and none where these files are ignored, whatever they hold
-abbrev pub handlers_held : HandlerFiles → Option (List ℕ) → Result (List HandlerData) Refusal
-handlers_held Ignored bytes = Ok []
-handlers_held Raw bytes = handlers_in_file bytes
-
 -- what the files of an extension hold: what its manifest says before patterns are read, and its handlers
 pub record HeldExtension : Type 0 where
   pub outline : Outline
   pub handlers : List HandlerData
 
 -- the manifest is looked at before the handlers
-abbrev pub extension_held : HandlerFiles → ℕ → ExtensionBytes → Result HeldExtension LoadFault
-extension_held reads number bytes =
+abbrev pub extension_held : ℕ → ExtensionBytes → Result HeldExtension LoadFault
+extension_held number bytes =
     refused_by (file.Package number) (outline_in bytes.manifest)
-    >>= λ outline. refused_by (file.Handlers number) (handlers_held reads bytes.handlers)
+    >>= λ outline. refused_by (file.Handlers number) (handlers_in_file bytes.handlers)
     >>= λ handlers. Ok (record { outline = outline; handlers = handlers })
 
 -- what the files of extensions hold, which are numbered from a number; those of one before those of the next
-abbrev pub extensions_from : HandlerFiles → ℕ → List ExtensionBytes → Result (List HeldExtension) LoadFault
-extensions_from reads number [] = Ok []
-extensions_from reads number (bytes ∷ rest) =
-    extension_held reads number bytes
-    >>= λ held. extensions_from reads (number + 1) rest
+abbrev pub extensions_from : ℕ → List ExtensionBytes → Result (List HeldExtension) LoadFault
+extensions_from number [] = Ok []
+extensions_from number (bytes ∷ rest) =
+    extension_held number bytes
+    >>= λ held. extensions_from (number + 1) rest
     >>= λ more. Ok (held ∷ more)
 
 abbrev pub outlines_of : List HeldExtension → List Outline
@@ -147,10 +140,10 @@ unless_fault None x = Ok x
 unless_fault (Some fault) x = Err fault
 
 -- at most 100 extensions, then the faults of each one's files, and then those of identifiers
-abbrev pub extensions_held : HandlerFiles → List ExtensionBytes → Result (List HeldExtension) LoadFault
-extensions_held reads extensions =
+abbrev pub extensions_held : List ExtensionBytes → Result (List HeldExtension) LoadFault
+extensions_held extensions =
     if nat_lt 100 (length extensions) then Err (refused_file file.Extensions (refused_for 44))
-    else extensions_from reads 0 extensions
+    else extensions_from 0 extensions
     >>= λ held. unless_fault (names_fault (map names_in (outlines_of held))) held
 
 -- ---- all files
@@ -178,17 +171,17 @@ lists_held defaults user =
     >>= λ us. Ok (record { defaults = ds; user = us })
 
 -- and both before the extensions
-abbrev pub rules_held : HandlerFiles → Files → Result HeldRules LoadFault
-rules_held reads files =
+abbrev pub rules_held : Files → Result HeldRules LoadFault
+rules_held files =
     lists_held files.defaults files.user
-    >>= λ lists. extensions_held reads files.extensions
+    >>= λ lists. extensions_held files.extensions
     >>= λ extensions. Ok (record { lists = lists; extensions = extensions })
 
 -- the layout is looked at before all others
-abbrev pub held_by : HandlerFiles → Files → Result Held LoadFault
-held_by reads files =
+abbrev pub held_by : Files → Result Held LoadFault
+held_by files =
     refused_by file.Layout (layout_scopes files.layout)
-    >>= λ scopes. rules_held reads files >>= λ rules. Ok (record { scopes = scopes; rules = rules })
+    >>= λ scopes. rules_held files >>= λ rules. Ok (record { scopes = scopes; rules = rules })
 
 -- the marks of the patterns of a load that aren't read
 pub record LoadMarks : Type 0 where
@@ -238,18 +231,18 @@ sources_by marks platform held = record {
 }
 
 -- what files give, for the marks of their patterns, or the first file's fault; handlers have no patterns
-abbrev pub loaded : HandlerFiles → LoadMarks → Files → Result Loaded LoadFault
-loaded reads marks files = seen (λ held. record {
+abbrev pub loaded : LoadMarks → Files → Result Loaded LoadFault
+loaded marks files = seen (λ held. record {
   scopes = held.scopes;
   bindings = sources_by marks files.platform held.rules;
   handlers = handlers_of held.rules.extensions;
-}) (held_by reads files)
+}) (held_by files)
 
 -- a load answered what its files give for the marks of its own patterns, or their fault, which is one for
 -- all marks, or was refused memory
-abbrev pub LoadsFiles : HandlerFiles → Files → Result Loaded (Failure LoadFault) → Type 0
-LoadsFiles reads files (Ok l) = loaded reads (marks_told files (unread_of l.bindings)) files ≡ Ok l
-LoadsFiles reads files (Err failure) = Fails failure (held_by reads files)
+abbrev pub LoadsFiles : Files → Result Loaded (Failure LoadFault) → Type 0
+LoadsFiles files (Ok l) = loaded (marks_told files (unread_of l.bindings)) files ≡ Ok l
+LoadsFiles files (Err failure) = Fails failure (held_by files)
 
 -- the patterns of manifests are marked as they are or aren't read
 abbrev pub AllRightlyMarked : List (List ℕ) → List Extension → Type 0

@@ -119,6 +119,13 @@ impl Bindings {
         self.warnings.as_slice()
     }
 
+    /// What the manifests say of the extensions, in load order. It takes no memory.
+    pub fn extensions(&self) -> &[Extension]
+        ensures { result.now ≡ self.now.extensions }
+    {
+        self.extensions.as_slice()
+    }
+
     /// The patterns of the entries that aren't read.
     pub fn unread(&self, alloc: Global) -> Result<Seq<UnreadIn>, NoMemory>
         ensures { IfOk result (λ all. all ≡ unread.unread_of self.now) }

@@ -10,15 +10,6 @@ pub struct ExtensionFiles<'a> {
     pub handlers: Option<&'a [u8]>,
 }
 
-/// Whether a load reads extensions' files of handlers.
-#[derive(Clone, Copy, Debug, PartialEq, Eq)]
-pub enum HandlerFiles {
-    /// They are not looked at: no extension has a handler.
-    Ignored,
-    /// They are read, and nobody verifies their code.
-    Raw,
-}
-
 /// The bytes of the files that a session is made of, lent. The empty text stands for a file of rules that is
 /// not there.
 #[derive(Clone, Copy, Debug)]

@@ -12,7 +12,7 @@ pub mod warning;
 
 pub use bindings::{Bindings, Renewed};
 pub use fault::{LoadFault, LoadFile};
-pub use inputs::{ExtensionFiles, HandlerFiles, Inputs};
+pub use inputs::{ExtensionFiles, Inputs};
 pub use load::{Loaded, load_files};
 pub use unread::{UnreadIn, unread_rules};
 pub use warning::Warning;

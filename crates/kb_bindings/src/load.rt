@@ -4,7 +4,7 @@ ghost use Rattle.kb_context.specs.Failure.{Gives};
 ghost use Rattle.kb_bindings.specs.Fault.{refused_by};
 ghost use Rattle.kb_bindings.specs.Load.{is_among, repeats, lacks, first_failing, refused_manifest};
 ghost use Rattle.kb_bindings.specs.Load.{names_fault, extensions_held, extension_held, extensions_from};
-ghost use Rattle.kb_bindings.specs.Load.{handlers_held, handlers_in_file, files_of, extension_bytes};
+ghost use Rattle.kb_bindings.specs.Load.{handlers_in_file, files_of, extension_bytes};
 ghost use Rattle.kb_bindings.specs.Load.{AllRightlyMarked, GivesOf, AreRules, IsExtension, IsHeld, AreHeld};
 ghost use Rattle.kb_bindings.specs.Load.{manifests, names_of, LoadsFiles, MarksAreRight};
 ghost use Rattle.kb_bindings.specs.Load.{lists_held, rules_held, AreLists, IsBound};
@@ -15,7 +15,7 @@ ghost use Rattle.kb_rules.specs.RuleList.{AreRightlyMarked};
 
 use crate::bindings::Bindings;
 use crate::fault::{LoadFault, LoadFile, of_file};
-use crate::inputs::{ExtensionFiles, HandlerFiles, Inputs};
+use crate::inputs::{ExtensionFiles, Inputs};
 use kb_code::Handler;
 use kb_context::{Failure, NoMemory, Refusal, Scopes, Seq};
 use kb_files::{Extension, read_extension, read_handlers, read_rules, read_scopes};
@@ -32,29 +32,25 @@ pub struct Loaded {
     pub scopes: Scopes,
     pub bindings: Bindings,
     /// For each extension in load order its handlers in the order of their file; none where it has no such
-    /// file, or where these files are ignored.
+    /// file. A load doesn't verify their code.
     pub handlers: Seq<Seq<Handler>>,
 }
 
-/// What these files give. Files of handlers are read or ignored, as is asked.
+/// What these files give.
 ///
 /// Errors: the first file that is refused, and why, in this order (our decision): the layout (1 to 4, 40,
 /// 41, 21, 22), the default rules, the user's rules (1 to 4, 41 each), more than 100 extensions (44), for
-/// each extension in load order its manifest (1 to 4, 40, 41) and, where it is read, its file of handlers (1
+/// each extension in load order its manifest (1 to 4, 40, 41) and, if there is one, its file of handlers (1
 /// to 4, 40 to 44, 50 to 52), an extension that repeats the identifier of an earlier one (91), one that
 /// depends on an extension that isn't before it (90); or refused memory.
-pub fn load_files(
-    alloc: Global,
-    inputs: Inputs<'_>,
-    files: HandlerFiles,
-) -> Result<Loaded, Failure<LoadFault>>
-    ensures read { LoadsFiles files (files_of inputs.entry) result }
+pub fn load_files(alloc: Global, inputs: Inputs<'_>) -> Result<Loaded, Failure<LoadFault>>
+    ensures read { LoadsFiles (files_of inputs.entry) result }
 
     // A pattern is told as unread only where `regex` doesn't read it, and isn't told only where it does.
     ensures right { IfOk result (λ loaded. MarksAreRight (files_of inputs.entry) loaded.bindings) }
 {
     let scopes = load_scopes(alloc, inputs.layout)?;
-    let (bindings, handlers) = load_bindings(alloc, inputs, files)?;
+    let (bindings, handlers) = load_bindings(alloc, inputs)?;
     Ok(Loaded {
         scopes,
         bindings,
@@ -69,17 +65,16 @@ pub fn load_files(
 fn load_bindings(
     alloc: Global,
     inputs: Inputs<'_>,
-    files: HandlerFiles,
 ) -> Result<(Bindings, Seq<Seq<Handler>>), Failure<LoadFault>>
     ensures read { GivesOf (λ held bound. IsBound inputs.entry.platform held bound.0 bound.1) result
-        (rules_held files (files_of inputs.entry)) }
+        (rules_held (files_of inputs.entry)) }
     ensures right { IfOk result (λ bound. MarksAreRight (files_of inputs.entry) bound.0) }
 {
     let (defaults, user) = load_lists(alloc, inputs.defaults, inputs.user)?;
     let ReadExtensions {
         extensions,
         handlers,
-    } = load_extensions(alloc, inputs.extensions, inputs.platform, files)?;
+    } = load_extensions(alloc, inputs.extensions, inputs.platform)?;
     let bindings = Bindings::new(alloc, defaults, extensions, user)?;
     Ok((bindings, handlers))
 }
@@ -147,10 +142,9 @@ fn load_extensions(
     alloc: Global,
     extensions: &[ExtensionFiles<'_>],
     platform: Platform,
-    files: HandlerFiles,
 ) -> Result<ReadExtensions, Failure<LoadFault>>
     ensures read { GivesOf (AreHeld platform) result
-        (extensions_held files (map extension_bytes extensions.now)) }
+        (extensions_held (map extension_bytes extensions.now)) }
     ensures right { IfOk result (λ all.
         AllRightlyMarked (manifests (map extension_bytes extensions.now)) all.extensions) }
 {
@@ -160,7 +154,7 @@ fn load_extensions(
             refusal: Refusal::of(44),
         }));
     }
-    let all = read_extensions(alloc, extensions, platform, files)?;
+    let all = read_extensions(alloc, extensions, platform)?;
     match names_fault(all.extensions.as_slice()) {
         Some(fault) => Err(Failure::Fault(fault)),
         None => Ok(all),
@@ -172,11 +166,10 @@ fn read_extensions(
     alloc: Global,
     extensions: &[ExtensionFiles<'_>],
     platform: Platform,
-    files: HandlerFiles,
 ) -> Result<ReadExtensions, Failure<LoadFault>>
     requires { length extensions.now ≤ 100 }
     ensures read { GivesOf (AreHeld platform) result
-        (extensions_from files 0 (map extension_bytes extensions.now)) }
+        (extensions_from 0 (map extension_bytes extensions.now)) }
     ensures right { IfOk result (λ all.
         AllRightlyMarked (manifests (map extension_bytes extensions.now)) all.extensions) }
 {
@@ -186,7 +179,7 @@ fn read_extensions(
     };
     let mut number = 0;
     for bytes in extensions {
-        let (extension, handlers) = load_extension(alloc, bytes, number, platform, files)?;
+        let (extension, handlers) = load_extension(alloc, bytes, number, platform)?;
         all.push(extension, handlers)?;
         number += 1;
     }
@@ -201,14 +194,13 @@ fn load_extension(
     bytes: &ExtensionFiles<'_>,
     number: u32,
     platform: Platform,
-    files: HandlerFiles,
 ) -> Result<(Extension, Seq<Handler>), Failure<LoadFault>>
     ensures read { GivesOf (λ held one. IsHeld number platform held one.0 one.1) result
-        (extension_held files number (extension_bytes bytes.now)) }
+        (extension_held number (extension_bytes bytes.now)) }
     ensures right { IfOk result (λ one. IsRightlyMarked bytes.now.package.now one.0) }
 {
     let extension = load_package(alloc, bytes.package, number, platform)?;
-    let handlers = load_handlers(alloc, bytes.handlers, number, files)?;
+    let handlers = load_handlers(alloc, bytes.handlers, number)?;
     Ok((extension, handlers))
 }
 
@@ -230,25 +222,9 @@ fn load_package(
     )
 }
 
-/// The handlers of an extension, by its number in load order: those of its file, if such files are read.
-fn load_handlers(
-    alloc: Global,
-    bytes: Option<&[u8]>,
-    number: u32,
-    files: HandlerFiles,
-) -> Result<Seq<Handler>, Failure<LoadFault>>
-    ensures { Gives (λ handlers. handlers) result (refused_by (LoadFile.Handlers number)
-        (handlers_held files (option_map (λ bytes. bytes.now) bytes.entry))) }
-{
-    match files {
-        HandlerFiles::Ignored => Ok(Seq::new(alloc)),
-        HandlerFiles::Raw => load_handler_file(alloc, bytes, number),
-    }
-}
-
-/// The handlers of an extension's file, none without a file.
+/// The handlers of an extension's file, by its number in load order; none without a file.
 #[tactic(auto, using(crate::proofs::LoadLemmas::file_of_handlers))]
-fn load_handler_file(
+fn load_handlers(
     alloc: Global,
     bytes: Option<&[u8]>,
     number: u32,

@@ -6,5 +6,5 @@ use Rattle.kb_bindings.proofs.load.read_extensions.Given as goal
 -- the extensions of the files so far
 abbrev pub invariant-loop-bytes : goal.invariant-loop-bytes
 invariant-loop-bytes l =
-    Reads l.files l.platform l.all l.number (map extension_bytes (take l.bytes-index l.extensions))
+    Reads l.platform l.all l.number (map extension_bytes (take l.bytes-index l.extensions))
     × (l.number ≡ l.bytes-index)
