@@ -1,11 +1,18 @@
 -- The handlers of extensions join what is live, one extension after the other.
-use Rattle.std.proofs.Common.{◌≡◌, List, [], ◌∷◌, ℕ, ◌+◌, refl, sym, subst}
+use Rattle.std.proofs.Common.{◌≡◌, List, [], ◌∷◌, ℕ, ◌+◌, refl, sym, subst, inl, inr}
 use Rattle.std.specs.Prelude.{Result, Ok, Err}
 use Rattle.kb_bindings.specs.declared.fault.LoadFault.{LoadFault}
 use Rattle.kb_code.specs.Handler.{HandlerData}
+use Rattle.kb_bindings.specs.Fault.{failure_of}
+use Rattle.kb_bindings.specs.declared.fault.LoadFile.TheVariants as file
 use Rattle.kb_context.specs.declared.failure.Failure.{Failure}
+use Rattle.kb_context.specs.declared.failure.Failure.TheVariants.{NoMemory, Fault}
+use Rattle.kb_context.specs.declared.refusal.Refusal.{Refusal}
 use Rattle.kb_files.specs.declared.extension_file.Extension.{Extension}
-use Rattle.kb_live.specs.Checked.{Admits, JoinAll, Joins}
+use Rattle.kb_live.specs.Callable.{callable_of}
+use Rattle.kb_live.specs.Checked.{JoinAll, Joins}
+use Rattle.kb_live.specs.Verified.{FirstIsRefused, Verifies}
+use Rattle.kb_verify.specs.Callable.{Commands}
 use Rattle.kb_registry.specs.Live.{Live}
 
 module _ (extensions : List Extension) (all : List (List HandlerData)) (first : Live) where
@@ -36,3 +43,17 @@ module _ (extensions : List Extension) (all : List (List HandlerData)) (first : 
       on (Ok live) (subst (λ left. JoinAll extensions number left live (Ok live)) (sym none) refl)
 
 pub ruleset joining = (one_joins, one_stops, all_joined)
+
+-- handlers that aren't accepted don't join
+pub refused_joins : (extensions : List Extension) (number : ℕ) (handlers : List HandlerData) (live : Live)
+    (commands : Commands) (failure : Failure Refusal) (said : Failure LoadFault)
+    → commands ≡ callable_of extensions number handlers live → Verifies commands handlers (Err failure)
+    → said ≡ failure_of (file.Handlers number) failure → Joins extensions number handlers live (Err said)
+refused_joins extensions number handlers live commands NoMemory said is fails tells =
+    subst (λ (f : Failure LoadFault). Joins extensions number handlers live (Err f)) (sym tells) tt
+refused_joins extensions number handlers live commands (Fault refusal) said is fails tells =
+    subst (λ (f : Failure LoadFault). Joins extensions number handlers live (Err f)) (sym tells) (inl (record {
+      refusal = refusal;
+      first = subst (λ commands. FirstIsRefused commands handlers refusal) is fails;
+      is = refl;
+    }))

@@ -1,4 +1,5 @@
 pub mod NativesLemmas
+pub mod NeededLemmas
 pub mod RawLemmas
 pub mod VerifiedLemmas
 pub mod CheckedLemmas

@@ -1,11 +1,12 @@
 -- Handlers are verified in order, one after the other.
-use Rattle.std.proofs.Common.{◌≡◌, ◌∙◌, List, [], ◌∷◌, ◌++◌, map, refl, sym, ap, subst, append_assoc, append-nil}
+use Rattle.std.proofs.Common.{◌≡◌, ◌∙◌, List, [], ◌∷◌, ◌++◌, map, refl, sym, ap, subst, append-nil, inl, inr}
 use Rattle.std.specs.List.{All}
+use Rattle.std.proofs.lemmas.List.Elements.{All-push}
 use Rattle.kb_code.specs.Handler.{HandlerData}
 use Rattle.kb_context.specs.declared.refusal.Refusal.{Refusal}
 use Rattle.kb_context.specs.declared.failure.Failure.{Failure}
 use Rattle.kb_context.specs.declared.failure.Failure.TheVariants.{NoMemory, Fault}
-use Rattle.std.specs.Prelude.{Result, Err}
+use Rattle.std.specs.Prelude.{Err}
 use Rattle.kb_verify.specs.Accepted.{CheckedHandler, IsAccepted}
 use Rattle.kb_verify.specs.Callable.{Commands}
 use Rattle.kb_verify.specs.Faults.{IsFailure}
@@ -16,15 +17,11 @@ module _ (commands : Commands) where
   abbrev HandsOn : List HandlerData → List HandlerData → Type 0
   HandsOn left all = (refusal : Refusal) → FirstIsRefused commands left refusal → FirstIsRefused commands all refusal
 
-  all_more : (vs : List CheckedHandler) (v : CheckedHandler) → All (IsVerified commands) vs → IsVerified commands v
-      → All (IsVerified commands) (vs ++ v ∷ [])
-  all_more [] v all own = (own, tt)
-  all_more (x ∷ vs) v all own = (all.0, all_more vs v all.1 own)
-
   -- one more handler is verified
   pub verified_more : (vs more : List CheckedHandler) (v : CheckedHandler) → All (IsVerified commands) vs
       → IsVerified commands v → more ≡ vs ++ v ∷ [] → All (IsVerified commands) more
-  verified_more vs more v all own is = subst (All (IsVerified commands)) (sym is) (all_more vs v all own)
+  verified_more vs more v all own is =
+      subst (All (IsVerified commands)) (sym is) (All-push (IsVerified commands) vs v all own)
 
   pub handlers_more : (vs more : List CheckedHandler) (v : CheckedHandler) (left rest all : List HandlerData)
       → map (λ (v : CheckedHandler). v.handler) vs ++ left ≡ all → left ≡ v.handler ∷ rest → more ≡ vs ++ v ∷ []

@@ -30,11 +30,11 @@ with_handlers (h ∷ rest) commands = with_handlers rest (with_first h.command h
 
 -- the live handlers of an extension
 abbrev pub handlers_live : ℕ → Live → List HandlerData
-handlers_live number live = option_map_or [] (λ codes. codes.handlers) (group_of number live.code)
+handlers_live number live = option_map_or (λ codes. codes.handlers) (group_of number live.code) []
 
 -- an extension is among the dependencies; the case of ASCII letters doesn't count
 abbrev pub is_needed : List ℕ → List (List ℕ) → Bool
-is_needed id dependencies = list_any (λ other. str_eq_ignore_ascii_case other id) dependencies
+is_needed id dependencies = list_any (λ other. str_eq_ignore_ascii_case id other) dependencies
 
 -- with the live handlers of those of the extensions that are among the dependencies
 abbrev pub with_needed : List (List ℕ) → List Extension → Live → Commands → Commands
@@ -45,7 +45,7 @@ with_needed dependencies (e ∷ rest) live commands =
 
 -- the dependencies of the extension of a number
 abbrev pub dependencies_of : ℕ → List Extension → List (List ℕ)
-dependencies_of number extensions = option_map_or [] (λ e. e.dependencies) (slice_get extensions number)
+dependencies_of number extensions = option_map_or (λ e. e.dependencies) (slice_get extensions number) []
 
 -- what may be called by handlers of an extension, which is one of these
 abbrev pub callable_of : List Extension → ℕ → List HandlerData → Live → Commands

@@ -1,5 +1,5 @@
 -- What comes of verifying the handlers of a file.
-use Rattle.std.specs.Prelude.{◌≡◌, ◌⊎◌, ℕ, List, [], ◌∷◌, ◌++◌, map, Some, Result, Ok, Err, codes, decimal}
+use Rattle.std.specs.Prelude.{◌≡◌, ◌⊎◌, List, [], ◌∷◌, ◌++◌, map, Some, Result, Ok, Err, codes, decimal}
 use Rattle.std.specs.List.{All}
 use Rattle.kb_code.specs.Handler.{HandlerData}
 use Rattle.kb_context.specs.declared.failure.Failure.{Failure}

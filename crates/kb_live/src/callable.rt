@@ -95,7 +95,7 @@ fn is_needed(id: &str, dependencies: &[Text]) -> bool
     ensures { result ≡ is_needed id.now dependencies.now }
 {
     for other in dependencies {
-        if other.as_str().eq_ignore_ascii_case(id) {
+        if id.eq_ignore_ascii_case(other.as_str()) {
             return true;
         }
     }

@@ -1,5 +1,5 @@
 -- In a session that is loaded each live handler is verified.
-use Rattle.std.proofs.Common.{◌≡◌, refl, sym, ap, subst, List, [], ◌∷◌, ℕ, ◌+◌, map, Bool, true, false}
+use Rattle.std.proofs.Common.{◌≡◌, refl, sym, ap, subst, List, [], ◌∷◌, ℕ, suc, ◌+◌, map, inl, inr, arith}
 use Rattle.std.specs.Prelude.{Option, Some, None, Result, Ok, Err, MatchResult, IfOk}
 use Rattle.std.specs.List.{All}
 use Rattle.kb_bindings.specs.Fault.{refused_by}
@@ -55,7 +55,10 @@ each_checked : (commands : Commands) (verified : List CheckedHandler) → All (I
     → EachChecked (map (λ (v : CheckedHandler). v.handler) verified) (map (λ (v : CheckedHandler). v.callees) verified)
 each_checked commands [] all = tt
 each_checked commands (v ∷ rest) all =
-    ((commands, all.0.accepted, all.0.callees), each_checked commands rest all.1)
+    let first = all 0 v (omega arith) in (
+      (commands, first.accepted, first.callees),
+      each_checked commands rest (λ k d below. all (suc k) d (omega (arith, below))),
+    )
 
 admits_sound : (extensions : List Extension) (number : ℕ) (handlers : List HandlerData) (live next : Live)
     → Admits extensions number handlers live next → IsSound live → IsSound next
