@@ -23,7 +23,6 @@ use Rattle.kb_keys.specs.declared.platform.Platform.{Platform}
 use Rattle.kb_manifest.specs.Manifest.{Outline}
 use Rattle.kb_rules.specs.RuleList.{Listed, AreRightlyMarked}
 use Rattle.kb_rules.specs.declared.origin.Origin.{Origin}
-use Rattle.kb_rules.specs.declared.origin.Origin.TheVariants as origin
 use Rattle.kb_bindings.specs.Fault.{refused_by, refused_file, of_file}
 use Rattle.kb_bindings.specs.Load.{ExtensionBytes, Files, Held, HeldExtension, HeldLists, HeldRules}
 use Rattle.kb_bindings.specs.Load.{LoadMarks}

@@ -4,12 +4,11 @@ ghost use Rattle.std.specs.Process.{exit_status};
 ghost use Rattle.kb_program.specs.Line.{HasNoWords, IsNoWords};
 ghost use Rattle.kb_run.specs.System.{IsStatus};
 
-use kb_bindings::HandlerFiles;
 use kb_context::NoMemory;
 use kb_natives::HostClosures;
 use kb_options::{OptionsFault, Program, WordsFault, line_status, not_text, options, words_fault};
 use kb_registry::HostCommand;
-use kb_run::{run_on_system, without_memory};
+use kb_run::{Handlers, run_on_system, without_memory};
 use std::alloc::Global;
 use std::env;
 use std::process::ExitCode;
@@ -54,7 +53,7 @@ fn run_words<R: Files + Print + Eprint + Input, H: HostCommand>(
     rt: &R,
     alloc: Global,
     program: Program<'_>,
-    reads: HandlerFiles,
+    handlers: Handlers,
     words: &[String],
     closures: HostClosures<H>,
 ) -> Result<u8, OptionsFault>
@@ -65,34 +64,34 @@ fn run_words<R: Files + Print + Eprint + Input, H: HostCommand>(
         texts.push(word.as_str()).map_err(NoMemory::from)?;
     }
     let given = options(alloc, program, texts.as_slice())?;
-    Ok(run_on_system(rt, alloc, reads, given, closures))
+    Ok(run_on_system(rt, alloc, handlers, given, closures))
 }
 
 fn run_line<R: Alloc<A = Global> + Env + Files + Print + Eprint + Input, H: HostCommand>(
     rt: &R,
     alloc: Global,
     program: Program<'_>,
-    reads: HandlerFiles,
+    handlers: Handlers,
     closures: HostClosures<H>,
 ) -> Result<u8, OptionsFault>
     ensures { IfOk result IsStatus }
 {
     let words = line_words(rt, alloc, program)?;
-    run_words(rt, alloc, program, reads, words.as_slice(), closures)
+    run_words(rt, alloc, program, handlers, words.as_slice(), closures)
 }
 
-/// Runs a program: reads the command line and the files that it names, with or without those of handlers,
-/// loads a session with the host's closures, and runs the script.
+/// Runs a program: reads the command line and the files that it names, loads a session with the host's
+/// closures, and runs the script.
 pub fn run_program<R: Alloc<A = Global> + Env + Files + Print + Eprint + Input, H: HostCommand>(
     rt: &R,
     alloc: Global,
     program: Program<'_>,
-    reads: HandlerFiles,
+    handlers: Handlers,
     closures: HostClosures<H>,
 ) -> ExitCode
     ensures { IsStatus (exit_status result) }
 {
-    match run_line(rt, alloc, program, reads, closures) {
+    match run_line(rt, alloc, program, handlers, closures) {
         Ok(status) => ExitCode::from(status),
         Err(OptionsFault::Line(error)) => {
             let _ = error.print(rt);

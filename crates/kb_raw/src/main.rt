@@ -5,14 +5,13 @@
 ghost use Rattle.kb_core.specs.Native.{Fits};
 ghost use Rattle.kb_core.specs.Ran.{Does};
 
-use kb_bindings::HandlerFiles;
 use kb_context::NoMemory;
 use kb_core::{Args, Core, NATIVES, Ran, plain};
 use kb_natives::{HostClosures, at_budget};
 use kb_options::Program;
 use kb_program::run_program;
 use kb_registry::{NativeCommand, Run};
-use kb_run::without_memory;
+use kb_run::{Handlers, without_memory};
 use std::alloc::Global;
 use std::process::ExitCode;
 
@@ -53,7 +52,7 @@ fn run_with_closures(rt: &HostRuntime, alloc: Global) -> Result<ExitCode, NoMemo
             .map_err(NoMemory::from)?;
     }
     let closures = HostClosures { natives, shelf };
-    Ok(run_program(rt, alloc, rawrun(), HandlerFiles::Raw, closures))
+    Ok(run_program(rt, alloc, rawrun(), Handlers::Raw, closures))
 }
 
 fn main(rt: HostRuntime) -> ExitCode {

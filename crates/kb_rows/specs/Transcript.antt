@@ -1,5 +1,5 @@
 -- What a script writes in a session that is loaded for it, and why it writes nothing.
-use Rattle.std.specs.Prelude.{◌≡◌, ⊤, ℕ, List, map, Ok, Err, ◌<◌, length}
+use Rattle.std.specs.Prelude.{◌≡◌, ◌⊎◌, ⊤, ℕ, List, map, Err, ◌<◌, length}
 use Rattle.kb_context.specs.declared.failure.Failure.{Failure}
 use Rattle.kb_context.specs.declared.failure.Failure.TheVariants.{NoMemory, Fault}
 use Rattle.kb_core.specs.declared.native.Native.{Native}
@@ -9,9 +9,8 @@ use Rattle.kb_script.specs.Script.{said_of, bare}
 use Rattle.kb_script.specs.Shelf.{Said, move, stand}
 use Rattle.kb_script.specs.declared.fault.ScriptFault.{ScriptFault}
 use Rattle.kb_script.specs.declared.fault.ScriptFault.TheVariants as script
-use Rattle.kb_bindings.specs.Load.{Files}
-use Rattle.kb_bindings.specs.declared.inputs.HandlerFiles.TheVariants.{Ignored}
-use Rattle.kb_session.specs.Session.{loaded, load_held, marks_by}
+use Rattle.kb_bindings.specs.Load.{Files, held_by}
+use Rattle.kb_session.specs.Session.{CommandsFail, IsOf}
 use Rattle.kb_session.specs.State.{State}
 use Rattle.kb_stream.specs.Fold.{Traced}
 use Rattle.kb_stream.specs.FoldWriting.{text_of}
@@ -21,7 +20,7 @@ use Rattle.kb_stream.specs.FoldWriting.{text_of}
 -- those of reloads, have
 pub record IsTranscript (files : Files) (natives shelf : List Native) (text out : List ℕ) : Type 0 where
   pub session : Traced State
-  pub loaded_is : loaded Ignored (marks_by files session) files natives ≡ Ok session
+  pub loaded_is : IsOf files natives session
   pub said : List Said
   pub tells : map bare said ≡ said_of text
   pub out_is : out ≡ text_of move said (stand session.state shelf)
@@ -38,5 +37,6 @@ FailsToRun script.Trapped text = ⊥
 -- the load failed, or the script did, or memory was refused
 abbrev pub FailsToGive : Files → List Native → List ℕ → Failure TranscriptFault → Type 0
 FailsToGive files natives text NoMemory = ⊤
-FailsToGive files natives text (Fault (Load fault)) = load_held Ignored files natives ≡ Err fault
+FailsToGive files natives text (Fault (Load fault)) =
+    (held_by files ≡ Err fault) ⊎ CommandsFail files natives (Fault fault)
 FailsToGive files natives text (Fault (Script fault)) = FailsToRun fault text

@@ -29,7 +29,7 @@ pub enum TranscriptFault {
 /// memory. It follows from the natives that the closures stand for, whatever these are.
 ///
 /// Errors: those of `load` and `run_script`, but for `Stopped` and `Trapped`, which a session that was just
-/// loaded without handlers never gives, and refused memory.
+/// loaded never gives, since its handlers are verified, and refused memory.
 pub fn transcript<C: HostCommand>(
     alloc: Global,
     inputs: Inputs<'_>,

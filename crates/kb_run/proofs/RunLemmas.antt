@@ -13,12 +13,14 @@ use Rattle.kb_ending.specs.Report.{warning_line, load_stop}
 use Rattle.kb_ending.specs.Voice.{Heard, Says}
 use Rattle.kb_ending.specs.declared.outcome.Stop.{Stop}
 use Rattle.kb_run.specs.Run.{FailsToLoad, FileMissing, HasBytes, HasFiles, HasRules, HasScript}
-use Rattle.kb_run.specs.Run.{IsHad, Silent, StopsAtScript, Streams, script_bytes, warning_text}
+use Rattle.kb_run.specs.Run.{IsHad, IsLoaded, LoadsBy, Silent, StopsAtScript, Streams, script_bytes, warning_text}
 use Rattle.kb_run.proofs.DirectoryLemmas.{had_read}
 use Rattle.kb_given.specs.declared.given.Options.{Options}
 use Rattle.kb_bindings.specs.Load.{Files}
-use Rattle.kb_bindings.specs.declared.inputs.HandlerFiles.{HandlerFiles}
-use Rattle.kb_session.specs.Session.{Loads}
+use Rattle.kb_run.specs.declared.handlers.Handlers.{Handlers}
+use Rattle.kb_run.specs.declared.handlers.Handlers.TheVariants.{Verified, Raw}
+use Rattle.kb_session.specs.State.{State}
+use Rattle.kb_stream.specs.Fold.{Traced}
 use Rattle.kb_bindings.specs.Sources.{Sources, source_of}
 use Rattle.kb_bindings.specs.declared.fault.LoadFault.{LoadFault}
 use Rattle.kb_bindings.specs.declared.warning.Warning.{Warning}
@@ -52,16 +54,23 @@ warned_all sources before end warnings all are says =
     subst (λ xs. Says before end (warning_text sources xs)) are says
 
 -- a load that fails stops the run
-pub load_fails : (reads : HandlerFiles) (files : Files) (natives : List Native) (failed : Failure LoadFault)
-    → Loads reads files natives (Err failed) → FailsToLoad reads files natives (load_stop failed)
-load_fails reads files natives failure.NoMemory fails = tt
-load_fails reads files natives (failure.Fault fault) fails = fails
+pub load_fails : (handlers : Handlers) (files : Files) (natives : List Native) (failed : Failure LoadFault)
+    → LoadsBy handlers files natives (Err failed) → FailsToLoad handlers files natives (load_stop failed)
+load_fails handlers files natives failure.NoMemory fails = tt
+load_fails Verified files natives (failure.Fault fault) fails = fails
+load_fails Raw files natives (failure.Fault fault) fails = fails
+
+-- what was loaded
+pub session_loaded : (handlers : Handlers) (files : Files) (natives : List Native) (session : Traced State)
+    → LoadsBy handlers files natives (Ok session) → IsLoaded handlers files natives session
+session_loaded Verified files natives session is = is
+session_loaded Raw files natives session is = is
 
 pub nothing_left : (had : Option (List ℕ)) → had ≡ append_known had []
 nothing_left None = refl
 nothing_left (Some bytes) = ap Some (sym (append-nil bytes))
 
-pub ruleset loading = (load_fails)
+pub ruleset loading = (load_fails, session_loaded)
 
 pub had_bytes : {B : Type 0} (held : List ℕ → Held) (view : B → List ℕ) (named : Option (Bor (List ℕ)))
     (got : Option B) → NamesBytes held view named (Ok got) → HasBytes held named (option_map view got)
@@ -73,9 +82,9 @@ pub is_had : {B : Type 0} (held : List ℕ → Held) (view : B → List ℕ) (na
     (got : Option B) → NamesBytes held view named (Ok got) → IsHad held named
 is_had held view named got has = (option_map view got, had_bytes held view named got has)
 
-pub were_had : (reads : HandlerFiles) (held : List ℕ → Held) (given : Options) (files : Files)
-    → HasFiles reads held given files → (all : Files) × HasFiles reads held given all
-were_had reads held given files has = (files, has)
+pub were_had : (held : List ℕ → Held) (given : Options) (files : Files)
+    → HasFiles held given files → (all : Files) × HasFiles held given all
+were_had held given files has = (files, has)
 
 -- the same of rules, where no file is the empty text
 pub had_rules : {B : Type 0} (held : List ℕ → Held) (view : B → List ℕ) (named : Option (Bor (List ℕ)))
@@ -104,12 +113,12 @@ not_opened held remaining None stop fails = fails
 not_opened held remaining (Some path) stop fails = fails
 
 -- the script's file doesn't open, behind all others
-pub script_missing : {F : Type 0} (reads : HandlerFiles) (held : List ℕ → Held) (remaining : F → Option (List ℕ))
+pub script_missing : {F : Type 0} (held : List ℕ → Held) (remaining : F → Option (List ℕ))
     (given : Options) (files : Files) (o : Streams) (end : Result (Unit {0}) Stop) (stop failed : Stop)
-    → HasFiles reads held given files
+    → HasFiles held given files
     → NamesFile held remaining given.script (Err failed) → end ≡ Err stop → stop ≡ failed → Silent o
-    → FileMissing reads held given o end
-script_missing reads held remaining given files o end stop failed has fails ends is silent = record {
+    → FileMissing held given o end
+script_missing held remaining given files o end stop failed has fails ends is silent = record {
   stop = stop;
   end_is = ends;
   why = inr (

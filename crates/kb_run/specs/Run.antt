@@ -4,6 +4,7 @@ use Rattle.std.specs.Prelude.{Option, Some, None, Result, Ok, Err, option_map, u
 use Rattle.std.specs.Borrow.{Bor}
 use Rattle.std.specs.Io.KnownBytes.{Keeps, append_known}
 use Rattle.kb_context.specs.declared.failure.Failure.{Failure}
+use Rattle.kb_context.specs.declared.failure.Failure.TheVariants as failure
 use Rattle.kb_core.specs.declared.native.Native.{Native}
 use Rattle.kb_ending.specs.Files.{Held, HasRead, NamesBytes, NamesFile, Opens}
 use Rattle.kb_ending.specs.Report.{warning_line, script_stop}
@@ -18,9 +19,12 @@ use Rattle.kb_given.specs.declared.given.Options.{Options}
 use Rattle.kb_script.specs.ScriptRun.{Answers}
 use Rattle.kb_script.specs.Shelf.{Stand, beside}
 use Rattle.kb_script.specs.declared.fault.ScriptFault.{ScriptFault}
-use Rattle.kb_bindings.specs.Load.{Files}
-use Rattle.kb_bindings.specs.declared.inputs.HandlerFiles.{HandlerFiles}
-use Rattle.kb_session.specs.Session.{loaded, load_held, marks_by}
+use Rattle.kb_bindings.specs.Load.{Files, held_by}
+use Rattle.kb_bindings.specs.declared.fault.LoadFault.{LoadFault}
+use Rattle.kb_run.specs.declared.handlers.Handlers.{Handlers}
+use Rattle.kb_run.specs.declared.handlers.Handlers.TheVariants.{Verified, Raw}
+use Rattle.kb_session.specs.Session.{CommandsFail, IsOf, Loads, LoadsRaw, loaded_raw, marks_by}
+use Rattle.kb_session.specs.Session.{raw_load_held}
 use Rattle.kb_bindings.specs.Sources.{Sources, source_of}
 use Rattle.kb_session.specs.State.{State}
 use Rattle.kb_bindings.specs.Warning.{warnings_of}
@@ -80,37 +84,48 @@ pub record Silent (o : Streams) : Type 0 where
   pub said : o.said ≡ o.said_before
   pub printed : (left : List ℕ) × (o.had ≡ append_known o.has left)
 
--- the script was reached: the session is what its files load for the marks that it tells, with the host's
--- closures, each of its warnings is said in its line, and the script was played
-pub record Played (reads : HandlerFiles) (files : Files) (closures : Closures) (script : Option (List ℕ))
+-- a session is what these files load, with closures for these natives, for the marks that it tells
+abbrev pub IsLoaded : Handlers → Files → List Native → Traced State → Type 0
+IsLoaded Verified files natives session = IsOf files natives session
+IsLoaded Raw files natives session = loaded_raw (marks_by files session) files natives ≡ Ok session
+
+-- the fault of a load; the marks of patterns make none
+abbrev pub HasLoadFault : Handlers → Files → List Native → LoadFault → Type 0
+HasLoadFault Verified files natives fault =
+    (held_by files ≡ Err fault) ⊎ CommandsFail files natives (failure.Fault fault)
+HasLoadFault Raw files natives fault = raw_load_held files natives ≡ Err fault
+
+-- the script was reached: a session is loaded with the host's closures, each of its warnings is said in its
+-- line, and the script was played
+pub record Played (handlers : Handlers) (files : Files) (closures : Closures) (script : Option (List ℕ))
     (o : Streams) (end : Result (Unit {0}) Stop) : Type 0 where
   pub session : Traced State
-  pub loaded_is : loaded reads (marks_by files session) files closures.natives ≡ Ok session
+  pub loaded_is : IsLoaded handlers files closures.natives session
   pub warned : Says o.said_before o.said
       (warning_text session.state.sources (warnings_of session.state.sources))
   pub new : Traced Stand
   pub plays : PlaysAny script (beside session closures.shelf) new o.had o.has end
 
--- why nothing was loaded; the marks of patterns make no fault
-abbrev pub FailsToLoad : HandlerFiles → Files → List Native → Stop → Type 0
-FailsToLoad reads files natives (CannotRead path) = ⊥
-FailsToLoad reads files natives (CannotReadIn dir file) = ⊥
-FailsToLoad reads files natives (Load fault) = load_held reads files natives ≡ Err fault
-FailsToLoad reads files natives (Script fault) = ⊥
-FailsToLoad reads files natives NoMemory = ⊤
+-- why nothing was loaded
+abbrev pub FailsToLoad : Handlers → Files → List Native → Stop → Type 0
+FailsToLoad handlers files natives (CannotRead path) = ⊥
+FailsToLoad handlers files natives (CannotReadIn dir file) = ⊥
+FailsToLoad handlers files natives (Load fault) = HasLoadFault handlers files natives fault
+FailsToLoad handlers files natives (Script fault) = ⊥
+FailsToLoad handlers files natives NoMemory = ⊤
 
-pub record NotLoaded (reads : HandlerFiles) (files : Files) (closures : Closures) (o : Streams)
+pub record NotLoaded (handlers : Handlers) (files : Files) (closures : Closures) (o : Streams)
     (end : Result (Unit {0}) Stop) : Type 0 where
   pub stop : Stop
   pub end_is : end ≡ Err stop
-  pub why : FailsToLoad reads files closures.natives stop
+  pub why : FailsToLoad handlers files closures.natives stop
   pub silent : Silent o
 
 -- what a run does with what its files hold
-abbrev pub Runs : HandlerFiles → Files → Closures → Option (List ℕ) → Streams → Result (Unit {0}) Stop
+abbrev pub Runs : Handlers → Files → Closures → Option (List ℕ) → Streams → Result (Unit {0}) Stop
     → Type 0
-Runs reads files closures script o end =
-    NotLoaded reads files closures o end ⊎ Played reads files closures script o end
+Runs handlers files closures script o end =
+    NotLoaded handlers files closures o end ⊎ Played handlers files closures script o end
 
 -- the script's bytes, where they are known: those of its file, or of standard input
 abbrev pub script_bytes : {F : Type 0} → (F → Option (List ℕ)) → Option F → Option (List ℕ) → Option (List ℕ)
@@ -135,22 +150,21 @@ HasScript held (Some path) input script =
     Opens {F = Option (List ℕ)} (λ known. known) (held path.now) (Ok script)
 
 -- what the files of a load hold
-pub record HasFiles (reads : HandlerFiles) (held : List ℕ → Held) (given : Options) (files : Files)
-    : Type 0 where
+pub record HasFiles (held : List ℕ → Held) (given : Options) (files : Files) : Type 0 where
   pub layout : HasBytes held given.layout files.layout
   pub defaults : HasRules held given.defaults files.defaults
   pub user : HasRules held given.user files.user
   pub platform : files.platform ≡ given.platform
-  pub extensions : HasDirectories reads held given.dirs.items files.extensions
+  pub extensions : HasDirectories held given.dirs.items files.extensions
 
 -- all files were had, and what they hold was run
-pub record FilesRun (reads : HandlerFiles) (held : List ℕ → Held) (given : Options) (closures : Closures)
+pub record FilesRun (handlers : Handlers) (held : List ℕ → Held) (given : Options) (closures : Closures)
     (input : Option (List ℕ)) (o : Streams) (end : Result (Unit {0}) Stop) : Type 0 where
   pub files : Files
   pub script : Option (List ℕ)
-  pub files_had : HasFiles reads held given files
+  pub files_had : HasFiles held given files
   pub script_had : HasScript held given.script input script
-  pub runs : Runs reads files closures script o end
+  pub runs : Runs handlers files closures script o end
 
 -- ---- a file that is missing
 
@@ -166,29 +180,29 @@ abbrev pub StopsAtScript : (List ℕ → Held) → Option (Bor (List ℕ)) → S
 StopsAtScript held named stop = NamesFile {F = Unit {0}} held (λ file. None) named (Err stop)
 
 -- the first file of a load that isn't read stops the run, in this order
-abbrev pub StopsReadingFiles : HandlerFiles → (List ℕ → Held) → Options → Stop → Type 0
-StopsReadingFiles reads held given stop = StopsAt held given.layout stop
+abbrev pub StopsReadingFiles : (List ℕ → Held) → Options → Stop → Type 0
+StopsReadingFiles held given stop = StopsAt held given.layout stop
     ⊎ (IsHad held given.layout × (StopsAt held given.defaults stop
     ⊎ (IsHad held given.defaults × (StopsAt held given.user stop
-    ⊎ (IsHad held given.user × StopsInDirectories reads held given.dirs.items stop)))))
+    ⊎ (IsHad held given.user × StopsInDirectories held given.dirs.items stop)))))
 
 -- the script's file doesn't open, behind all others
-abbrev pub StopsOpeningScript : HandlerFiles → (List ℕ → Held) → Options → Stop → Type 0
-StopsOpeningScript reads held given stop =
-    ((files : Files) × HasFiles reads held given files) × StopsAtScript held given.script stop
+abbrev pub StopsOpeningScript : (List ℕ → Held) → Options → Stop → Type 0
+StopsOpeningScript held given stop =
+    ((files : Files) × HasFiles held given files) × StopsAtScript held given.script stop
 
 -- a file was not had
-pub record FileMissing (reads : HandlerFiles) (held : List ℕ → Held) (given : Options) (o : Streams)
+pub record FileMissing (held : List ℕ → Held) (given : Options) (o : Streams)
     (end : Result (Unit {0}) Stop) : Type 0 where
   pub stop : Stop
   pub end_is : end ≡ Err stop
-  pub why : StopsReadingFiles reads held given stop ⊎ StopsOpeningScript reads held given stop
+  pub why : StopsReadingFiles held given stop ⊎ StopsOpeningScript held given stop
   pub silent : Silent o
 
-abbrev pub CarriesOut : HandlerFiles → (List ℕ → Held) → Options → Closures → Option (List ℕ) → Streams
+abbrev pub CarriesOut : Handlers → (List ℕ → Held) → Options → Closures → Option (List ℕ) → Streams
     → Result (Unit {0}) Stop → Type 0
-CarriesOut reads held given closures input o end =
-    FileMissing reads held given o end ⊎ FilesRun reads held given closures input o end
+CarriesOut handlers held given closures input o end =
+    FileMissing held given o end ⊎ FilesRun handlers held given closures input o end
 
 -- ---- for private functions
 
@@ -201,3 +215,8 @@ files_in platform read = record {
   platform = platform;
   extensions = map bytes_held read.directories.items;
 }
+
+-- a load answered a session, or its fault, or was refused memory
+abbrev pub LoadsBy : Handlers → Files → List Native → Result (Traced State) (Failure LoadFault) → Type 0
+LoadsBy Verified files natives result = Loads files natives result
+LoadsBy Raw files natives result = LoadsRaw files natives result

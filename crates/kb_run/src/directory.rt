@@ -1,10 +1,10 @@
 //! The files of extensions' directories.
 ghost use Rattle.std.specs.Prelude.{◌≡◌, IfOk, IfErr, map};
 ghost use Rattle.kb_bindings.specs.Load.{extension_bytes};
-ghost use Rattle.kb_run.specs.Directory.{HandlersRead, HasDirectories, HasDirectory, StopsInDirectory};
-ghost use Rattle.kb_run.specs.Directory.{StopsAtHandlers, StopsInDirectories, bytes_held};
+ghost use Rattle.kb_run.specs.Directory.{HasDirectories, HasDirectory, StopsInDirectories};
+ghost use Rattle.kb_run.specs.Directory.{StopsInDirectory, bytes_held};
 
-use kb_bindings::{ExtensionFiles, HandlerFiles};
+use kb_bindings::ExtensionFiles;
 use kb_context::NoMemory;
 use kb_ending::{FileSource, Stop, bytes_in, handlers_in, lent};
 use std::alloc::Global;
@@ -16,35 +16,18 @@ pub(crate) struct DirBytes {
     handlers: Option<Vec<u8>>,
 }
 
-// The bytes of the handlers in a directory, where they are read and there is such a file.
-fn read_handlers<'a, F: FileSource>(
-    alloc: Global,
-    reads: HandlerFiles,
-    dir: &'a str,
-    files: &F,
-) -> Result<Option<Vec<u8>>, Stop<'a>>
-    ensures ok { IfOk result (HandlersRead reads (F.held files.now) (λ bytes. bytes.items) dir.entry) }
-    ensures err { IfErr result (StopsAtHandlers reads (F.held files.now) dir.entry) }
-{
-    match reads {
-        HandlerFiles::Ignored => Ok(None),
-        HandlerFiles::Raw => handlers_in(files, alloc, dir),
-    }
-}
-
 // The bytes of the files in a directory: the manifest, and then the handlers.
 #[tactic(auto, using(crate::proofs::DirectoryLemmas::directory))]
 fn read_directory<'a, F: FileSource>(
     alloc: Global,
-    reads: HandlerFiles,
     dir: &'a str,
     files: &F,
 ) -> Result<DirBytes, Stop<'a>>
-    ensures ok { IfOk result (λ read. HasDirectory reads (F.held files.now) dir.entry (bytes_held read)) }
-    ensures err { IfErr result (StopsInDirectory reads (F.held files.now) dir.entry) }
+    ensures ok { IfOk result (λ read. HasDirectory (F.held files.now) dir.entry (bytes_held read)) }
+    ensures err { IfErr result (StopsInDirectory (F.held files.now) dir.entry) }
 {
     let package = bytes_in(files, alloc, dir)?;
-    let handlers = read_handlers(alloc, reads, dir, files)?;
+    let handlers = handlers_in(files, alloc, dir)?;
     Ok(DirBytes { package, handlers })
 }
 
@@ -53,17 +36,16 @@ fn read_directory<'a, F: FileSource>(
 /// Errors: how the run ends, where one is not had.
 pub(crate) fn read_directories<'a, F: FileSource>(
     alloc: Global,
-    reads: HandlerFiles,
     dirs: &[&'a str],
     files: &F,
 ) -> Result<Vec<DirBytes>, Stop<'a>>
     ensures ok { IfOk result (λ read.
-        HasDirectories reads (F.held files.now) dirs.now (map bytes_held read.items)) }
-    ensures err { IfErr result (StopsInDirectories reads (F.held files.now) dirs.now) }
+        HasDirectories (F.held files.now) dirs.now (map bytes_held read.items)) }
+    ensures err { IfErr result (StopsInDirectories (F.held files.now) dirs.now) }
 {
     let mut directories = Vec::new(alloc);
     for dir in dirs {
-        let read = read_directory(alloc, reads, *dir, files)?;
+        let read = read_directory(alloc, *dir, files)?;
         directories.push(read).map_err(NoMemory::from)?;
     }
     Ok(directories)

@@ -3,8 +3,10 @@
 #![tactic(auto)]
 
 mod directory;
+pub mod handlers;
 pub mod run;
 pub mod system;
 
+pub use handlers::Handlers;
 pub use run::carry_out;
 pub use system::{run_on_system, without_memory};

@@ -8,11 +8,12 @@ ghost use Rattle.kb_run.specs.Run.{closures_of, script_bytes, warning_text};
 ghost use Rattle.kb_run.specs.Run.{HasFiles, StopsReadingFiles, files_in};
 ghost use Rattle.kb_bindings.specs.Load.{files_of};
 ghost use Rattle.kb_script.specs.Shelf.{beside};
-ghost use Rattle.kb_session.specs.Session.{Loads};
+ghost use Rattle.kb_run.specs.Run.{LoadsBy};
 ghost use Rattle.kb_bindings.specs.Warning.{warnings_of};
 
 use crate::directory::{DirBytes, lent_all, read_directories};
-use kb_bindings::{HandlerFiles, Inputs, LoadFault};
+use crate::handlers::Handlers;
+use kb_bindings::{Inputs, LoadFault};
 use kb_context::Failure;
 use kb_ending::{
     Console, FileSource, Stop, Voice, WarningLine, bytes_named, file_named, lent, script_stop,
@@ -76,18 +77,18 @@ fn play_any<'a, S: Read + Drop, I: Read, O: Write + Drop, H: HostCommand>(
     }
 }
 
-// Loads a session of what the files hold, with the host's closures, with or without the files of handlers.
+// Loads a session of what the files hold, with the host's closures.
 fn load<H: HostCommand>(
     alloc: Global,
-    reads: HandlerFiles,
+    handlers: Handlers,
     inputs: Inputs<'_>,
     natives: Vec<H>,
 ) -> Result<Session<H>, Failure<LoadFault>>
-    ensures { Loads reads (files_of inputs.entry) (map H.stands_for natives.items) result }
+    ensures { LoadsBy handlers (files_of inputs.entry) (map H.stands_for natives.items) result }
 {
-    match reads {
-        HandlerFiles::Ignored => Session::load(alloc, inputs, natives),
-        HandlerFiles::Raw => Session::load_raw(alloc, inputs, natives),
+    match handlers {
+        Handlers::Verified => Session::load(alloc, inputs, natives),
+        Handlers::Raw => Session::load_raw(alloc, inputs, natives),
     }
 }
 
@@ -95,7 +96,7 @@ fn load<H: HostCommand>(
 #[tactic(auto, using(crate::proofs::RunLemmas::loading))]
 fn run_loaded<'a, S: Read + Drop, I: Read, O: Write + Drop, C: Console + Drop, H: HostCommand>(
     alloc: Global,
-    reads: HandlerFiles,
+    handlers: Handlers,
     inputs: Inputs<'_>,
     closures: HostClosures<H>,
     script: Option<S>,
@@ -103,7 +104,7 @@ fn run_loaded<'a, S: Read + Drop, I: Read, O: Write + Drop, C: Console + Drop, H
     trace: &mut BufWriter<O>,
     voice: &mut Voice<C>,
 ) -> Result<(), Stop<'a>>
-    ensures { Runs reads (files_of inputs.entry)
+    ensures { Runs handlers (files_of inputs.entry)
         (closures_of (map H.stands_for closures.natives.items) (map H.stands_for closures.shelf.items))
         (script_bytes S.remaining script (I.remaining input.old)) (record {
           said_before = heard_by C.said voice.old;
@@ -113,7 +114,7 @@ fn run_loaded<'a, S: Read + Drop, I: Read, O: Write + Drop, C: Console + Drop, H
         }) result }
 {
     let HostClosures { natives, mut shelf } = closures;
-    match load(alloc, reads, inputs, natives) {
+    match load(alloc, handlers, inputs, natives) {
         Ok(mut session) => {
             say_warnings(&session, voice);
             let end = play_any(alloc, script, input, trace, &mut session, &mut shelf);
@@ -137,18 +138,17 @@ struct FileBytes {
 #[tactic(auto, using(crate::proofs::RunLemmas::files))]
 fn read_files<'a, F: FileSource>(
     alloc: Global,
-    reads: HandlerFiles,
     given: &Options<'a>,
     files: &F,
 ) -> Result<FileBytes, Stop<'a>>
     ensures ok { IfOk result (λ read.
-        HasFiles reads (F.held files.now) given.now (files_in given.now.platform read)) }
-    ensures err { IfErr result (StopsReadingFiles reads (F.held files.now) given.now) }
+        HasFiles (F.held files.now) given.now (files_in given.now.platform read)) }
+    ensures err { IfErr result (StopsReadingFiles (F.held files.now) given.now) }
 {
     let layout = bytes_named(files, alloc, given.layout)?;
     let defaults = bytes_named(files, alloc, given.defaults)?;
     let user = bytes_named(files, alloc, given.user)?;
-    let directories = read_directories(alloc, reads, given.dirs.as_slice(), files)?;
+    let directories = read_directories(alloc, given.dirs.as_slice(), files)?;
     Ok(FileBytes {
         layout,
         defaults,
@@ -170,7 +170,7 @@ fn lent_or_empty(bytes: &Option<Vec<u8>>) -> &[u8]
 // Runs the script over the files of a load, as they were read.
 fn run_files<'a, S: Read + Drop, I: Read, O: Write + Drop, C: Console + Drop, H: HostCommand>(
     alloc: Global,
-    reads: HandlerFiles,
+    handlers: Handlers,
     platform: Platform,
     read: &FileBytes,
     closures: HostClosures<H>,
@@ -179,7 +179,7 @@ fn run_files<'a, S: Read + Drop, I: Read, O: Write + Drop, C: Console + Drop, H:
     trace: &mut BufWriter<O>,
     voice: &mut Voice<C>,
 ) -> Result<(), Stop<'a>>
-    ensures { Runs reads (files_in platform read.now)
+    ensures { Runs handlers (files_in platform read.now)
         (closures_of (map H.stands_for closures.natives.items) (map H.stands_for closures.shelf.items))
         (script_bytes S.remaining script (I.remaining input.old)) (record {
           said_before = heard_by C.said voice.old;
@@ -196,12 +196,14 @@ fn run_files<'a, S: Read + Drop, I: Read, O: Write + Drop, C: Console + Drop, H:
         platform,
         extensions: extensions.as_slice(),
     };
-    run_loaded(alloc, reads, inputs, closures, script, input, trace, voice)
+    run_loaded(
+        alloc, handlers, inputs, closures, script, input, trace, voice,
+    )
 }
 
 /// Carries out what the command line asks for. All files are read or opened before the load, in this
-/// order: the layout, the default rules, the user's rules, in each directory the manifest and then, where
-/// files of handlers are read, the handlers, and at last the script. The first that is not had ends the run,
+/// order: the layout, the default rules, the user's rules, in each directory the manifest and then the
+/// handlers, and at last the script. The first that is not had ends the run,
 /// but for handlers that aren't there. The load registers the host's closures, and the script has the shelf
 /// of them. Warnings of the load are said before the script runs.
 ///
@@ -209,7 +211,7 @@ fn run_files<'a, S: Read + Drop, I: Read, O: Write + Drop, C: Console + Drop, H:
 #[tactic(auto, using(crate::proofs::RunLemmas::files))]
 pub fn carry_out<'a, F: FileSource, I: Read, O: Write + Drop, C: Console + Drop, H: HostCommand>(
     alloc: Global,
-    reads: HandlerFiles,
+    handlers: Handlers,
     given: Options<'a>,
     closures: HostClosures<H>,
     files: &F,
@@ -217,7 +219,7 @@ pub fn carry_out<'a, F: FileSource, I: Read, O: Write + Drop, C: Console + Drop,
     trace: &mut BufWriter<O>,
     voice: &mut Voice<C>,
 ) -> Result<(), Stop<'a>>
-    ensures { CarriesOut reads (F.held files.now) given.entry
+    ensures { CarriesOut handlers (F.held files.now) given.entry
         (closures_of (map H.stands_for closures.natives.items) (map H.stands_for closures.shelf.items))
         (I.remaining input.old) (record {
           said_before = heard_by C.said voice.old;
@@ -226,11 +228,11 @@ pub fn carry_out<'a, F: FileSource, I: Read, O: Write + Drop, C: Console + Drop,
           has = O.contents (writer_inner trace.new);
         }) result }
 {
-    let read = read_files(alloc, reads, &given, files)?;
+    let read = read_files(alloc, &given, files)?;
     let script = file_named(files, given.script)?;
     run_files(
         alloc,
-        reads,
+        handlers,
         given.platform,
         &read,
         closures,

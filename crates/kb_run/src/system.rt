@@ -5,8 +5,8 @@ ghost use Rattle.kb_ending.specs.Report.{status_of};
 ghost use Rattle.kb_ending.specs.Voice.{heard_by};
 ghost use Rattle.kb_run.specs.System.{IsStatus, Reports};
 
+use crate::handlers::Handlers;
 use crate::run::carry_out;
-use kb_bindings::HandlerFiles;
 use kb_ending::{Console, Stop, SystemConsole, SystemFiles, Voice, ending};
 use kb_given::Options;
 use kb_natives::HostClosures;
@@ -32,7 +32,7 @@ fn report<C: Console + Drop>(end: &Result<(), Stop<'_>>, voice: &mut Voice<C>) -
 pub fn run_on_system<R: Files + Print + Eprint + Input, H: HostCommand>(
     rt: &R,
     alloc: Global,
-    reads: HandlerFiles,
+    handlers: Handlers,
     given: Options<'_>,
     closures: HostClosures<H>,
 ) -> u8
@@ -45,7 +45,7 @@ pub fn run_on_system<R: Files + Print + Eprint + Input, H: HostCommand>(
     let files = SystemFiles { rt };
     let end = carry_out(
         alloc,
-        reads,
+        handlers,
         given,
         closures,
         &files,

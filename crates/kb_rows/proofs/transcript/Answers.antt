@@ -10,5 +10,5 @@ returns-clause-err g c =
     let natives = map g.C.HostCommand.stands_for c.args.natives.items in
     let failed : c.run_script-ran.result ≡ Err (Fault fault) = search rules in
     answered_fault c.run_script-ran.result fault c.args.script.now _ _ _ _ _ failed
-    (loaded_runs _ _ natives c.in-Ok.session c.in-Ok.ensures.read)
-    c.in-Ok.ensures.calm c.run_script-ran.ensures.left
+    (loaded_runs _ natives c.in-Ok.session c.in-Ok.ensures.read)
+    c.in-Ok.ensures.sound c.run_script-ran.ensures.left

@@ -6,22 +6,21 @@ use Rattle.kb_run.proofs.directory.read_directories.Goals as goal
 
 pub loop-dir-preserved : goal.loop-dir-preserved
 loop-dir-preserved g c =
-    let reads = c.args.reads in
     let held = g.F.FileSource.held c.args.files.now in
     let dirs = c.args.dirs.now in
     let i = c.loop-dir.dir-index in
     let before = c.loop-dir.directories.items in
     let got = c.in_ok-read.read in
     let more : c.push.new.self.items ≡ before ++ got ∷ [] = search rules in
-    let all = directories_more reads held bytes_held dirs i _ before got (omega arith) c.in_ok-read.ensures.ok
+    let all = directories_more held bytes_held dirs i _ before got (omega arith) c.in_ok-read.ensures.ok
     c.loop-dir.invariant.0 in (
-      subst (λ xs. (rest : List ExtensionBytes) → HasDirectories reads held (drop (i + 1) dirs) rest
-          → HasDirectories reads held dirs (map bytes_held xs ++ rest)) (sym more) all,
+      subst (λ xs. (rest : List ExtensionBytes) → HasDirectories held (drop (i + 1) dirs) rest
+          → HasDirectories held dirs (map bytes_held xs ++ rest)) (sym more) all,
       λ stop why. c.loop-dir.invariant.1 stop
-          (stops_later reads held bytes_held dirs i _ got stop (omega arith) c.in_ok-read.ensures.ok why),
+          (stops_later held bytes_held dirs i _ got stop (omega arith) c.in_ok-read.ensures.ok why),
     )
 
 pub returns-clause-ok : goal.returns-clause-ok
 returns-clause-ok g c =
-    directories_end c.args.reads (g.F.FileSource.held c.args.files.now) c.args.dirs.now c.loop-dir.dir-index _
+    directories_end (g.F.FileSource.held c.args.files.now) c.args.dirs.now c.loop-dir.dir-index _
     (omega arith) c.loop-dir.invariant.0

@@ -8,7 +8,7 @@ use Rattle.kb_run.proofs.directory.read_directories.Given as goal
 abbrev pub invariant-loop-dir : goal.invariant-loop-dir
 invariant-loop-dir g l =
     let held = g.F.FileSource.held l.files in
-    ((rest : List ExtensionBytes) → HasDirectories l.reads held (drop l.dir-index l.dirs) rest
-    → HasDirectories l.reads held l.dirs (map bytes_held l.directories.items ++ rest))
-    × ((stop : Stop) → StopsInDirectories l.reads held (drop l.dir-index l.dirs) stop
-    → StopsInDirectories l.reads held l.dirs stop)
+    ((rest : List ExtensionBytes) → HasDirectories held (drop l.dir-index l.dirs) rest
+    → HasDirectories held l.dirs (map bytes_held l.directories.items ++ rest))
+    × ((stop : Stop) → StopsInDirectories held (drop l.dir-index l.dirs) stop
+    → StopsInDirectories held l.dirs stop)
