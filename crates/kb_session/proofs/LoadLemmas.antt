@@ -1,6 +1,6 @@
 -- A session is what its files load, with the commands that are live.
-use Rattle.std.proofs.Common.{◌≡◌, List, refl, ap, ◌∙◌, subst, sym}
-use Rattle.std.specs.Prelude.{Result, Ok, Err}
+use Rattle.std.proofs.Common.{◌≡◌, List, refl, ap, ◌∙◌, subst, sym, inl}
+use Rattle.std.specs.Prelude.{Result, Ok, Err, IfOk, IfErr}
 use Rattle.kb_bindings.specs.Load as load
 use Rattle.kb_bindings.specs.Load.{Files, Held, held_by, handlers_of, marks_told, sources_by, LoadMarks}
 use Rattle.kb_bindings.specs.Unread.{unread_of}
@@ -39,6 +39,18 @@ checked_fails files natives l failure held fail = record {
   held = held;
   fail = fail;
 }
+
+-- what a session begins as, or refused memory
+pub begun_loads : (files : Files) (natives : List Native) (l : Loaded) (live : Live)
+    (r : Result Seen (Failure LoadFault))
+    → load.loaded (marks_told files (unread_of l.bindings)) files ≡ Ok l
+    → LiveChecked natives l.bindings.extensions l.handlers (Ok live)
+    → IfOk r (λ session. session ≡ loaded_session l.scopes l.bindings live)
+    → IfErr r (λ why. why ≡ failure.NoMemory) → Loads files natives r
+begun_loads files natives l live (Ok session) held checked is fails =
+    session_is_of files natives l live session held checked is
+begun_loads files natives l live (Err why) held checked is fails =
+    inl (subst (λ (f : Failure LoadFault). Fails f (held_by files)) (sym fails) tt)
 
 -- ---- raw handlers
 

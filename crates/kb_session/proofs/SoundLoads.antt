@@ -86,3 +86,9 @@ live_sound natives extensions all live (inr begins) =
 pub loads_sound : (files : Files) (natives : List Native) (session : Seen) → IsOf files natives session
     → IsSound session.state.live
 loads_sound files natives session is = live_sound natives _ _ session.state.live is.live
+
+-- and so in what was loaded, if anything was
+pub all_loads_sound : (files : Files) (natives : List Native) (r : Result Seen (Failure LoadFault))
+    → Loads files natives r → IfOk r (λ session. IsSound session.state.live)
+all_loads_sound files natives (Ok session) is = loads_sound files natives session is
+all_loads_sound files natives (Err why) fails = tt
