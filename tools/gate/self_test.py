@@ -11,7 +11,7 @@ from gate import kit
 from gate.edits import edits_of
 from gate.said import Said
 from gate.source import functions_of
-from gate.trying import Crate, trouble_in, try_as_proved
+from gate.trying import PROVED, Crate, trouble_in, try_as_proved
 from gate.twins import Proofs, Twin, goals_left
 
 SOURCE = """\
@@ -219,6 +219,16 @@ def made_crate(top):
 
 
 class Following(unittest.TestCase):
+    def test_a_crate_is_proved_by_this_run_or_by_an_earlier_one(self):
+        said = {
+            "rt: tiny proved": ["tiny"],
+            "rt: tiny is kept: an earlier run on this machine proved the same files over the same libraries": ["tiny"],
+            "rt: tiny NOT PROVED": [],
+            "rt: tiny: its tests are proved": [],
+        }
+        for line, names in said.items():
+            self.assertEqual(PROVED.findall(line), names)
+
     def test_a_crate_that_is_not_proved_has_no_edit_refused(self):
         with tempfile.TemporaryDirectory() as top:
             lines = ["rt: tiny NOT PROVED\n", "0 passed, 1 failed\n"]
