@@ -41,6 +41,7 @@ fault_name n =
     else if n == 71 then codes "Exhausted"
     else if n == 72 then codes "StaleTicket"
     else if n == 73 then codes "InUse"
+    else if n == 74 then codes "CalleeNotLive"
     else if n == 80 then codes "MissingOperand"
     else if n == 81 then codes "UnknownCommand"
     else if n == 82 then codes "WrongArgument"

@@ -78,6 +78,7 @@ pub fn fault_name(number: u32) -> &'static str
         71 => "Exhausted",
         72 => "StaleTicket",
         73 => "InUse",
+        74 => "CalleeNotLive",
         80 => "MissingOperand",
         81 => "UnknownCommand",
         82 => "WrongArgument",
