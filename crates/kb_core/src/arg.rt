@@ -15,12 +15,13 @@ pub enum Arg {
 }
 
 /// What a parameter takes.
-#[derive(Clone, Copy, Debug, PartialEq, Eq)]
+#[derive(Clone, Copy, Debug, Default, PartialEq, Eq)]
 pub enum Kind {
     Text,
     Number,
     Truth,
     /// Each of the other three.
+    #[default]
     Any,
 }
 

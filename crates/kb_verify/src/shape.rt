@@ -4,13 +4,17 @@ ghost use Rattle.std.specs.Prelude.{IfOk, OnOk, MatchOption, IsTrue};
 
 use kb_context::NoMemory;
 use kb_core::Kind;
+use smallvec::SmallVec;
 use std::alloc::Global;
 use std::marker::Model;
+
+/// How many kinds stand in the shape itself. Most shapes are no larger, so that a copy takes no memory.
+const INLINE: usize = 16;
 
 /// The kinds of the operands at a place. Contracts see them from the top.
 #[derive(Debug, Drop)]
 pub(crate) struct Shape {
-    kinds: Vec<Kind>,
+    kinds: SmallVec<Kind, INLINE, Global>,
 }
 
 impl Model for Shape {
@@ -28,7 +32,7 @@ impl Shape {
         ensures { result ≡ [] }
     {
         Shape {
-            kinds: Vec::new(alloc),
+            kinds: SmallVec::new(alloc),
         }
     }
 
@@ -44,7 +48,7 @@ impl Shape {
         ensures { IfOk result (λ made. made ≡ self.now) }
     {
         Ok(Shape {
-            kinds: Vec::from_slice(alloc, self.kinds.as_slice())?,
+            kinds: SmallVec::from_slice(alloc, self.kinds.as_slice())?,
         })
     }
 
@@ -69,7 +73,7 @@ impl Shape {
         ensures { result.now ≡ reverse (take count self.now) }
     {
         let left = self.kinds.len() - count;
-        &self.kinds[left..]
+        &self.kinds.as_slice()[left..]
     }
 
     /// Takes so many of the topmost kinds away.

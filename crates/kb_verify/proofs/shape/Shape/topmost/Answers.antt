@@ -7,6 +7,6 @@ pub returns : goal.returns
 returns c =
     let kinds = c.self.inside.kinds in
     let n = c.len.result - c.args.count in
-    let at : n ≡ length kinds.items - c.args.count = ap (λ m. m - c.args.count) (c.len.ensures ∙ kinds.ok.0) in
-    take_rest c.deref.result.now n ∙ ap (drop n) c.deref.ensures.value
+    let at : n ≡ length kinds.items - c.args.count = ap (λ m. m - c.args.count) c.len.ensures.value in
+    take_rest c.as_slice.result.now n ∙ ap (drop n) c.as_slice.ensures
     ∙ taken_from kinds.items c.args.self.now c.args.count n c.self.view_is c.requires at
