@@ -1,5 +1,5 @@
 //! What a machine that runs handlers asks of the live commands.
-ghost use Rattle.std.specs.Prelude.{◌≡◌, ◌<◌, ℕ, List, Option, length, slice_get, Some, option_map};
+ghost use Rattle.std.specs.Prelude.{◌≡◌, ◌<◌, ◌≤◌, ℕ, List, Option, length, slice_get, Some, option_map};
 ghost use Rattle.kb_core.specs.Native.{Fits, named};
 ghost use Rattle.kb_core.specs.Ran.{Does};
 ghost use Rattle.kb_codes.specs.Callee.{Callee, IsLive, declared_by};
@@ -70,7 +70,8 @@ pub enum Found<'r> {
 impl<'r> Found<'r> {
     /// How many arguments the command takes. It takes no memory.
     pub fn params(&self) -> usize
-        ensures { result ≡ length (declared_by (callee_of self.now)).params }
+        ensures params { result ≡ length (declared_by (callee_of self.now)).params }
+        ensures few { result ≤ 8 }
     {
         match self {
             Found::Plain(native) => native.params().len(),

@@ -3,6 +3,7 @@ pub mod Shapes
 pub mod Moves
 pub mod Paths
 pub mod NeverStuck
+pub mod Starts
 pub mod Found
 pub mod Callees
 pub mod Stays

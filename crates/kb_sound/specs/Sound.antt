@@ -1,5 +1,5 @@
 -- Verified handlers never get stuck.
-use Rattle.std.specs.Prelude.{◌≡◌, ℕ, true, List, [], Option, Some, option_map, option_and_then, slice_get}
+use Rattle.std.specs.Prelude.{◌≡◌, ℕ, true, List, [], Option, Some, IfSome, option_map, option_and_then, slice_get}
 use Rattle.kb_core.specs.declared.arg.Arg.{Arg}
 use Rattle.kb_core.specs.declared.run.Core.{Core}
 use Rattle.kb_core.specs.Declaration.{Declaration}
@@ -8,6 +8,8 @@ use Rattle.kb_code.specs.Handler.{HandlerData}
 use Rattle.kb_codes.specs.Callee.{Callee, Coded, Table, declared_by}
 use Rattle.kb_verify.specs.Callable.{Commands}
 use Rattle.kb_verify.specs.Accepted.{IsAccepted, IsCallee}
+use Rattle.kb_vm.specs.declared.machine.End.{End}
+use Rattle.kb_vm.specs.declared.machine.End.TheVariants as end
 use Rattle.kb_vm.specs.Meaning.{World, Answer, Done, Stuck, run, start_of}
 
 -- what the live command declares that a handler's list of calls has at an index
@@ -40,3 +42,12 @@ abbrev pub StartsNeverStuck : Type 0
 StartsNeverStuck = (table : Table) → AllVerified table → (name : List ℕ) (callee : Callee) →
     table name ≡ Some callee → (args : List Arg) → fits (declared_by callee).params args ≡ true →
     (core : Core) (a : Answer) → start_of table name args core ≡ Some a → IsDone a
+
+-- the arguments of a start fit the live command, if there is one
+abbrev pub Fits : Table → List ℕ → List Arg → Type 0
+Fits table name args = IfSome (table name) (λ callee. fits (declared_by callee).params args ≡ true)
+
+-- a start doesn't end with a trap
+abbrev pub IsNoTrap : End → Type 0
+IsNoTrap (end.Trap trap command place) = ⊥
+IsNoTrap _ = Unit {0}

@@ -10,8 +10,9 @@ use kb_codes::Commands;
 use kb_context::{NoMemory, Scopes};
 use kb_core::{Args, Core, Ran};
 use kb_registry::HostCommand;
+use kb_sound::start;
 use kb_stream::Lines;
-use kb_vm::{End, Outcome, start};
+use kb_vm::{End, Outcome};
 use std::alloc::Global;
 use std::marker::Model;
 
@@ -80,7 +81,7 @@ impl HeldCore {
         cost
     }
 
-    /// Starts a live command with arguments, as `kb_vm::start` does, on the core that is held.
+    /// Starts a live command with arguments, as `kb_sound::start` does, on the core that is held.
     pub fn start<'r, L: Commands>(
         &mut self,
         alloc: Global,

@@ -148,7 +148,7 @@ finish_keeps table (f ∷ fs) a x p =
 
 -- what is left to do goes on from what was there
 rest_keeps : (table : Table) (m : Machine) (w : World) → Precedes w (world_of (rest table m w))
-rest_keeps table m w = finish_keeps table m.callers.items _ w (resume_keeps table m.frame w)
+rest_keeps table m w = finish_keeps table m.callers _ w (resume_keeps table m.frame w)
 
 pub native_keeps : (table : Table) (m : Machine) (n : Native) (args : List Arg) (w : World)
     → Precedes w (world_of (after_native table m n args w))
@@ -158,22 +158,22 @@ native_keeps table m n args w =
 pub coded_keeps : (table : Table) (m : Machine) (h : HandlerData) (args : List Arg) (w : World)
     → Precedes w (world_of (after_coded table m h args w))
 coded_keeps table m h args w =
-    finish_keeps table m.callers.items _ w
+    finish_keeps table m.callers _ w
     (and_then_keeps (run table h args h.signature.budget 0 [] w) (resume table m.frame) w
     (resume_keeps table m.frame) (run_keeps table h args h.signature.budget 0 [] w))
 
 pub rest_of_keeps : (table : Table) (m : Machine) (e : Effect) (w : World)
     → Precedes w (world_of (rest_of table m e w))
 rest_of_keeps table m e w =
-    finish_keeps table m.callers.items _ w
+    finish_keeps table m.callers _ w
     (follow_keeps (run table) (run_keeps table) m.frame.handler m.frame.args m.frame.left m.frame.place w e)
 
 -- a handler gets a frame, and its caller waits
 pub coded_rest : (table : Table) (m : Machine) (h : HandlerData) (args : List Arg) (w : World) (fs : List Frame)
-    (left : ℕ) (operands : List Arg) → fs ≡ m.callers.items ++ m.frame ∷ [] → left ≡ h.signature.budget
+    (left : ℕ) (operands : List Arg) → fs ≡ m.callers ++ m.frame ∷ [] → left ≡ h.signature.budget
     → operands ≡ [] → after_coded table m h args w ≡ finish table fs (run table h args left 0 operands w)
 coded_rest table m h args w fs left operands e l o =
-    sym (finish_more table m.callers.items m.frame (run table h args h.signature.budget 0 [] w))
+    sym (finish_more table m.callers m.frame (run table h args h.signature.budget 0 [] w))
     ∙ ap (λ gs. finish table gs (run table h args h.signature.budget 0 [] w)) (sym e)
     ∙ ap (λ n. finish table fs (run table h args n 0 [] w)) (sym l)
     ∙ ap (λ os. finish table fs (run table h args left 0 os w)) (sym o)

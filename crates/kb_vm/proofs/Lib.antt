@@ -5,6 +5,7 @@ pub mod Frames
 pub mod Refusals
 pub mod Runs
 pub mod Turns
+pub mod Waiting
 pub mod Begun
 pub mod Starts
 pub mod VmRows

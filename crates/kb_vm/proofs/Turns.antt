@@ -34,24 +34,24 @@ use Rattle.kb_vm.proofs.Frames.{finish_stuck}
 
 -- a jump, by whether it leads to a later place
 goto_if : Table → Machine → ℕ → List Arg → World → Bool → Answer
-goto_if table m to operands w b = finish table m.callers.items (if b then run table m.frame.handler m.frame.args m.frame.left to operands w else Stuck BadCode m.frame.handler.command m.frame.place w)
+goto_if table m to operands w b = finish table m.callers (if b then run table m.frame.handler m.frame.args m.frame.left to operands w else Stuck BadCode m.frame.handler.command m.frame.place w)
 
 pub goes_back : (table : Table) (m : Machine) (to : ℕ) (operands : List Arg) (w : World) → to ≤ m.frame.place
     → rest_of table m (Goto to operands) w ≡ Stuck BadCode m.frame.handler.command m.frame.place w
 unfolding goto_if
 goes_back table m to operands w le =
     ap (goto_if table m to operands w) (le-ltb _ _ le)
-    ∙ finish_stuck table m.callers.items BadCode m.frame.handler.command m.frame.place w
+    ∙ finish_stuck table m.callers BadCode m.frame.handler.command m.frame.place w
 
 pub goes_on : (table : Table) (m : Machine) (to : ℕ) (operands : List Arg) (w : World) → m.frame.place < to
     → rest_of table m (Goto to operands) w
-    ≡ finish table m.callers.items (run table m.frame.handler m.frame.args m.frame.left to operands w)
+    ≡ finish table m.callers (run table m.frame.handler m.frame.args m.frame.left to operands w)
 unfolding goto_if
 goes_on table m to operands w lt = ap (goto_if table m to operands w) (lt-ltb _ _ lt)
 
 -- a call, by whether its frame can pay for it
 enter_if : Table → Machine → List ℕ → Callee → List Arg → List Arg → World → Bool → Answer
-enter_if table m name callee given operands w b = finish table m.callers.items (if b then and_then (run_callee (run table) callee given (with_line name given w)) (λ u. run table m.frame.handler m.frame.args (m.frame.left - (declared_by callee).budget) (m.frame.place + 1) operands u) else Stuck OutOfBudget m.frame.handler.command m.frame.place w)
+enter_if table m name callee given operands w b = finish table m.callers (if b then and_then (run_callee (run table) callee given (with_line name given w)) (λ u. run table m.frame.handler m.frame.args (m.frame.left - (declared_by callee).budget) (m.frame.place + 1) operands u) else Stuck OutOfBudget m.frame.handler.command m.frame.place w)
 
 pub entered_poor : (table : Table) (m : Machine) (name : List ℕ) (callee : Callee) (given operands : List Arg)
     (w : World) → m.frame.left < (declared_by callee).budget
@@ -60,12 +60,12 @@ pub entered_poor : (table : Table) (m : Machine) (name : List ℕ) (callee : Cal
 unfolding enter_if
 entered_poor table m name callee given operands w lt =
     ap (enter_if table m name callee given operands w) (lt-leb _ _ lt)
-    ∙ finish_stuck table m.callers.items OutOfBudget m.frame.handler.command m.frame.place w
+    ∙ finish_stuck table m.callers OutOfBudget m.frame.handler.command m.frame.place w
 
 -- what a callee gives, for which so much was paid
 abbrev pub paid : Table → Machine → ℕ → Callee → List Arg → List Arg → World → Answer
 paid table m most callee given operands w =
-    finish table m.callers.items (and_then (run_callee (run table) callee given w)
+    finish table m.callers (and_then (run_callee (run table) callee given w)
     (λ u. run table m.frame.handler m.frame.args (m.frame.left - most) (m.frame.place + 1) operands u))
 
 pub entered_rich : (table : Table) (m : Machine) (name : List ℕ) (callee k : Callee) (most : ℕ)
@@ -130,7 +130,7 @@ kept_shows w m n k s = record {
 }
 
 pub left_turned : (table : Table) (m : Machine) (t : Turn) (w : World) → Shows w m.core m.lines m.spent
-    → Left table m t → TurnedFrom table (finish table m.callers.items (Done w)) t
+    → Left table m t → TurnedFrom table (finish table m.callers (Done w)) t
 left_turned table m (turn.On n) w s l = (w, kept_shows w m n l.0 s, l.1 w)
 left_turned table m (turn.Ended n) w s l = (w, kept_shows w m n l.0 s, l.1 w)
 left_turned table m (turn.Trapped n trap) w s l = absurd l

@@ -15,7 +15,7 @@ pub record Keeps (m n : Machine) : Type 0 where
   pub credit : credit n ≤ credit m
 
 abbrev pub Left : Table → Machine → Turn → Type 0
-Left table m (turn.On n) = Keeps m n × ((w : World) → finish table m.callers.items (Done w) ≡ rest table n w)
-Left table m (turn.Ended n) = Keeps m n × ((w : World) → finish table m.callers.items (Done w) ≡ Done w)
+Left table m (turn.On n) = Keeps m n × ((w : World) → finish table m.callers (Done w) ≡ rest table n w)
+Left table m (turn.Ended n) = Keeps m n × ((w : World) → finish table m.callers (Done w) ≡ Done w)
 Left table m (turn.Trapped n trap) = ⊥
 Left table m (turn.NoMemory n) = ⊥

@@ -8,4 +8,5 @@ pub mod Memory
 pub mod Action
 pub mod Outcome
 pub mod State
+pub mod Waiting
 pub mod Leave

@@ -33,11 +33,11 @@ finish table (f ∷ fs) a = and_then (finish table fs a) (resume table f)
 
 -- what is left to do
 abbrev pub rest : Table → Machine → World → Answer
-rest table m w = finish table m.callers.items (resume table m.frame w)
+rest table m w = finish table m.callers (resume table m.frame w)
 
 -- what all frames may still spend
 abbrev pub credit : Machine → ℕ
-credit m = m.frame.left + sum_by (λ f. f.left) m.callers.items
+credit m = m.frame.left + sum_by (λ f. f.left) m.callers
 
 -- what a turn of the machine leaves, where an answer was still to come
 abbrev pub TurnedFrom : Table → Answer → Turn → Type 0
@@ -65,7 +65,7 @@ Pays m (turn.NoMemory n) = Spends m n
 -- the answer of an effect, for the frame of a machine and those that wait
 abbrev pub rest_of : Table → Machine → Effect → World → Answer
 rest_of table m e w =
-    finish table m.callers.items
+    finish table m.callers
     (follow (run table) m.frame.handler m.frame.args m.frame.left m.frame.place w e)
 
 -- what is left to do, where a native is called first
@@ -75,7 +75,7 @@ after_native table m native args w = rest table m (native_called native args w)
 -- the same, where a handler is run first
 abbrev pub after_coded : Table → Machine → HandlerData → List Arg → World → Answer
 after_coded table m h args w =
-    finish table m.callers.items
+    finish table m.callers
     (and_then (run table h args h.signature.budget 0 [] w) (resume table m.frame))
 
 -- the same, where a command is called with the topmost operands
@@ -150,7 +150,7 @@ pub record Begins (h : HandlerData) (args : List Arg) (core : Core) (m : Machine
   pub first_place : m.frame.place ≡ 0
   pub whole_budget : m.frame.left ≡ h.signature.budget
   pub no_operands : m.frame.operands ≡ []
-  pub no_callers : m.callers.items ≡ []
+  pub no_callers : m.callers ≡ []
   pub core_is : m.core ≡ core
   pub no_lines : m.lines ≡ []
   pub nothing_spent : m.spent ≡ 0

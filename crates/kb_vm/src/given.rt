@@ -1,5 +1,5 @@
 //! The arguments that a call gives.
-ghost use Rattle.std.specs.Prelude.{◌≡◌, ◌≤◌, length, map, IfOk, option_map, slice_get};
+ghost use Rattle.std.specs.Prelude.{◌≡◌, ◌≤◌, [], length, map, IfOk, option_map, slice_get};
 ghost use Rattle.kb_core.specs.Arg.{is_of};
 ghost use Rattle.kb_core.specs.Parameter.{declared};
 ghost use Rattle.kb_core.specs.Signature.{fits};
@@ -14,6 +14,9 @@ use kb_core::{Arg, Args, Kind, NamedKind, Param};
 use std::alloc::Global;
 use std::marker::Model;
 
+/// How many arguments a call may give.
+const ROOM: usize = 8;
+
 /// The arguments that a call gives, whose texts are lent. Contracts see their list.
 #[derive(Drop)]
 pub(crate) struct Given<'a> {
@@ -21,28 +24,42 @@ pub(crate) struct Given<'a> {
 }
 
 impl<'a> Model for Given<'a> {
-    ghost use Rattle.std.specs.Prelude.{List, map};
+    ghost use Rattle.std.specs.Prelude.{◌≤◌, List, length, map, vec_capacity};
     ghost use Rattle.kb_core.specs.declared.arg.Arg.{Arg};
     ghost use Rattle.kb_vm.specs.Operand.{arg_of};
 
     ghost Value = { List Arg };
 
     ghost view = { λ g. map arg_of g.items.items };
+
+    ghost invariant = { λ g. (8 ≤ vec_capacity g.items) × (length g.items.items ≤ 8) };
 }
 
 impl<'a> Given<'a> {
-    /// These arguments. It takes no memory.
-    pub(crate) fn new(items: Vec<Operand<'a>>) -> Given<'a>
-        ensures { result ≡ map arg_of items.entry.items }
+    /// No argument, with room for 8.
+    pub(crate) fn new(alloc: Global) -> Result<Given<'a>, NoMemory>
+        ensures { IfOk result (λ given. given ≡ []) }
     {
-        Given { items }
+        Ok(Given {
+            items: Vec::with_capacity(alloc, ROOM)?,
+        })
+    }
+
+    /// These arguments, at most 8, in place of others. It takes no memory.
+    pub(crate) fn refill(&mut self, values: &[Operand<'a>])
+        requires { length values.now ≤ 8 }
+        ensures { self.new ≡ map arg_of values.now }
+    {
+        self.items.clear();
+        self.items.extend_from_slice(values).unwrap();
     }
 
     /// The arguments of a list, lent.
     pub(crate) fn lent(alloc: Global, args: &'a [Arg]) -> Result<Given<'a>, NoMemory>
+        requires { length args.now ≤ 8 }
         ensures { IfOk result (λ given. given ≡ args.now) }
     {
-        let mut items = Vec::with_capacity(alloc, args.len())?;
+        let mut items = Vec::with_capacity(alloc, ROOM)?;
         for arg in args {
             items.push(lent(arg))?;
         }
@@ -51,7 +68,8 @@ impl<'a> Given<'a> {
 
     /// The arguments, in order.
     pub(crate) fn as_slice(&self) -> &[Operand<'a>]
-        ensures { map arg_of result.now ≡ self.now }
+        ensures items { map arg_of result.now ≡ self.now }
+        ensures few { length self.now ≤ 8 }
     {
         self.items.as_slice()
     }

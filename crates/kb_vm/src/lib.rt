@@ -4,6 +4,7 @@
 mod action;
 mod arena;
 mod call_line;
+mod callers;
 mod given;
 pub mod laws;
 pub mod machine;

@@ -18,6 +18,7 @@ ghost use Rattle.kb_vm.specs.State.{CallMayBeRefused, IsPaid, Pauses};
 use crate::action::{Action, Called, call, index_of, perform};
 use crate::arena::Arena;
 use crate::call_line::call_line;
+use crate::callers::Callers;
 use crate::given::Given;
 use crate::operands::Operands;
 use crate::trap::Trap;
@@ -42,7 +43,7 @@ pub(crate) struct Frame<'r, 'a> {
 #[derive(Drop)]
 pub(crate) struct Machine<'r, 'a> {
     pub frame: Frame<'r, 'a>,
-    pub callers: Vec<Frame<'r, 'a>>,
+    pub callers: Callers<'r, 'a>,
     pub core: Core,
     pub lines: Lines,
     pub spent: u64,
@@ -119,15 +120,15 @@ fn leave<'r, 'a>(machine: Machine<'r, 'a>) -> Turn<'r, 'a>
         lines,
         spent,
     } = machine;
-    match callers.pop() {
-        Some(caller) => Turn::On(Machine {
-            frame: caller,
+    match callers.resume(frame) {
+        Ok(frame) => Turn::On(Machine {
+            frame,
             callers,
             core,
             lines,
             spent,
         }),
-        None => Turn::Ended(Machine {
+        Err(frame) => Turn::Ended(Machine {
             frame,
             callers,
             core,
@@ -176,12 +177,13 @@ fn enter_native<'r, 'a, L: Commands>(
 {
     let Machine {
         frame,
-        callers,
+        mut callers,
         core,
         lines,
         spent,
     } = machine;
     let Ran { core, cost } = run_native(alloc, commands, native, core, &given);
+    callers.give_back(given);
     match cost {
         Ok(cost) => Turn::On(Machine {
             frame,
@@ -202,7 +204,6 @@ fn enter_native<'r, 'a, L: Commands>(
 
 /// A handler gets a frame of its own, for which its caller has paid.
 fn enter_coded<'r, 'a>(
-    alloc: Global,
     machine: Machine<'r, 'a>,
     handler: Linked<'r>,
     given: Given<'a>,
@@ -220,38 +221,28 @@ fn enter_coded<'r, 'a>(
         lines,
         spent,
     } = machine;
-    let Ok(operands) = Operands::new(alloc) else {
-        return Turn::NoMemory(Machine {
+    match callers.suspend(frame) {
+        Ok(operands) => Turn::On(Machine {
+            frame: Frame {
+                handler,
+                args: given,
+                place: 0,
+                left,
+                operands,
+            },
+            callers,
+            core,
+            lines,
+            spent,
+        }),
+        Err(frame) => Turn::NoMemory(Machine {
             frame,
             callers,
             core,
             lines,
             spent,
-        });
-    };
-    let callee = Frame {
-        handler,
-        args: given,
-        place: 0,
-        left,
-        operands,
-    };
-    if callers.push(frame).is_err() {
-        return Turn::NoMemory(Machine {
-            frame: callee,
-            callers,
-            core,
-            lines,
-            spent,
-        });
+        }),
     }
-    Turn::On(Machine {
-        frame: callee,
-        callers,
-        core,
-        lines,
-        spent,
-    })
 }
 
 /// A command is called with these arguments, for which its frame can pay: its line is written, and it runs.
@@ -280,7 +271,7 @@ fn begin_call<'r, 'a, L: Commands>(
     machine.frame.place += 1;
     match callee {
         Found::Plain(native) => enter_native(alloc, commands, machine, native, given),
-        Found::Coded(handler) => enter_coded(alloc, machine, handler, given),
+        Found::Coded(handler) => enter_coded(machine, handler, given),
     }
 }
 
@@ -305,10 +296,11 @@ fn enter_callee<'r, 'a, L: Commands>(
     if machine.frame.left < callee.budget() {
         return Turn::Trapped(machine, Trap::OutOfBudget);
     }
-    let count = callee.params();
-    let Ok(given) = machine.frame.operands.take(count) else {
+    let Ok(spare) = machine.callers.take_spare(alloc) else {
         return Turn::NoMemory(machine);
     };
+    let count = callee.params();
+    let given = machine.frame.operands.take(count, spare);
     begin_call(alloc, commands, machine, name, callee, given)
 }
 
@@ -462,7 +454,7 @@ fn begin<'r, 'a>(
 {
     let left = handler.handler().signature().budget();
     let waiting = handler.handler().signature().depth() - 1;
-    let Ok(callers) = Vec::with_capacity(alloc, usize::from(waiting)) else {
+    let Ok(callers) = Callers::new(alloc, waiting) else {
         return Err(core);
     };
     match Operands::new(alloc) {

@@ -1,6 +1,6 @@
 //! What a frame works on: operands of a fixed room, whose texts are lent, so that a push takes no memory.
 ghost use Rattle.std.specs.Prelude.{◌≡◌, ◌<◌, ◌≤◌, [], ◌∷◌, length, drop, map, reverse, take};
-ghost use Rattle.std.specs.Prelude.{IfOk, OnOk, MatchOption};
+ghost use Rattle.std.specs.Prelude.{IfOk, MatchOption};
 ghost use Rattle.kb_vm.specs.Operand.{arg_of};
 
 use crate::given::Given;
@@ -49,7 +49,8 @@ impl<'a> Operands<'a> {
 
     /// How many there are.
     pub(crate) fn len(&self) -> usize
-        ensures { result ≡ length self.now }
+        ensures value { result ≡ length self.now }
+        ensures few { result ≤ 64 }
     {
         self.items.len()
     }
@@ -79,13 +80,42 @@ impl<'a> Operands<'a> {
         &self.items[at..]
     }
 
-    /// Takes so many of the topmost ones, in the order in which they were pushed.
-    pub(crate) fn take(&mut self, count: usize) -> Result<Given<'a>, NoMemory>
-        requires { count ≤ length self.old }
-        ensures given { IfOk result (λ given. given ≡ reverse (take count self.old)) }
-        ensures rest { OnOk result (self.new ≡ drop count self.old) }
+    /// All of them, in the order in which they were pushed. It takes no memory.
+    pub(crate) fn as_slice(&self) -> &[Operand<'a>]
+        ensures items { map arg_of result.now ≡ reverse self.now }
+        ensures few { length self.now ≤ 64 }
     {
+        self.items.as_slice()
+    }
+
+    /// Takes all away.
+    pub(crate) fn clear(&mut self)
+        ensures { self.new ≡ [] }
+    {
+        self.items.clear();
+    }
+
+    /// These, at most 64, in place of others. It takes no memory.
+    pub(crate) fn refill(&mut self, values: &[Operand<'a>])
+        requires { length values.now ≤ 64 }
+        ensures { self.new ≡ reverse (map arg_of values.now) }
+    {
+        self.items.clear();
+        self.items.extend_from_slice(values).unwrap();
+    }
+
+    /// Takes so many of the topmost ones, at most 8, in the order in which they were pushed, into the room of
+    /// others. It takes no memory.
+    pub(crate) fn take(&mut self, count: usize, spare: Given<'a>) -> Given<'a>
+        requires enough { count ≤ length self.old }
+        requires few { count ≤ 8 }
+        ensures given { result ≡ reverse (take count self.old) }
+        ensures rest { self.new ≡ drop count self.old }
+    {
+        let mut given = spare;
         let at = self.items.len() - count;
-        Ok(Given::new(self.items.split_off(at)?))
+        given.refill(&self.items[at..]);
+        self.items.truncate(at);
+        given
     }
 }

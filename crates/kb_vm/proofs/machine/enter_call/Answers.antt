@@ -12,7 +12,7 @@ returns-in-Stop-clause-turned g c = λ w s refused.
       w,
       s,
       ap (λ e. rest_of t m e w) c.in-Stop.ensures.does
-          ∙ finish_stuck t m.callers.items c.in-Stop.trap m.frame.handler.command m.frame.place w,
+          ∙ finish_stuck t m.callers c.in-Stop.trap m.frame.handler.command m.frame.place w,
     )
 
 pub returns-in-Enter-clause-turned : goal.returns-in-Enter-clause-turned

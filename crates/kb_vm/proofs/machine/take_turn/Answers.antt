@@ -16,7 +16,7 @@ returns-in-Stop-clause-turned g c = λ w s.
     let left = subst (PausedFrom t f.handler f.args p.new.operands (run t f.handler f.args f.left f.place f.operands w) q.0 p.result.place p.result.left) c.in-Stop.is q.2 in (
       q.0,
       paused_shows w q.0 m.core m.lines m.spent _ _ s q.1 c.from.ensures,
-      ap (finish t m.callers.items) left ∙ finish_stuck t m.callers.items c.in-Stop.trap f.handler.command p.result.place q.0,
+      ap (finish t m.callers) left ∙ finish_stuck t m.callers c.in-Stop.trap f.handler.command p.result.place q.0,
     )
 
 pub returns-in-Leave-clause-turned : goal.returns-in-Leave-clause-turned
@@ -27,7 +27,7 @@ returns-in-Leave-clause-turned g c = λ w s.
     let p = c.run_on-paused in
     let q = p.ensures.pauses t w s.core_is in
     let left = subst (PausedFrom t f.handler f.args p.new.operands (run t f.handler f.args f.left f.place f.operands w) q.0 p.result.place p.result.left) c.in-Leave.is q.2 in
-    subst (λ a. TurnedFrom t a c.leave.result) (sym (ap (finish t m.callers.items) left))
+    subst (λ a. TurnedFrom t a c.leave.result) (sym (ap (finish t m.callers) left))
     (left_turned t _ c.leave.result q.0 (paused_shows w q.0 m.core m.lines m.spent _ _ s q.1 c.from.ensures) (c.leave.ensures t))
 
 pub returns-in-Leave-clause-pays : goal.returns-in-Leave-clause-pays
@@ -52,7 +52,7 @@ returns-in-Call-clause-turned g c = λ w s.
     let p = c.run_on-paused in
     let q = p.ensures.pauses t w s.core_is in
     let left = subst (PausedFrom t f.handler f.args p.new.operands (run t f.handler f.args f.left f.place f.operands w) q.0 p.result.place p.result.left) c.in-Call.is q.2 in
-    subst (λ a. TurnedFrom t a c.enter_call.result) (sym (ap (finish t m.callers.items) left.1))
+    subst (λ a. TurnedFrom t a c.enter_call.result) (sym (ap (finish t m.callers) left.1))
     (c.enter_call.ensures.turned q.0 (paused_shows w q.0 m.core m.lines m.spent _ _ s q.1 c.from.ensures) left.0)
 
 pub returns-in-NoMemory-clause-turned : goal.returns-in-NoMemory-clause-turned
@@ -65,6 +65,6 @@ returns-in-NoMemory-clause-turned g c = λ w s.
     let left = subst (PausedFrom t f.handler f.args p.new.operands (run t f.handler f.args f.left f.place f.operands w) q.0 p.result.place p.result.left) c.in-NoMemory.is q.2 in (
       q.0,
       paused_shows w q.0 m.core m.lines m.spent _ _ s q.1 c.from.ensures,
-      finish_keeps t m.callers.items _ q.0 left.0,
+      finish_keeps t m.callers _ q.0 left.0,
       left.1,
     )
