@@ -17,7 +17,7 @@ ends_free : (core : Core) (a : Answer) (o : Outcome) (e : End) → IsDone a → 
 ends_free core a o end.Done done ends = tt
 ends_free core a o end.NoMemory done ends = tt
 ends_free core a o end.NotFound done ends = tt
-ends_free core a o (end.Trap trap command place) done ends = subst IsDone ends.1.1 done
+ends_free core a o (end.Trap trap command place) done ends = subst IsDone ends.2 done
 
 gives_free : (table : Table) → AllVerified table → (name : List ℕ) (args : List Arg) (core : Core) (o : Outcome)
     (r : Option Callee) → table name ≡ r → IfSome r (λ callee. fits (declared_by callee).params args ≡ true)

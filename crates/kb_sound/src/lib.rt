@@ -2,6 +2,6 @@
 #![tactic(auto)]
 
 pub mod laws;
-pub mod start;
+pub mod starting;
 
-pub use start::start;
+pub use starting::start;

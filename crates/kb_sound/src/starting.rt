@@ -12,7 +12,6 @@ use std::alloc::Global;
 
 /// Starts a command as `kb_vm::start` does. Where each live handler is verified, a start with arguments that
 /// fit never ends with a trap, whatever the state of the core (our decision).
-#[tactic(auto, using(crate::proofs::Starts::starts_without_trap))]
 pub fn start<'r, L: Commands>(
     alloc: Global,
     commands: &'r L,
