@@ -1,3 +1,6 @@
+pub mod FoundLemmas
+pub mod BackedLemmas
+pub mod LackingLemmas
 pub mod NativesLemmas
 pub mod NeededLemmas
 pub mod RawLemmas

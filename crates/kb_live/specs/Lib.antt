@@ -3,3 +3,4 @@ pub mod Raw
 pub mod Callable
 pub mod Verified
 pub mod Checked
+pub mod Lacking

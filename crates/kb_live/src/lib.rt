@@ -4,6 +4,7 @@
 
 mod callable;
 pub mod checked;
+pub mod laws;
 mod natives;
 pub mod raw;
 mod verifying;

@@ -95,7 +95,7 @@ module _ (p : HandlerData → Bool) (new : Group) where
 -- ---- names that aren't taken
 
 -- a handler has no name of those above
-free : (above hs : List HandlerData) → has_taken above hs ≡ false → (name : List ℕ) (h : HandlerData) →
+pub free : (above hs : List HandlerData) → has_taken above hs ≡ false → (name : List ℕ) (h : HandlerData) →
     handler_named name above ≡ Some h → handler_named name hs ≡ None
 free above [] e name h is = refl
 free above (x ∷ hs) e name h is =
@@ -113,7 +113,7 @@ free above (x ∷ hs) e name h is =
     by false same other rest = rest
 
 -- nor a native's
-unreserved : (above hs : List HandlerData) → has_taken above hs ≡ false → (name : List ℕ) (h : HandlerData) →
+pub unreserved : (above hs : List HandlerData) → has_taken above hs ≡ false → (name : List ℕ) (h : HandlerData) →
     handler_named name hs ≡ Some h → named name ≡ None
 unreserved above [] e name h is = absurd (cc)
 unreserved above (x ∷ hs) e name h is =
@@ -153,7 +153,7 @@ module _ (extension : ℕ) (codes : CodesData) (live : Live)
   each_stays None name c e = handler_stays name c (handler_named name (handlers_in live.code)) refl e
   each_stays (Some n) name c e = e
 
-  stays : Stays (table_of live) (table_of then_live)
+  pub stays : Stays (table_of live) (table_of then_live)
   stays name c e = each_stays (named name) name c e
 
   -- a name of a handler that comes was no live handler's
@@ -170,7 +170,7 @@ module _ (extension : ℕ) (codes : CodesData) (live : Live)
       new_found (λ g. bytes_eq name g.command) group live.code
       (was_free name h is (handler_named name (handlers_in live.code)) refl) ∙ is
 
-  comes_live : (name : List ℕ) (h : HandlerData) → handler_named name codes.handlers ≡ Some h →
+  pub comes_live : (name : List ℕ) (h : HandlerData) → handler_named name codes.handlers ≡ Some h →
       table_of then_live name ≡ Some (Coded h)
   comes_live name h is =
       coded_live name then_live h (unreserved (handlers_in live.code) codes.handlers untaken name h is)
