@@ -90,15 +90,15 @@ fn drawn_parts(random: &mut Random, params: u16, later: u16) -> Parts {
 fn leading(choice: u16, p: Parts) -> [Instr; 3] {
     let to = p.later;
     match choice {
-        0 | 1 => [Instr::Context(p.key), Instr::IsTrue, Instr::JumpIfFalse(to)],
-        2 | 3 => [p.value, Instr::IsTrue, Instr::JumpIfFalse(to)],
-        4 => [Instr::Truth(p.truth), Instr::Not, Instr::JumpIfFalse(to)],
-        5 => [Instr::Return, Instr::Num(p.number), Instr::Drop],
-        6 => [Instr::Num(p.number), Instr::Drop, Instr::Jump(to)],
-        7 => [Instr::Text(p.key), Instr::Truth(p.truth), Instr::Call(2)],
-        8 => [Instr::Text(p.text), Instr::Show, Instr::Call(0)],
-        9 => [p.value, Instr::Show, Instr::Call(0)],
-        10 => [Instr::Call(1), Instr::Text(p.text), Instr::Call(0)],
+        0 | 1 | 2 | 3 | 4 | 5 => [Instr::Context(p.key), Instr::IsTrue, Instr::JumpIfFalse(to)],
+        6 | 7 => [p.value, Instr::IsTrue, Instr::JumpIfFalse(to)],
+        8 => [Instr::Truth(p.truth), Instr::Not, Instr::JumpIfFalse(to)],
+        9 => [Instr::Return, Instr::Num(p.number), Instr::Drop],
+        10 => [Instr::Num(p.number), Instr::Drop, Instr::Jump(to)],
+        11 => [Instr::Text(p.key), Instr::Truth(p.truth), Instr::Call(2)],
+        12 => [Instr::Text(p.text), Instr::Show, Instr::Call(0)],
+        13 => [p.value, Instr::Show, Instr::Call(0)],
+        14 => [Instr::Call(1), Instr::Text(p.text), Instr::Call(0)],
         _ => [p.value, Instr::Number, Instr::Drop],
     }
 }
@@ -221,9 +221,9 @@ pub(crate) fn drawn_phrase(
 ) -> Phrase {
     let parts = drawn_parts(random, given.params, later.wrapping_mul(SIZE));
     let code = match random.below(8) {
-        0 | 1 | 2 => return with_top(random, top, parts),
-        3 | 4 => calling(callable, random.below(given.handlers), parts),
-        _ => leading(random.below(12), parts),
+        0 | 1 | 2 | 3 => return with_top(random, top, parts),
+        4 => calling(callable, random.below(given.handlers), parts),
+        _ => leading(random.below(16), parts),
     };
     Phrase { code, top }
 }

@@ -79,7 +79,7 @@ fn spoil(random: &mut Random, code: &mut Vec<Instr>) {
     }
 }
 
-// Up to four phrases and a return, to which the jumps of the last phrase go. Where the last jump leads, the
+// Three to five phrases and a return, to which the jumps of the last phrase go. Where the last jump leads, the
 // operands count as they stood at the jump: if another way left others, the handler has to be refused.
 fn drawn_code(
     alloc: Global,
@@ -90,7 +90,7 @@ fn drawn_code(
     let mut code = Vec::new(alloc);
     let mut top = Top::Nothing;
     let mut jump = (0u16, Top::Nothing);
-    let count = random.below(3).wrapping_add(2);
+    let count = random.below(3).wrapping_add(3);
     for nth in 0..count {
         if jump.0 == nth {
             top = jump.1;
