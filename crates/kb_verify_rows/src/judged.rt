@@ -10,16 +10,16 @@ use std::alloc::{AllocError, Global};
 // More steps than this aren't said, but how many there are.
 const SAID: usize = 4;
 
-// The handlers of a file, none where it isn't one.
-fn handlers_in(alloc: Global, bytes: &[u8]) -> Seq<Handler> {
+/// The handlers of a file, none where it isn't one.
+pub(crate) fn handlers_in(alloc: Global, bytes: &[u8]) -> Seq<Handler> {
     match read(alloc, bytes) {
         Ok(value) => HandlerFile::read(alloc, value).unwrap_or(Seq::new(alloc)),
         Err(_) => Seq::new(alloc),
     }
 }
 
-// The natives, and behind them the handlers.
-fn callable_with(alloc: Global, handlers: &[Handler]) -> Result<Callable, NoMemory> {
+/// The natives, and behind them the handlers.
+pub(crate) fn callable_with(alloc: Global, handlers: &[Handler]) -> Result<Callable, NoMemory> {
     let mut callable = Callable::new(alloc);
     for native in NATIVES {
         let signature = native.signature(alloc)?;

@@ -1,8 +1,22 @@
-//! Tells files of rows anew whose rows are handlers before the verifier.
+//! Tells files of rows anew whose rows are handlers before the verifier, or handlers made at random before
+//! the verifier and in the machine.
 #![tactic(auto)]
 
+mod choices;
+mod counts;
+mod finding;
 mod judged;
+mod live;
+mod names;
+mod phrases;
+mod random;
 mod rows;
+mod spelled;
+mod starts;
+mod trial;
+mod tried;
+mod verdict;
+mod ways;
 
 use kb_row_text::tell_files;
 use rows::Rows;
