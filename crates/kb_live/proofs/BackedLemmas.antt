@@ -59,7 +59,7 @@ module _ (own : List HandlerData) (live : Live) where
   none_backs : Backs map.empty
   none_backs name d is =
       let none : ◌≡◌ {A = Option Declaration} (map.get (map.empty {R = slice_cmp nat_cmp}) name) None =
-          map.get-empty (slice_cmp nat_cmp) name in
+      map.get-empty (slice_cmp nat_cmp) name in
       absurd (cc)
 
   -- so with a command more
