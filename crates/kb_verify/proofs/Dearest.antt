@@ -1,8 +1,8 @@
 -- The pass backward, and a dearest path.
-use Rattle.std.proofs.Common.{◌≡◌, ◌<◌, ◌≤◌, ℕ, suc, ◌+◌, ◌^◌, max, inl, inr, List, [], ◌∷◌, ◌++◌, length}
+use Rattle.std.proofs.Common.{◌≡◌, ◌<◌, ◌≤◌, ℕ, suc, ◌+◌, ◌^◌, max, zero, inl, inr, List, [], ◌∷◌, ◌++◌, length}
 use Rattle.std.proofs.Common.{Some, refl, sym, ap, ◌∙◌, subst, arith, append_assoc, if◌then◌else◌}
 use Rattle.std.specs.Prelude.{slice_get, slice_set, slice_index, nat_lt}
-use Rattle.std.proofs.lemmas.Bool.{lt-ltb, le-ltb}
+use Rattle.std.proofs.lemmas.Bool.{cases_lt, lt-ltb, le-ltb}
 use Rattle.std.proofs.lemmas.List.{get_or-set_same, get_or-set_other, append-nil}
 use Rattle.kb_code.specs.declared.instr.Instr.{Instr}
 use Rattle.kb_code.specs.declared.exits.Exits.{Exits}
@@ -13,8 +13,8 @@ use Rattle.kb_code.specs.Reachable.{Follows, Reachable, first, onward}
 use Rattle.kb_verify.specs.declared.fault.Step.{Step}
 use Rattle.kb_verify.specs.declared.fault.Step.TheVariants.{Falls, Jumps}
 use Rattle.kb_verify.specs.Callable.{Commands}
-use Rattle.kb_verify.specs.Paths.{cost, Path, returns, goes_on, falls, jumps}
-use Rattle.kb_verify.proofs.Edges.{follows}
+use Rattle.kb_verify.specs.Paths.{cost, IsDearestCost, Path, returns, goes_on, falls, jumps}
+use Rattle.kb_verify.proofs.Edges.{follows, at_place, reach_within}
 use Rattle.kb_verify.specs.Marks.{LeadsOn, IsExit, AreLater, AreWithin}
 use Rattle.kb_verify.specs.Costs.{capped, later_cost, rest_cost, dearest, AreCosts}
 use native.Mathlib.Decide.{ℕ_discrete}
@@ -192,3 +192,72 @@ module _ (commands : Commands) (h : HandlerData) where
       let here : slice_index costs p ≡ capped (0 + k) = are.each p i at ∙ ap (λ n. capped (n + k)) (rest_at costs i p Stop e) in
       let even = w.even in
       (w.spent + k, subst (λ l. Path commands h 0 l (w.spent + k)) (append-nil path) all, omega (arith, here, even))
+
+-- ---- some path is as dear as the costs say
+
+-- a path of the dearest cost from a place
+abbrev pub HasDearest : Commands → HandlerData → List ℕ → ℕ → Type 0
+HasDearest commands h costs p =
+    (path : List Step) × (c : ℕ) × Path commands h p path c × (capped c ≡ slice_index costs p)
+
+as_dear : (k c next here : ℕ) → capped c ≡ next → here ≡ capped (next + k) → capped (k + c) ≡ here
+as_dear k c next here e f = omega (arith, e, f)
+
+module _ (commands : Commands) (h : HandlerData) (costs : List ℕ) (are : AreCosts commands h costs)
+    (leads : LeadsOn h.code) where
+  -- from a place at which an instruction stands, by what is had from all later places that are reached
+  dearest_by : (p : ℕ) (i : Instr) → Reachable h.code p → slice_get h.code p ≡ Some i →
+      ((q : ℕ) → p < q → Reachable h.code q → HasDearest commands h costs q) → (exits : Exits) →
+      exits_of (suc p) i ≡ exits → HasDearest commands h costs p
+  dearest_by p i r at later Stop e =
+      let k = cost commands h i in
+      let here : slice_index costs p ≡ capped (0 + k) = are.each p i at ∙ ap (λ n. capped (n + k)) (rest_at costs i p Stop e) in
+      ([], k, returns i at e, omega (arith, here))
+  dearest_by p i r at later (One q) e =
+      let k = cost commands h i in
+      let lt : p < q = subst (λ x. AreLater x p) e (leads.later p i r at) in
+      let within : q < length h.code = subst (λ x. AreWithin x (length h.code)) e (leads.within p i r at) in
+      let exit : IsExit (exits_of (suc p) i) q = subst (λ x. IsExit x q) (sym e) refl in
+      let on = later q lt (onward r (follows h.code p q i at exit lt within)) in
+      let here : slice_index costs p ≡ capped (slice_index costs q + k) = are.each p i at ∙ ap (λ n. capped (n + k)) (rest_at costs i p (One q) e ∙ later_is costs p q lt) in
+      (on.0, k + on.1, goes_on i at e lt on.2, as_dear k on.1 (slice_index costs q) (slice_index costs p) on.3 here)
+  dearest_by p i r at later (Two a b) e =
+      let k = cost commands h i in
+      let is_later = subst (λ x. AreLater x p) e (leads.later p i r at) in
+      let within = subst (λ x. AreWithin x (length h.code)) e (leads.within p i r at) in
+      let exit_a : IsExit (exits_of (suc p) i) a = subst (λ x. IsExit x a) (sym e) (inl refl) in
+      let exit_b : IsExit (exits_of (suc p) i) b = subst (λ x. IsExit x b) (sym e) (inr refl) in
+      let on_a = later a is_later.0 (onward r (follows h.code p a i at exit_a is_later.0 within.0)) in
+      let on_b = later b is_later.1 (onward r (follows h.code p b i at exit_b is_later.1 within.1)) in
+      let is_a : later_cost costs p a ≡ slice_index costs a = later_is costs p a is_later.0 in
+      let is_b : later_cost costs p b ≡ slice_index costs b = later_is costs p b is_later.1 in
+      let here : slice_index costs p ≡ capped (max (later_cost costs p a) (later_cost costs p b) + k) = are.each p i at ∙ ap (λ n. capped (n + k)) (rest_at costs i p (Two a b) e) in
+      elim (cases_lt (slice_index costs a) (slice_index costs b)) [
+        | inl lt ↦ let top : slice_index costs p ≡ capped (slice_index costs b + k) = omega (arith, here, is_a, is_b, lt) in
+            (Jumps ∷ on_b.0, k + on_b.1, jumps i at e is_later.1 on_b.2, as_dear k on_b.1 (slice_index costs b) (slice_index costs p) on_b.3 top)
+        | inr le ↦ let top : slice_index costs p ≡ capped (slice_index costs a + k) = omega (arith, here, is_a, is_b, le) in
+            (Falls ∷ on_a.0, k + on_a.1, falls i at e is_later.0 on_a.2, as_dear k on_a.1 (slice_index costs a) (slice_index costs p) on_a.3 top)
+      ]
+
+  dearest_from : (n p : ℕ) → length h.code ≤ p + n → Reachable h.code p → HasDearest commands h costs p
+  dearest_from zero p le r = absurd (omega (arith, le, reach_within h.code p r))
+  dearest_from (suc n) p le r =
+      dearest_by p _ r (at_place h.code h.code p refl (reach_within h.code p r))
+      (λ q lt s. dearest_from n q (omega (arith, le, lt)) s) (exits_of (suc p) _) refl
+
+  -- where no path costs more than a number of 64 bits, the first cost is what a dearest path costs
+  pub dearest_is : (budget : ℕ) → budget < 2 ^ 64 → 0 < length h.code
+      → ((path : List Step) (c : ℕ) → Path commands h 0 path c → c ≤ budget)
+      → IsDearestCost commands h (slice_index costs 0)
+  dearest_is budget fits some within =
+      let found = dearest_from (length h.code) 0 (omega arith) (first some) in
+      let small : found.1 ≤ budget = within found.0 found.1 found.2 in
+      let same : found.1 ≡ slice_index costs 0 = omega (arith, small, fits, found.3) in
+      record {
+        path = found.0;
+        is_path = subst (Path commands h 0 found.0) same found.2;
+        dearest = λ other c is.
+            let few : c ≤ budget = within other c is in
+            let most : capped c ≤ slice_index costs 0 = path_most commands h costs are 0 other c is in
+            omega (arith, few, fits, most);
+      }

@@ -42,3 +42,9 @@ pub record IsOverBudget (commands : Commands) (h : HandlerData) (path : List Ste
   pub cost : ℕ
   pub is_path : Path commands h 0 path cost
   pub over : h.signature.budget < cost
+
+-- what a dearest path costs: a path costs this, and none costs more
+pub record IsDearestCost (commands : Commands) (h : HandlerData) (cost : ℕ) : Type 0 where
+  pub path : List Step
+  pub is_path : Path commands h 0 path cost
+  pub dearest : (other : List Step) (c : ℕ) → Path commands h 0 other c → c ≤ cost

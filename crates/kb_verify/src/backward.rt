@@ -63,8 +63,9 @@ fn cost_from(costs: &[u64], place: usize, next: usize) -> u64
     }
 }
 
-/// What an instruction costs.
-fn instr_cost(callable: &Callable, handler: &Handler, instr: Instr) -> u64
+/// What an instruction of a handler costs: 1, and a call besides that the budget of the command that it
+/// calls, where there is one. It takes no memory.
+pub fn instr_cost(callable: &Callable, handler: &Handler, instr: Instr) -> u64
     ensures { result ≡ cost callable.now handler.now instr }
 {
     match instr {

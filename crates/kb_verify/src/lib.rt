@@ -5,6 +5,7 @@ mod backward;
 pub mod callable;
 mod callees;
 mod check;
+pub mod costing;
 pub mod fault;
 mod forward;
 pub mod laws;
@@ -12,7 +13,9 @@ mod same;
 mod shape;
 pub mod verified;
 
+pub use backward::instr_cost;
 pub use callable::{Callable, SharedSignature};
 pub use callees::Callee;
+pub use costing::dearest_cost;
 pub use fault::{Defect, Step, VerifyFault};
 pub use verified::{Verified, verify};

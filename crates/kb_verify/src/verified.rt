@@ -84,7 +84,7 @@ pub fn verify(
 }
 
 /// The callees of a handler that is accepted.
-fn examine(
+pub(crate) fn examine(
     alloc: Global,
     callable: &Callable,
     handler: &Handler,

@@ -1,0 +1,3 @@
+pub mod NeededLemmas
+pub mod ReportLemmas
+pub mod WalkLemmas

@@ -1,0 +1,5 @@
+pub mod Extension
+pub mod Callable
+pub mod Judgement
+pub mod Visits
+pub mod Stop

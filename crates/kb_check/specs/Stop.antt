@@ -1,0 +1,14 @@
+-- The exit status of a check.
+use Rattle.std.specs.Prelude.{ℕ, Bool, true, false, Result, Ok, Err}
+use Rattle.kb_check.specs.declared.stop.Stop.{Stop}
+use Rattle.kb_check.specs.declared.stop.Stop.TheVariants.{CannotRead, Refused, TooMany, NoMemory, NotWritten}
+
+-- by whether all handlers are accepted, or why the check ended before
+abbrev pub status_of : Result Bool Stop → ℕ
+status_of (Ok true) = 0
+status_of (Ok false) = 1
+status_of (Err (CannotRead path)) = 3
+status_of (Err (Refused path number)) = 3
+status_of (Err TooMany) = 3
+status_of (Err NoMemory) = 4
+status_of (Err NotWritten) = 4

@@ -1,0 +1,108 @@
+//! What is said of the handlers of extensions.
+ghost use Rattle.std.specs.Prelude.{◌≡◌, ◌↔◌, All, IfOk, IsTrue};
+ghost use Rattle.kb_check.specs.Judgement.{AllAccepted, AllOfExtensions, is_accepted};
+ghost use Rattle.kb_verify.specs.Accepted.{IsAccepted};
+
+use crate::callable::callable_of;
+use crate::extension::{ExtensionCode, handlers_of};
+use crate::judgement::{Judgement, judge};
+use crate::sentences::sentences;
+use crate::stop::Stop;
+use kb_code::Handler;
+use kb_stream::write_whole;
+use kb_verify::Callable;
+use std::alloc::Global;
+use std::io::Write;
+
+/// Writes what the verifier says of each handler of these extensions, in load order and in the order of
+/// their files, each against what it may call, and answers whether all are accepted.
+///
+/// Errors: refused memory, or not all was written.
+pub fn report_extensions<W: Write>(
+    alloc: Global,
+    extensions: &[ExtensionCode],
+    out: &mut W,
+) -> Result<bool, Stop>
+    ensures { IfOk result (λ all. IsTrue all ↔ AllOfExtensions extensions.now) }
+{
+    let mut all = true;
+    for extension in extensions {
+        let accepted = report_extension(alloc, extensions, extension, out)?;
+        all = all && accepted;
+    }
+    Ok(all)
+}
+
+/// Writes what is said of the handlers of one of these extensions, and answers whether all are accepted.
+fn report_extension<W: Write>(
+    alloc: Global,
+    extensions: &[ExtensionCode],
+    own: &ExtensionCode,
+    out: &mut W,
+) -> Result<bool, Stop>
+    ensures { IfOk result (λ all. IsTrue all ↔ AllAccepted extensions.now own.now) }
+{
+    say_of_none(alloc, own, out)?;
+    let callable = callable_of(alloc, extensions, own)?;
+    report_handlers(alloc, &callable, handlers_of(own), out)
+}
+
+/// Says that an extension has no handlers, where that is so.
+fn say_of_none<W: Write>(alloc: Global, own: &ExtensionCode, out: &mut W) -> Result<(), Stop> {
+    let dir = own.dir.as_str();
+    let said = match &own.handlers {
+        None => format!(in alloc; "{dir}: it has no handlers, since there is no handlers.json.\n")?,
+        Some(handlers) if handlers.len() == 0 => {
+            format!(in alloc; "{dir}: it has no handlers, since its handlers.json lists none.\n")?
+        }
+        Some(_) => return Ok(()),
+    };
+    say(said.as_str(), out)
+}
+
+/// Writes a text.
+fn say<W: Write>(text: &str, out: &mut W) -> Result<(), Stop> {
+    match write_whole(out, text.as_bytes()) {
+        Ok(()) => Ok(()),
+        Err(_) => Err(Stop::NotWritten),
+    }
+}
+
+/// Writes what is said of handlers, and answers whether all are accepted.
+fn report_handlers<W: Write>(
+    alloc: Global,
+    callable: &Callable,
+    handlers: &[Handler],
+    out: &mut W,
+) -> Result<bool, Stop>
+    ensures { IfOk result (λ all. IsTrue all ↔ All (IsAccepted callable.now) handlers.now) }
+{
+    let mut all = true;
+    for handler in handlers {
+        let accepted = report_handler(alloc, callable, handler, out)?;
+        all = all && accepted;
+    }
+    Ok(all)
+}
+
+/// Writes what is said of a handler, and answers whether it is accepted.
+fn report_handler<W: Write>(
+    alloc: Global,
+    callable: &Callable,
+    handler: &Handler,
+    out: &mut W,
+) -> Result<bool, Stop>
+    ensures { IfOk result (λ accepted. IsTrue accepted ↔ IsAccepted callable.now handler.now) }
+{
+    let judgement = judge(alloc, callable, handler)?;
+    let said = sentences(alloc, callable, handler, &judgement)?;
+    say(said.as_str(), out)?;
+    Ok(is_accepted(&judgement))
+}
+
+/// Whether a judgement accepts.
+fn is_accepted(judgement: &Judgement) -> bool
+    ensures { result ≡ is_accepted judgement.now }
+{
+    matches!(judgement, Judgement::Accepted(_))
+}
