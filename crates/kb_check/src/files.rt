@@ -15,6 +15,12 @@ use std::{fs, io};
 /// The most bytes of a file, as `kb_ending` has it.
 const FILE_LIMIT: usize = 16_777_216;
 
+/// The name of an extension's manifest in its directory.
+const PACKAGE: &str = "package.json";
+
+/// The name of its file of handlers there.
+const HANDLERS: &str = "handlers.json";
+
 /// The extensions of these directories: of each in turn its manifest, and then its handlers, if there are
 /// some.
 ///
@@ -30,7 +36,10 @@ pub(crate) fn read_extensions<R: Files>(
     }
     let extensions = read_directories(rt, alloc, dirs)?;
     match identifier_fault(extensions.as_slice()) {
-        Some((place, number)) => Err(refused_manifest(alloc, dirs, place, number)),
+        Some((extension, number)) => {
+            let dir = extension.dir.as_str();
+            Err(refused_file(alloc, dir, PACKAGE, number))
+        }
         None => Ok(extensions),
     }
 }
@@ -48,19 +57,6 @@ fn read_directories<R: Files>(
     }
     Ok(extensions)
 }
-
-/// That the manifest in the directory at a place is refused.
-fn refused_manifest(alloc: Global, dirs: &[&str], place: usize, number: u32) -> Stop {
-    match dirs.get(place) {
-        Some(dir) => refused_file(alloc, dir, PACKAGE, number),
-        None => Stop::NoMemory,
-    }
-}
-
-/// The names of the files in a directory.
-const PACKAGE: &str = "package.json";
-
-const HANDLERS: &str = "handlers.json";
 
 /// The extension of a directory.
 fn read_directory<R: Files>(rt: &R, alloc: Global, dir: &str) -> Result<ExtensionCode, Stop> {
