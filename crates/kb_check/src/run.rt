@@ -6,24 +6,14 @@ ghost use Rattle.kb_check.specs.Stop.{status_of};
 use crate::files::read_extensions;
 use crate::report::report_extensions;
 use crate::stop::{Stop, status_of};
-use crate::words::{Asked, read_words};
+use crate::words::{dirs_in, matched, not_text};
 use kb_context::NoMemory;
-use std::alloc::{AllocError, Global};
-use std::io::{BufWriter, ErrorKind, Write};
+use kb_options::{OptionsFault, WordsFault, line_status, words_fault};
+use std::alloc::Global;
+use std::io::{BufWriter, Write};
 use std::process::ExitCode;
 use std::rt::{Env, Files};
 use std::{env, io};
-
-const USAGE: &str = "usage: check-handlers DIR..";
-
-const HELP: &str = "Says of each handler of some extensions whether it is accepted, and why not.
-
-usage: check-handlers DIR..
-
-Each DIR is the directory of an extension, with its package.json and, if it has handlers, its handlers.json;
-the directories stand in load order. The exit status is 0 where all handlers are accepted, 1 where one isn't,
-2 for a wrong command line, 3 for a file that isn't read or isn't what it should be, and 4 for a check that
-stopped.";
 
 /// Checks the handlers of the directories that the command line names, and gives the exit status: what is
 /// said of them goes to standard output, and why a check ended before to standard error.
@@ -34,62 +24,74 @@ pub fn check_handlers<R: Alloc<A = Global> + Env + Files + Print + Eprint>(
     ensures { exit_status result ≤ 4 }
 {
     let status = match line_words(rt, alloc) {
-        Ok(Some(words)) => obey(rt, alloc, words.as_slice()),
-        Ok(None) => wrong_line(rt),
-        Err(_) => ended(rt, &Err(Stop::NoMemory)),
+        Ok(words) => obey(rt, alloc, words.as_slice()),
+        Err(fault) => refuse(rt, fault),
     };
     ExitCode::from(status)
 }
 
-/// The words of the command line, or `None` where one is no UTF-8 text.
+/// The words of the command line.
 fn line_words<R: Env + Alloc<A = Global>>(
     rt: &R,
     alloc: Global,
-) -> Result<Option<Vec<String>>, NoMemory> {
+) -> Result<Vec<String>, OptionsFault> {
     let given = match env::args(rt) {
         Ok(given) => given,
-        Err(error) => {
-            return match error.kind() {
-                ErrorKind::InvalidData => Ok(None),
-                _ => Err(AllocError),
-            };
-        }
+        Err(error) => return Err(no_words(alloc, words_fault(&error))?),
     };
     let mut words = Vec::new(alloc);
     for word in given {
         words.push(word).map_err(NoMemory::from)?;
     }
-    Ok(Some(words))
+    Ok(words)
+}
+
+/// Why there are no words.
+fn no_words(alloc: Global, fault: WordsFault) -> Result<OptionsFault, NoMemory> {
+    match fault {
+        WordsFault::NotText => Ok(OptionsFault::Line(not_text(alloc)?)),
+        WordsFault::NoMemory => Ok(OptionsFault::NoMemory),
+    }
 }
 
 /// Does what the words ask for, and gives the exit status.
 fn obey<R: Files + Print + Eprint>(rt: &R, alloc: Global, words: &[String]) -> u8
     ensures { result ≤ 4 }
 {
-    match read_words(alloc, words) {
-        Ok(Asked::Help) => help(rt),
-        Ok(Asked::Nothing) => wrong_line(rt),
-        Ok(Asked::Check(dirs)) => ended(rt, &check(rt, alloc, dirs.as_slice())),
-        Err(_) => ended(rt, &Err(Stop::NoMemory)),
+    match check_words(rt, alloc, words) {
+        Ok(end) => ended(rt, &end),
+        Err(fault) => refuse(rt, fault),
     }
 }
 
-/// Prints the help.
-fn help<R: Print + Eprint>(rt: &R) -> u8
+/// Checks the handlers of the directories that the words name.
+fn check_words<R: Files + Print>(
+    rt: &R,
+    alloc: Global,
+    words: &[String],
+) -> Result<Result<bool, Stop>, OptionsFault> {
+    let mut texts = Vec::new(alloc);
+    for word in words {
+        texts.push(word.as_str()).map_err(NoMemory::from)?;
+    }
+    let matches = matched(alloc, texts.as_slice())?;
+    match dirs_in(&matches) {
+        Some(dirs) => Ok(check(rt, alloc, dirs)),
+        None => Ok(check(rt, alloc, &[])),
+    }
+}
+
+/// Prints what `clap` says of a line that names no directories, or its help.
+fn refuse<R: Print + Eprint>(rt: &R, fault: OptionsFault) -> u8
     ensures { result ≤ 4 }
 {
-    match rt.println(HELP) {
-        Ok(()) => 0,
-        Err(_) => ended(rt, &Err(Stop::NotWritten)),
+    match fault {
+        OptionsFault::Line(error) => {
+            let _ = error.print(rt);
+            line_status(&error)
+        }
+        OptionsFault::NoMemory => ended(rt, &Err(Stop::NoMemory)),
     }
-}
-
-/// Says how the program is used.
-fn wrong_line<R: Eprint>(rt: &R) -> u8
-    ensures { result ≡ 2 }
-{
-    let _ = rt.eprintln(USAGE);
-    2
 }
 
 /// Says why a check ended before each handler was judged, and gives the exit status.

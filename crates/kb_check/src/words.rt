@@ -1,76 +1,38 @@
-//! The words of the command line.
+//! The command line, as `clap` reads it.
+use clap::error::ErrorKind;
+use clap::{Arg, ArgAction, ArgMatches, Command, Error};
 use kb_context::NoMemory;
 use std::alloc::Global;
 
-/// What the words of a command line ask for.
-#[derive(Debug, Drop)]
-pub(crate) enum Asked<'a> {
-    /// The help.
-    Help,
-    /// Nothing: a word is no option, or no directory is named.
-    Nothing,
-    /// That the handlers of the extensions in these directories are checked, in load order.
-    Check(Vec<&'a str>),
+/// The command, which takes the directories of extensions.
+fn command_of<'a>(alloc: Global) -> Result<Command<'a>, NoMemory> {
+    let dirs = Arg::new(alloc, "dir")
+        .value_name("DIR")
+        .required(true)
+        .action(ArgAction::Append)
+        .help(
+            "The directories of extensions, each with its package.json and, if it has handlers, its handlers.json, in load order",
+        );
+    Command::new(alloc, "check-handlers")
+        .about("Says of each handler of some extensions whether it is accepted, and why not.")
+        .bin_name("check-handlers")?
+        .arg(dirs)
 }
 
-/// What a word is.
-#[derive(Clone, Copy, Debug, PartialEq, Eq)]
-enum Word {
-    Help,
-    Unknown,
-    Ends,
-    Dir,
+/// What the words of a command line, of which the first is the program's name, are to `clap`.
+pub(crate) fn matched<'a>(alloc: Global, words: &'a [&'a str]) -> Result<ArgMatches<'a>, Error> {
+    command_of(alloc)?.try_get_matches_from(words)
 }
 
-/// What the words of a command line ask for, of which the first is the program's name: `--help` or `-h`
-/// alone asks for help, any other word that begins with `-` for nothing, and the others are directories.
-/// Behind `--` each word is a directory.
-pub(crate) fn read_words<'a>(alloc: Global, words: &'a [String]) -> Result<Asked<'a>, NoMemory> {
-    if asks(words, Word::Help) {
-        return Ok(Asked::Help);
-    }
-    let dirs = dirs_in(alloc, words)?;
-    if asks(words, Word::Unknown) || dirs.is_empty() {
-        return Ok(Asked::Nothing);
-    }
-    Ok(Asked::Check(dirs))
+/// The directories that were named. `clap` wants one at least.
+pub(crate) fn dirs_in<'m, 'a>(matches: &'m ArgMatches<'a>) -> Option<&'m [&'a str]> {
+    matches.get_strs("dir")
 }
 
-/// Whether one of the words before `--` is of a kind.
-fn asks(words: &[String], kind: Word) -> bool {
-    for word in words.iter().skip(1) {
-        let found = kind_of(word.as_str());
-        if found == Word::Ends {
-            return false;
-        }
-        if found == kind {
-            return true;
-        }
-    }
-    false
-}
-
-/// What a word is before `--`.
-fn kind_of(word: &str) -> Word {
-    match word {
-        "--" => Word::Ends,
-        "--help" | "-h" => Word::Help,
-        _ if word.starts_with('-') => Word::Unknown,
-        _ => Word::Dir,
-    }
-}
-
-/// The words that are directories.
-fn dirs_in<'a>(alloc: Global, words: &'a [String]) -> Result<Vec<&'a str>, NoMemory> {
-    let mut dirs = Vec::new(alloc);
-    let mut is_open = true;
-    for word in words.iter().skip(1) {
-        let word = word.as_str();
-        if is_open && word == "--" {
-            is_open = false;
-        } else {
-            dirs.push(word).map_err(NoMemory::from)?;
-        }
-    }
-    Ok(dirs)
+/// The error of a command line with a word that is no UTF-8 text.
+pub(crate) fn not_text<'a>(alloc: Global) -> Result<Error, NoMemory> {
+    command_of(alloc)?.error(
+        ErrorKind::InvalidValue,
+        "a word of the command line is no UTF-8 text",
+    )
 }
