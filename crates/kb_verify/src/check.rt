@@ -1,5 +1,5 @@
 //! The check of one instruction.
-ghost use Rattle.std.specs.Prelude.{◌≡◌, ◌<◌, ◌+◌, ◌^◌, length, option_copied, slice_get};
+ghost use Rattle.std.specs.Prelude.{◌≡◌, ◌<◌, ◌+◌, ◌^◌, Ok, length, option_copied, slice_get};
 ghost use Rattle.kb_context.specs.Failure.{Gives};
 ghost use Rattle.kb_verify.specs.Callable.{declaration_at};
 ghost use Rattle.kb_verify.specs.Check.{check, doubled, effect, falls_on, jumps_on, leads, put, swapped};
@@ -38,7 +38,8 @@ pub(crate) fn check_instr(
     Ok(after)
 }
 
-/// What an instruction makes of a shape, or what is wrong with its index or the operands.
+/// What an instruction makes of a shape, or what is wrong with its index or the operands. Each arm is one call:
+/// a value in between would be made ready here for each instruction, whichever arm it takes.
 fn apply(
     callable: &Callable,
     handler: &Handler,
@@ -50,31 +51,64 @@ fn apply(
     match instr {
         Instr::Return => Ok(shape),
         Instr::Text(n) => with_text(handler.texts().get(usize::from(n)), Kind::Text, shape),
-        Instr::Num(_) => put(Kind::Number, Ok(shape)),
-        Instr::Truth(_) => put(Kind::Truth, Ok(shape)),
+        Instr::Num(_) => with(Kind::Number, shape),
+        Instr::Truth(_) => with(Kind::Truth, shape),
         Instr::Arg(n) => with_param(handler.signature().params().get(usize::from(n)), shape),
-        Instr::Drop => without_one(Kind::Any, shape).map_err(Failure::Fault),
+        Instr::Drop => less_one(Kind::Any, shape),
         Instr::Dup => doubled(shape),
         Instr::Swap => swapped(shape),
-        Instr::Add => put(Kind::Number, without_two(Kind::Number, shape)),
-        Instr::Sub => put(Kind::Number, without_two(Kind::Number, shape)),
-        Instr::Less => put(Kind::Truth, without_two(Kind::Number, shape)),
-        Instr::Same => put(Kind::Truth, without_two(Kind::Any, shape)),
-        Instr::Not => put(Kind::Truth, without_one(Kind::Truth, shape)),
-        Instr::Join => put(Kind::Text, without_two(Kind::Text, shape)),
-        Instr::Show => put(Kind::Text, without_one(Kind::Any, shape)),
-        Instr::Size => put(Kind::Number, without_one(Kind::Text, shape)),
-        Instr::IsTrue => put(Kind::Truth, without_one(Kind::Any, shape)),
-        Instr::Number => put(Kind::Number, without_one(Kind::Any, shape)),
+        Instr::Add => from_two(Kind::Number, Kind::Number, shape),
+        Instr::Sub => from_two(Kind::Number, Kind::Number, shape),
+        Instr::Less => from_two(Kind::Number, Kind::Truth, shape),
+        Instr::Same => from_two(Kind::Any, Kind::Truth, shape),
+        Instr::Not => from_one(Kind::Truth, Kind::Truth, shape),
+        Instr::Join => from_two(Kind::Text, Kind::Text, shape),
+        Instr::Show => from_one(Kind::Any, Kind::Text, shape),
+        Instr::Size => from_one(Kind::Text, Kind::Number, shape),
+        Instr::IsTrue => from_one(Kind::Any, Kind::Truth, shape),
+        Instr::Number => from_one(Kind::Any, Kind::Number, shape),
         Instr::Jump(_) => Ok(shape),
-        Instr::JumpIfFalse(_) => without_one(Kind::Truth, shape).map_err(Failure::Fault),
-        Instr::Call(n) => {
-            without_args(signature_at(callable, handler, n), shape).map_err(Failure::Fault)
-        }
+        Instr::JumpIfFalse(_) => less_one(Kind::Truth, shape),
+        Instr::Call(n) => less_args(signature_at(callable, handler, n), shape),
         Instr::Context(n) => with_text(handler.texts().get(usize::from(n)), Kind::Any, shape),
-        Instr::Before => put(Kind::Number, Ok(shape)),
-        Instr::After => put(Kind::Number, Ok(shape)),
+        Instr::Before => with(Kind::Number, shape),
+        Instr::After => with(Kind::Number, shape),
     }
+}
+
+/// A kind on top.
+fn with(kind: Kind, shape: Shape) -> Result<Shape, Failure<Defect>>
+    ensures { Gives (λ shape. shape) result (put kind (Ok shape)) }
+{
+    put(kind, Ok(shape))
+}
+
+/// The operands without the topmost, which is of a kind.
+fn less_one(kind: Kind, shape: Shape) -> Result<Shape, Failure<Defect>>
+    ensures { Gives (λ shape. shape) result (without_one kind shape) }
+{
+    without_one(kind, shape).map_err(Failure::Fault)
+}
+
+/// The operands without the arguments of a command.
+fn less_args(signature: Option<&SharedSignature>, shape: Shape) -> Result<Shape, Failure<Defect>>
+    ensures { Gives (λ shape. shape) result (without_args (option_copied signature.entry) shape) }
+{
+    without_args(signature, shape).map_err(Failure::Fault)
+}
+
+/// A kind in place of the topmost operand, which is of another one.
+fn from_one(taken: Kind, made: Kind, shape: Shape) -> Result<Shape, Failure<Defect>>
+    ensures { Gives (λ shape. shape) result (put made (without_one taken shape)) }
+{
+    put(made, without_one(taken, shape))
+}
+
+/// A kind in place of the two topmost operands, which are of another one.
+fn from_two(taken: Kind, made: Kind, shape: Shape) -> Result<Shape, Failure<Defect>>
+    ensures { Gives (λ shape. shape) result (put made (without_two taken shape)) }
+{
+    put(made, without_two(taken, shape))
 }
 
 /// Whether an instruction leads to later places of the code, or what is wrong.

@@ -128,8 +128,21 @@ fn flow_from(
     Ok(())
 }
 
-/// A shape flows to a place.
+/// A shape flows to a place. Most places are reached once.
 fn flow_to(marks: &mut Vec<Mark>, to: usize, after: Shape)
+    requires { to < length marks.old.items }
+    ensures flows { FlowsTo marks.old.items to after marks.new.items }
+    ensures size { length marks.new.items ≡ length marks.old.items }
+{
+    if let Mark::Unreached = &marks[to] {
+        marks[to] = Mark::Has(after);
+    } else {
+        meet_at(marks, to, after);
+    }
+}
+
+/// A shape meets what came to a place.
+fn meet_at(marks: &mut Vec<Mark>, to: usize, after: Shape)
     requires { to < length marks.old.items }
     ensures flows { FlowsTo marks.old.items to after marks.new.items }
     ensures size { length marks.new.items ≡ length marks.old.items }

@@ -9,7 +9,7 @@ use std::alloc::Global;
 use std::marker::Model;
 
 /// How many kinds stand in the shape itself. Most shapes are no larger, so that a copy takes no memory.
-const INLINE: usize = 16;
+const INLINE: usize = 8;
 
 /// The kinds of the operands at a place. Contracts see them from the top.
 #[derive(Debug, Drop)]

@@ -1,7 +1,7 @@
 use Rattle.std.proofs.Common.{◌∙◌, refl, sym, subst}
 use Rattle.kb_verify.specs.Marks.{Meets}
 use Rattle.kb_verify.proofs.Passes.{read_as, set_set}
-use Rattle.kb_verify.proofs.forward.flow_to.Goals as goal
+use Rattle.kb_verify.proofs.forward.meet_at.Goals as goal
 
 pub returns-clause-flows : goal.returns-clause-flows
 returns-clause-flows c =
