@@ -12,3 +12,9 @@ status_of (Err (Refused path number)) = 3
 status_of (Err TooMany) = 3
 status_of (Err NoMemory) = 4
 status_of (Err NotWritten) = 4
+
+-- writing what is said was refused memory, or not all was written
+abbrev pub IsOfWriting : Stop → Type 0
+IsOfWriting NoMemory = Unit {0}
+IsOfWriting NotWritten = Unit {0}
+IsOfWriting stop = ⊥

@@ -1,6 +1,7 @@
 //! What is said of the handlers of extensions.
-ghost use Rattle.std.specs.Prelude.{◌≡◌, ◌↔◌, All, IfOk, IsTrue};
+ghost use Rattle.std.specs.Prelude.{◌≡◌, ◌↔◌, All, IfErr, IfOk, IsTrue};
 ghost use Rattle.kb_check.specs.Judgement.{AllAccepted, AllOfExtensions, is_accepted};
+ghost use Rattle.kb_check.specs.Stop.{IsOfWriting};
 ghost use Rattle.kb_verify.specs.Accepted.{IsAccepted};
 
 use crate::callable::callable_of;
@@ -23,7 +24,8 @@ pub fn report_extensions<W: Write>(
     extensions: &[ExtensionCode],
     out: &mut W,
 ) -> Result<bool, Stop>
-    ensures { IfOk result (λ all. IsTrue all ↔ AllOfExtensions extensions.now) }
+    ensures all { IfOk result (λ all. IsTrue all ↔ AllOfExtensions extensions.now) }
+    ensures err { IfErr result IsOfWriting }
 {
     let mut all = true;
     for extension in extensions {
@@ -40,7 +42,8 @@ fn report_extension<W: Write>(
     own: &ExtensionCode,
     out: &mut W,
 ) -> Result<bool, Stop>
-    ensures { IfOk result (λ all. IsTrue all ↔ AllAccepted extensions.now own.now) }
+    ensures all { IfOk result (λ all. IsTrue all ↔ AllAccepted extensions.now own.now) }
+    ensures err { IfErr result IsOfWriting }
 {
     say_of_none(alloc, own, out)?;
     let callable = callable_of(alloc, extensions, own)?;
@@ -48,7 +51,9 @@ fn report_extension<W: Write>(
 }
 
 /// Says that an extension has no handlers, where that is so.
-fn say_of_none<W: Write>(alloc: Global, own: &ExtensionCode, out: &mut W) -> Result<(), Stop> {
+fn say_of_none<W: Write>(alloc: Global, own: &ExtensionCode, out: &mut W) -> Result<(), Stop>
+    ensures { IfErr result IsOfWriting }
+{
     let dir = own.dir.as_str();
     let said = match &own.handlers {
         None => format!(in alloc; "{dir}: it has no handlers, since there is no handlers.json.\n")?,
@@ -61,7 +66,9 @@ fn say_of_none<W: Write>(alloc: Global, own: &ExtensionCode, out: &mut W) -> Res
 }
 
 /// Writes a text.
-fn say<W: Write>(text: &str, out: &mut W) -> Result<(), Stop> {
+fn say<W: Write>(text: &str, out: &mut W) -> Result<(), Stop>
+    ensures { IfErr result IsOfWriting }
+{
     match write_whole(out, text.as_bytes()) {
         Ok(()) => Ok(()),
         Err(_) => Err(Stop::NotWritten),
@@ -75,7 +82,8 @@ fn report_handlers<W: Write>(
     handlers: &[Handler],
     out: &mut W,
 ) -> Result<bool, Stop>
-    ensures { IfOk result (λ all. IsTrue all ↔ All (IsAccepted callable.now) handlers.now) }
+    ensures all { IfOk result (λ all. IsTrue all ↔ All (IsAccepted callable.now) handlers.now) }
+    ensures err { IfErr result IsOfWriting }
 {
     let mut all = true;
     for handler in handlers {
@@ -92,7 +100,8 @@ fn report_handler<W: Write>(
     handler: &Handler,
     out: &mut W,
 ) -> Result<bool, Stop>
-    ensures { IfOk result (λ accepted. IsTrue accepted ↔ IsAccepted callable.now handler.now) }
+    ensures accepted { IfOk result (λ accepted. IsTrue accepted ↔ IsAccepted callable.now handler.now) }
+    ensures err { IfErr result IsOfWriting }
 {
     let judgement = judge(alloc, callable, handler)?;
     let said = sentences(alloc, callable, handler, &judgement)?;

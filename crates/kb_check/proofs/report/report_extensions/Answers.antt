@@ -18,12 +18,12 @@ loop-extension-preserved g c =
       | else-all w ↦ w.all-is ∙ w.if-all.false ∙ sym (ap (λ b. b && one) w.if-all.false)
     ] in
     record {
-      so_far = λ e. one_more (AllAccepted extensions) extensions i x before one c.loop-extension-test.true c.extension-item.is c.loop-extension.invariant.so_far c.in_ok-accepted.ensures (sym is ∙ e);
-      each = λ all. is ∙ all_hold (AllAccepted extensions) extensions i x before one c.loop-extension-test.true c.extension-item.is c.loop-extension.invariant.each c.in_ok-accepted.ensures all;
+      so_far = λ e. one_more (AllAccepted extensions) extensions i x before one c.loop-extension-test.true c.extension-item.is c.loop-extension.invariant.so_far c.in_ok-accepted.ensures.all (sym is ∙ e);
+      each = λ all. is ∙ all_hold (AllAccepted extensions) extensions i x before one c.loop-extension-test.true c.extension-item.is c.loop-extension.invariant.each c.in_ok-accepted.ensures.all all;
     }
 
-pub returns : goal.returns
-returns g c =
+pub returns-clause-all : goal.returns-clause-all
+returns-clause-all g c =
     let extensions = c.args.extensions.now in (
       λ e. subst (All (AllAccepted extensions)) (take_all c.loop-extension.extension-index extensions c.loop-extension-test.false) (c.loop-extension.invariant.so_far e),
       c.loop-extension.invariant.each,

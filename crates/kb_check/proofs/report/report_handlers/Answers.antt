@@ -19,12 +19,12 @@ loop-handler-preserved g c =
       | else-all w ↦ w.all-is ∙ w.if-all.false ∙ sym (ap (λ b. b && one) w.if-all.false)
     ] in
     record {
-      so_far = λ e. one_more (IsAccepted commands) handlers i x before one c.loop-handler-test.true c.handler-item.is c.loop-handler.invariant.so_far c.in_ok-accepted.ensures (sym is ∙ e);
-      each = λ all. is ∙ all_hold (IsAccepted commands) handlers i x before one c.loop-handler-test.true c.handler-item.is c.loop-handler.invariant.each c.in_ok-accepted.ensures all;
+      so_far = λ e. one_more (IsAccepted commands) handlers i x before one c.loop-handler-test.true c.handler-item.is c.loop-handler.invariant.so_far c.in_ok-accepted.ensures.accepted (sym is ∙ e);
+      each = λ all. is ∙ all_hold (IsAccepted commands) handlers i x before one c.loop-handler-test.true c.handler-item.is c.loop-handler.invariant.each c.in_ok-accepted.ensures.accepted all;
     }
 
-pub returns : goal.returns
-returns g c =
+pub returns-clause-all : goal.returns-clause-all
+returns-clause-all g c =
     let handlers = c.args.handlers.now in (
       λ e. subst (All (IsAccepted c.args.callable.now)) (take_all c.loop-handler.handler-index handlers c.loop-handler-test.false) (c.loop-handler.invariant.so_far e),
       c.loop-handler.invariant.each,
