@@ -1,4 +1,5 @@
--- No load finds a callee missing: what a handler was verified against is live when it comes, or comes with it.
+-- No load finds a callee missing: what a handler was verified against is live when it comes, or comes with
+-- it.
 use Rattle.std.specs.Prelude.{◌≡◌, List, Err}
 use Rattle.kb_bindings.specs.declared.fault.LoadFault.{LoadFault}
 use Rattle.kb_code.specs.Handler.{HandlerData}
@@ -10,5 +11,5 @@ use Rattle.kb_live.specs.Checked.{LiveChecked}
 -- why commands can't be live at first is never that a callee isn't (74)
 abbrev pub NeverLacksCallees : Type 0
 NeverLacksCallees =
-    (natives : List Native) (extensions : List Extension) (handlers : List (List HandlerData)) (fault : LoadFault)
-    → LiveChecked natives extensions handlers (Err (Fault fault)) → fault.refusal.number ≡ 74 → ⊥
+    (natives : List Native) (extensions : List Extension) (handlers : List (List HandlerData))
+    (fault : LoadFault) → LiveChecked natives extensions handlers (Err (Fault fault)) → fault.refusal.number ≡ 74 → ⊥

@@ -38,8 +38,8 @@ pub(crate) fn check_instr(
     Ok(after)
 }
 
-/// What an instruction makes of a shape, or what is wrong with its index or the operands. Each arm is one call:
-/// a value in between would be made ready here for each instruction, whichever arm it takes.
+/// What an instruction makes of a shape, or what is wrong with its index or the operands. Each arm is one
+/// call: a value in between would be made ready here for each instruction, whichever arm it takes.
 fn apply(
     callable: &Callable,
     handler: &Handler,

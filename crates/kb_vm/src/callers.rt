@@ -184,7 +184,8 @@ fn take_last<'a>(
     ensures args { args.new ≡ take arg_count (drop (length (map arg_of values.old.items)
         - (arg_count + operand_count)) (map arg_of values.old.items)) }
     ensures operands { operands.new ≡ reverse (take operand_count (drop arg_count (drop
-        (length (map arg_of values.old.items) - (arg_count + operand_count)) (map arg_of values.old.items)))) }
+        (length (map arg_of values.old.items) - (arg_count + operand_count))
+        (map arg_of values.old.items)))) }
 {
     let behind = values.len() - operand_count;
     operands.refill(&values[behind..]);
