@@ -4,6 +4,7 @@ pub mod Dearest
 pub mod Edges
 pub mod Listed
 pub mod Lists
+pub mod Packed
 pub mod Passes
 pub mod Refutes
 pub mod SameLemmas

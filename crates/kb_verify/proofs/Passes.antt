@@ -1,12 +1,9 @@
 -- The pass forward.
 use Rattle.std.proofs.Common.{◌≡◌, ◌≢◌, ◌<◌, ◌≤◌, inl, inr, ⊎_elim, ℕ, zero, suc, ◌+◌, List, [], ◌∷◌, ◌++◌}
 use Rattle.std.proofs.Common.{length, get_or, replicate, Ok, Err, Some, refl, sym, ap, ◌∙◌, subst, arith}
-use Rattle.std.specs.Prelude.{slice_get, slice_set}
+use Rattle.std.specs.Prelude.{slice_get}
 use Rattle.std.proofs.lemmas.Option.{slice_get-get_or, get_or_from_slice_get}
 use Rattle.std.proofs.lemmas.List.{get_or-set_same, get_or-set_other, length-set, length-replicate}
-use Rattle.kb_context.specs.Failure.{Fails}
-use Rattle.kb_context.specs.declared.failure.Failure.{Failure}
-use Rattle.kb_context.specs.declared.failure.Failure.TheVariants as failure
 use Rattle.kb_core.specs.declared.arg.Kind.{Kind}
 use Rattle.kb_code.specs.declared.instr.Instr.{Instr}
 use Rattle.kb_code.specs.declared.exits.Exits.{Exits}
@@ -18,7 +15,6 @@ use Rattle.kb_verify.specs.declared.fault.Defect.{Defect}
 use Rattle.kb_verify.specs.declared.fault.Defect.TheVariants as defect
 use Rattle.kb_verify.specs.Callable.{Commands}
 use Rattle.kb_verify.specs.Check.{check}
-use Rattle.kb_verify.specs.Faults.{IsFailure, failure_at}
 use Rattle.kb_verify.specs.Shapes.{HasShapesBelow, HasShapes, Comes, differ, fails, IsFirstWrong}
 use Rattle.kb_verify.specs.declared.forward.Mark.{Mark}
 use Rattle.kb_verify.specs.declared.forward.Mark.TheVariants as mark
@@ -31,11 +27,6 @@ use native.Mathlib.Decide.{ℕ_discrete}
 pub read_as : (ms : List Mark) (i : ℕ) (x y : Mark) → i < length ms → x ≡ get_or ms i x → x ≡ y →
     mark_at ms i ≡ y
 read_as ms i x y lt e f = get_or_from_slice_get ms i x mark.Unreached (slice_get-get_or ms i x lt ∙ ap Some (sym e)) ∙ f
-
-pub set_set : (ms : List Mark) (i : ℕ) (a b : Mark) → slice_set (slice_set ms i a) i b ≡ slice_set ms i b
-set_set [] i a b = refl
-set_set (m ∷ ms) zero a b = refl
-set_set (m ∷ ms) (suc i) a b = ap (λ l. m ∷ l) (set_set ms i a b)
 
 -- a shape that meets a mark
 meets_grown : (m n : Mark) (after a : List Kind) → Meets m after n → HasBeen m a → HasBeen n a
@@ -260,14 +251,6 @@ module _ (commands : Commands) (h : HandlerData) where
     below = shapes_below i ms marked;
     is_wrong = fails (λ a c. sym (been_has (mark_at ms i) a ks (comes_been i ms marked i a (omega arith) c) e)) at fault;
   }
-
-  -- the same for the failure of a check
-  pub failed_first : (i : ℕ) (ms : List Mark) (ks : List Kind) (instr : Instr) (f : Failure Defect) →
-      IsMarked commands h i ms → i < length h.code → mark_at ms i ≡ mark.Has ks →
-      slice_get h.code i ≡ Some instr → Fails f (check commands h i ks instr) →
-      IsFailure commands h (failure_at i f)
-  failed_first i ms ks instr failure.NoMemory marked lt e at meant = omega (arith, lt)
-  failed_first i ms ks instr (failure.Fault wrong) marked lt e at meant = inr (fails_first i ms ks instr wrong marked e at meant)
 
   -- at the end each reachable place has one shape
   pub all_looked : (ms : List Mark) → IsMarked commands h (length h.code) ms → HasShapes commands h

@@ -70,6 +70,13 @@ without_args (Some d) ks =
 abbrev pub put : Kind → Checked → Checked
 put k left = seen (λ ks. k ∷ ks) left
 
+-- at most 64 operands may stand
+abbrev pub fitting : List Kind → Checked
+fitting ks = unless defect.TooHigh (nat_le (length ks) 64) ks
+
+abbrev pub fitted : Checked → Checked
+fitted left = left >>= fitting
+
 -- what an instruction makes of a shape
 abbrev pub effect : Commands → HandlerData → Instr → List Kind → Checked
 effect commands h i.Return ks = Ok ks
@@ -115,4 +122,4 @@ leads size place _ = falls_on size place
 abbrev pub check : Commands → HandlerData → ℕ → List Kind → Instr → Checked
 check commands h place ks instr =
     effect commands h instr ks >>= (λ after.
-    leads (length h.code) place instr >> unless defect.TooHigh (nat_le (length after) 64) after)
+    leads (length h.code) place instr >> fitting after)

@@ -39,8 +39,3 @@ IsSameFault _ _ = ⊥
 abbrev pub IsTrueFault : Failure VerifyFault → Type 0
 IsTrueFault NoMemory = ⊥
 IsTrueFault (Fault fault) = Unit {0}
-
--- the defect of a check, at its place
-abbrev pub failure_at : ℕ → Failure Defect → Failure VerifyFault
-failure_at place NoMemory = NoMemory
-failure_at place (Fault wrong) = Fault (Wrong wrong place)

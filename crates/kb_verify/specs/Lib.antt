@@ -2,6 +2,7 @@ pub mod Fault
 pub mod Callable
 pub mod Same
 pub mod Check
+pub mod Packed
 pub mod Shapes
 pub mod Paths
 pub mod Accepted

@@ -69,12 +69,12 @@ fn callee_at<'a>(
         ((index : _) → Calls handler.now place index → ⊥)
         (λ found. IsCallee callable.now handler.now place found.0 found.1.now) }
 {
-    if let Mark::Unreached = &marks[place] {
-        return None;
-    }
     let Instr::Call(index) = handler.code()[place] else {
         return None;
     };
+    if let Mark::Unreached = &marks[place] {
+        return None;
+    }
     match signature_at(callable, handler, index) {
         Some(signature) => Some((index, signature)),
         None => None,

@@ -1,58 +1,59 @@
 //! The check of one instruction.
-ghost use Rattle.std.specs.Prelude.{◌≡◌, ◌<◌, ◌+◌, ◌^◌, Ok, length, option_copied, slice_get};
-ghost use Rattle.kb_context.specs.Failure.{Gives};
+ghost use Rattle.std.specs.Prelude.{◌≡◌, ◌<◌, ◌+◌, ◌^◌, ◌∷◌, Ok, length, option_copied, slice_get};
 ghost use Rattle.kb_verify.specs.Callable.{declaration_at};
-ghost use Rattle.kb_verify.specs.Check.{check, doubled, effect, falls_on, jumps_on, leads, put, swapped};
-ghost use Rattle.kb_verify.specs.Check.{takes, takes_each, with_param, with_text, without_args, without_one};
+ghost use Rattle.kb_verify.specs.Check.{check, doubled, effect, falls_on, fitted, jumps_on, leads, put};
+ghost use Rattle.kb_verify.specs.Check.{swapped, takes, with_param, with_text, without_args, without_one};
 ghost use Rattle.kb_verify.specs.Check.{without_two};
 
 use crate::callable::{Callable, SharedSignature};
 use crate::fault::Defect;
 use crate::shape::Shape;
 use kb_code::{Handler, Instr};
-use kb_context::{Failure, Text};
+use kb_context::Text;
 use kb_core::{Kind, Param};
-use std::alloc::Global;
-
-/// How many operands may stand.
-const OPERAND_LIMIT: usize = 64;
 
 /// The shape behind an instruction, by that in front of it, or what is wrong.
 pub(crate) fn check_instr(
-    alloc: Global,
     callable: &Callable,
     handler: &Handler,
     place: usize,
-    before: &Shape,
+    before: Shape,
     instr: Instr,
-) -> Result<Shape, Failure<Defect>>
+) -> Result<Shape, Defect>
     requires { place < length handler.now.code }
-    ensures { Gives (λ shape. shape) result (check callable.now handler.now place before.now instr) }
+    ensures { result ≡ check callable.now handler.now place before instr }
 {
-    let shape = before.copied(alloc)?;
-    let after = apply(callable, handler, instr, shape)?;
-    leads(handler.code().len(), place, instr).map_err(Failure::Fault)?;
-    if after.len() > OPERAND_LIMIT {
-        return Err(Failure::Fault(Defect::TooHigh));
+    let size = handler.code().len();
+    match apply(callable, handler, instr, before) {
+        Ok(after) => {
+            leads(size, place, instr)?;
+            Ok(after)
+        }
+        // Where it leads is told before that too many operands stand.
+        Err(Defect::TooHigh) => {
+            leads(size, place, instr)?;
+            Err(Defect::TooHigh)
+        }
+        Err(defect) => Err(defect),
     }
-    Ok(after)
 }
 
-/// What an instruction makes of a shape, or what is wrong with its index or the operands. Each arm is one
-/// call: a value in between would be made ready here for each instruction, whichever arm it takes.
+/// What an instruction makes of a shape, or what is wrong with its index, the operands or their number.
+/// Each arm is one call: a value in between would be made ready here for each instruction, whichever arm it
+/// takes.
 fn apply(
     callable: &Callable,
     handler: &Handler,
     instr: Instr,
     shape: Shape,
-) -> Result<Shape, Failure<Defect>>
-    ensures { Gives (λ shape. shape) result (effect callable.now handler.now instr shape) }
+) -> Result<Shape, Defect>
+    ensures { result ≡ fitted (effect callable.now handler.now instr shape) }
 {
     match instr {
-        Instr::Return => Ok(shape),
+        Instr::Return => shape.fitted(),
         Instr::Text(n) => with_text(handler.texts().get(usize::from(n)), Kind::Text, shape),
-        Instr::Num(_) => with(Kind::Number, shape),
-        Instr::Truth(_) => with(Kind::Truth, shape),
+        Instr::Num(_) => shape.with(Kind::Number),
+        Instr::Truth(_) => shape.with(Kind::Truth),
         Instr::Arg(n) => with_param(handler.signature().params().get(usize::from(n)), shape),
         Instr::Drop => less_one(Kind::Any, shape),
         Instr::Dup => doubled(shape),
@@ -67,48 +68,41 @@ fn apply(
         Instr::Size => from_one(Kind::Text, Kind::Number, shape),
         Instr::IsTrue => from_one(Kind::Any, Kind::Truth, shape),
         Instr::Number => from_one(Kind::Any, Kind::Number, shape),
-        Instr::Jump(_) => Ok(shape),
+        Instr::Jump(_) => shape.fitted(),
         Instr::JumpIfFalse(_) => less_one(Kind::Truth, shape),
         Instr::Call(n) => less_args(signature_at(callable, handler, n), shape),
         Instr::Context(n) => with_text(handler.texts().get(usize::from(n)), Kind::Any, shape),
-        Instr::Before => with(Kind::Number, shape),
-        Instr::After => with(Kind::Number, shape),
+        Instr::Before => shape.with(Kind::Number),
+        Instr::After => shape.with(Kind::Number),
     }
 }
 
-/// A kind on top.
-fn with(kind: Kind, shape: Shape) -> Result<Shape, Failure<Defect>>
-    ensures { Gives (λ shape. shape) result (put kind (Ok shape)) }
-{
-    put(kind, Ok(shape))
-}
-
 /// The operands without the topmost, which is of a kind.
-fn less_one(kind: Kind, shape: Shape) -> Result<Shape, Failure<Defect>>
-    ensures { Gives (λ shape. shape) result (without_one kind shape) }
+fn less_one(kind: Kind, shape: Shape) -> Result<Shape, Defect>
+    ensures { result ≡ fitted (without_one kind shape) }
 {
-    without_one(kind, shape).map_err(Failure::Fault)
+    without_one(kind, shape)?.fitted()
 }
 
 /// The operands without the arguments of a command.
-fn less_args(signature: Option<&SharedSignature>, shape: Shape) -> Result<Shape, Failure<Defect>>
-    ensures { Gives (λ shape. shape) result (without_args (option_copied signature.entry) shape) }
+fn less_args(signature: Option<&SharedSignature>, shape: Shape) -> Result<Shape, Defect>
+    ensures { result ≡ fitted (without_args (option_copied signature.entry) shape) }
 {
-    without_args(signature, shape).map_err(Failure::Fault)
+    without_args(signature, shape)?.fitted()
 }
 
 /// A kind in place of the topmost operand, which is of another one.
-fn from_one(taken: Kind, made: Kind, shape: Shape) -> Result<Shape, Failure<Defect>>
-    ensures { Gives (λ shape. shape) result (put made (without_one taken shape)) }
+fn from_one(taken: Kind, made: Kind, shape: Shape) -> Result<Shape, Defect>
+    ensures { result ≡ fitted (put made (without_one taken shape)) }
 {
-    put(made, without_one(taken, shape))
+    without_one(taken, shape)?.with(made)
 }
 
 /// A kind in place of the two topmost operands, which are of another one.
-fn from_two(taken: Kind, made: Kind, shape: Shape) -> Result<Shape, Failure<Defect>>
-    ensures { Gives (λ shape. shape) result (put made (without_two taken shape)) }
+fn from_two(taken: Kind, made: Kind, shape: Shape) -> Result<Shape, Defect>
+    ensures { result ≡ fitted (put made (without_two taken shape)) }
 {
-    put(made, without_two(taken, shape))
+    without_two(taken, shape)?.with(made)
 }
 
 /// Whether an instruction leads to later places of the code, or what is wrong.
@@ -164,98 +158,81 @@ pub(crate) fn signature_at<'a>(
     }
 }
 
-/// A kind on top of the operands that were left.
-fn put(kind: Kind, left: Result<Shape, Defect>) -> Result<Shape, Failure<Defect>>
-    ensures { Gives (λ shape. shape) result (put kind left) }
-{
-    match left {
-        Ok(mut shape) => {
-            shape.push(kind)?;
-            Ok(shape)
-        }
-        Err(defect) => Err(Failure::Fault(defect)),
-    }
-}
-
 /// A kind on top, where there is a text.
-fn with_text(text: Option<&Text>, kind: Kind, shape: Shape) -> Result<Shape, Failure<Defect>>
-    ensures { Gives (λ shape. shape) result (with_text (option_copied text.entry) kind shape) }
+fn with_text(text: Option<&Text>, kind: Kind, shape: Shape) -> Result<Shape, Defect>
+    ensures { result ≡ fitted (with_text (option_copied text.entry) kind shape) }
 {
     match text {
-        Some(_) => put(kind, Ok(shape)),
-        None => Err(Failure::Fault(Defect::WrongOperand)),
+        Some(_) => shape.with(kind),
+        None => Err(Defect::WrongOperand),
     }
 }
 
 /// A parameter's kind on top, where there is a parameter.
-fn with_param(param: Option<&Param>, shape: Shape) -> Result<Shape, Failure<Defect>>
-    ensures { Gives (λ shape. shape) result (with_param (option_copied param.entry) shape) }
+fn with_param(param: Option<&Param>, shape: Shape) -> Result<Shape, Defect>
+    ensures { result ≡ fitted (with_param (option_copied param.entry) shape) }
 {
     match param {
-        Some(param) => put(param.kind, Ok(shape)),
-        None => Err(Failure::Fault(Defect::WrongOperand)),
+        Some(param) => shape.with(param.kind),
+        None => Err(Defect::WrongOperand),
     }
 }
 
 /// The topmost kind once more.
-fn doubled(mut shape: Shape) -> Result<Shape, Failure<Defect>>
-    ensures { Gives (λ shape. shape) result (doubled shape) }
+fn doubled(shape: Shape) -> Result<Shape, Defect>
+    ensures { result ≡ fitted (doubled shape) }
 {
-    let Some(kind) = shape.pop() else {
-        return Err(Failure::Fault(Defect::MissingOperand));
-    };
-    shape.push(kind)?;
-    shape.push(kind)?;
-    Ok(shape)
+    match shape.split() {
+        Some((kind, _)) => shape.with(kind),
+        None => Err(Defect::MissingOperand),
+    }
 }
 
 /// The two topmost kinds, exchanged.
-fn swapped(mut shape: Shape) -> Result<Shape, Failure<Defect>>
-    ensures { Gives (λ shape. shape) result (swapped shape) }
+fn swapped(shape: Shape) -> Result<Shape, Defect>
+    ensures { result ≡ fitted (swapped shape) }
 {
-    let Some(y) = shape.pop() else {
-        return Err(Failure::Fault(Defect::MissingOperand));
+    let Some((y, rest)) = shape.split() else {
+        return Err(Defect::MissingOperand);
     };
-    let Some(x) = shape.pop() else {
-        return Err(Failure::Fault(Defect::MissingOperand));
+    let Some((x, rest)) = rest.split() else {
+        return Err(Defect::MissingOperand);
     };
-    shape.push(y)?;
-    shape.push(x)?;
-    Ok(shape)
+    rest.with(y)?.with(x)
 }
 
 /// The operands without the topmost, which is of a kind.
-fn without_one(kind: Kind, mut shape: Shape) -> Result<Shape, Defect>
+fn without_one(kind: Kind, shape: Shape) -> Result<Shape, Defect>
     ensures { result ≡ without_one kind shape }
 {
-    let Some(x) = shape.pop() else {
+    let Some((x, rest)) = shape.split() else {
         return Err(Defect::MissingOperand);
     };
     if !takes(kind, x) {
         return Err(Defect::WrongOperand);
     }
-    Ok(shape)
+    Ok(rest)
 }
 
 /// The operands without the two topmost, which are of a kind.
-fn without_two(kind: Kind, mut shape: Shape) -> Result<Shape, Defect>
+fn without_two(kind: Kind, shape: Shape) -> Result<Shape, Defect>
     ensures { result ≡ without_two kind shape }
 {
-    let Some(y) = shape.pop() else {
+    let Some((y, rest)) = shape.split() else {
         return Err(Defect::MissingOperand);
     };
-    let Some(x) = shape.pop() else {
+    let Some((x, rest)) = rest.split() else {
         return Err(Defect::MissingOperand);
     };
     if takes(kind, y) && takes(kind, x) {
-        Ok(shape)
+        Ok(rest)
     } else {
         Err(Defect::WrongOperand)
     }
 }
 
-/// The operands without the arguments of a command.
-fn without_args(signature: Option<&SharedSignature>, mut shape: Shape) -> Result<Shape, Defect>
+/// The operands without the arguments of a command, the last of which is on top.
+fn without_args(signature: Option<&SharedSignature>, shape: Shape) -> Result<Shape, Defect>
     ensures { result ≡ without_args (option_copied signature.entry) shape }
 {
     let Some(signature) = signature else {
@@ -265,26 +242,15 @@ fn without_args(signature: Option<&SharedSignature>, mut shape: Shape) -> Result
     if shape.len() < params.len() {
         return Err(Defect::MissingOperand);
     }
-    if !takes_each(params, shape.topmost(params.len())) {
-        return Err(Defect::WrongArgument);
-    }
-    shape.remove(params.len());
-    Ok(shape)
-}
-
-/// Whether parameters take operands of these kinds.
-fn takes_each(params: &[Param], kinds: &[Kind]) -> bool
-    ensures { result ≡ takes_each params.now kinds.now }
-{
-    if params.len() != kinds.len() {
-        return false;
-    }
-    for i in 0..params.len() {
-        if !takes(params[i].kind, kinds[i]) {
-            return false;
+    let mut rest = shape;
+    for i in (0..params.len()).rev() {
+        let (kind, below) = rest.split().unwrap();
+        if !takes(params[i].kind, kind) {
+            return Err(Defect::WrongArgument);
         }
+        rest = below;
     }
-    true
+    Ok(rest)
 }
 
 /// Whether what takes operands of the first kind takes one of the second.

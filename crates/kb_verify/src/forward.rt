@@ -1,8 +1,8 @@
 //! One pass forward, for the shapes.
 ghost use Rattle.std.specs.Prelude.{◌≡◌, ◌<◌, ◌+◌, ◌-◌, ◌^◌, ◌∷◌, [], suc, length, replicate};
-ghost use Rattle.std.specs.Prelude.{IfOk, OnOk, MatchResult};
+ghost use Rattle.std.specs.Prelude.{IfOk, MatchResult};
 ghost use Rattle.kb_code.specs.Exits.{exits_of};
-ghost use Rattle.kb_verify.specs.Faults.{IsFailure, failure_at};
+ghost use Rattle.kb_verify.specs.Faults.{IsFailure, IsFault};
 ghost use Rattle.kb_verify.specs.Marks.{AreWithin, FlowsFrom, FlowsTo, IsMarked, Meets};
 
 use crate::callable::Callable;
@@ -12,10 +12,9 @@ use crate::shape::Shape;
 use kb_code::{Exits, Handler, Instr};
 use kb_context::{Failure, NoMemory};
 use std::alloc::Global;
-use std::mem;
 
 /// What came to a place: no shape yet, one, or two that differ.
-#[derive(Debug, Drop)]
+#[derive(Clone, Copy, Debug)]
 pub(crate) enum Mark {
     Unreached,
     Has(Shape),
@@ -36,7 +35,7 @@ pub(crate) fn assign(
     let size = handler.code().len();
     let mut marks = blank(alloc, size)?;
     for place in 0..size {
-        look(alloc, callable, handler, &mut marks, place)?;
+        look(callable, handler, &mut marks, place).map_err(Failure::Fault)?;
     }
     Ok(marks)
 }
@@ -47,7 +46,7 @@ fn blank(alloc: Global, size: usize) -> Result<Vec<Mark>, NoMemory>
     ensures { IfOk result (λ marks. marks.items ≡ Mark.Has [] ∷ replicate (size - 1) Mark.Unreached) }
 {
     let mut marks = Vec::with_capacity(alloc, size)?;
-    marks.push(Mark::Has(Shape::new(alloc)))?;
+    marks.push(Mark::Has(Shape::new()))?;
     for _ in 1..size {
         marks.push(Mark::Unreached)?;
     }
@@ -56,44 +55,29 @@ fn blank(alloc: Global, size: usize) -> Result<Vec<Mark>, NoMemory>
 
 /// Looks at a place, and lets the shape behind it flow on.
 fn look(
-    alloc: Global,
     callable: &Callable,
     handler: &Handler,
     marks: &mut Vec<Mark>,
     place: usize,
-) -> Result<(), Failure<VerifyFault>>
+) -> Result<(), VerifyFault>
     requires size { length marks.old.items ≡ length handler.now.code }
     requires within { place < length handler.now.code }
     ensures marked { IsMarked callable.now handler.now place marks.old.items → MatchResult result
         (λ _. IsMarked callable.now handler.now (place + 1) marks.new.items)
-        (λ failure. IsFailure callable.now handler.now failure) }
+        (λ fault. IsFault callable.now handler.now fault) }
     ensures size { length marks.new.items ≡ length handler.now.code }
 {
     let instr = handler.code()[place];
-    let checked = match &marks[place] {
-        Mark::Unreached => return Ok(()),
-        Mark::Differs => return Err(Failure::Fault(VerifyFault::Wrong(
-            Defect::ShapesDiffer,
-            place,
-        ))),
-        Mark::Has(shape) => check_instr(alloc, callable, handler, place, shape, instr),
-    };
-    match checked {
-        Ok(after) => {
-            flow_from(alloc, marks, exits_at(instr, place), after)?;
-            Ok(())
-        }
-        Err(failure) => Err(failure_at(place, failure)),
-    }
-}
-
-/// Why a check gave nothing, at its place.
-fn failure_at(place: usize, failure: Failure<Defect>) -> Failure<VerifyFault>
-    ensures { result ≡ failure_at place failure }
-{
-    match failure {
-        Failure::NoMemory => Failure::NoMemory,
-        Failure::Fault(defect) => Failure::Fault(VerifyFault::Wrong(defect, place)),
+    match marks[place] {
+        Mark::Unreached => Ok(()),
+        Mark::Differs => Err(VerifyFault::Wrong(Defect::ShapesDiffer, place)),
+        Mark::Has(before) => match check_instr(callable, handler, place, before, instr) {
+            Ok(after) => {
+                flow_from(marks, exits_at(instr, place), after);
+                Ok(())
+            }
+            Err(defect) => Err(VerifyFault::Wrong(defect, place)),
+        },
     }
 }
 
@@ -106,49 +90,28 @@ pub(crate) fn exits_at(instr: Instr, place: usize) -> Exits
 }
 
 /// A shape flows to all exits.
-fn flow_from(
-    alloc: Global,
-    marks: &mut Vec<Mark>,
-    exits: Exits,
-    after: Shape,
-) -> Result<(), NoMemory>
+fn flow_from(marks: &mut Vec<Mark>, exits: Exits, after: Shape)
     requires { AreWithin exits (length marks.old.items) }
-    ensures flows { OnOk result (FlowsFrom exits marks.old.items after marks.new.items) }
+    ensures flows { FlowsFrom exits marks.old.items after marks.new.items }
     ensures size { length marks.new.items ≡ length marks.old.items }
 {
     match exits {
         Exits::Stop => {}
         Exits::One(next) => flow_to(marks, next, after),
         Exits::Two(next, target) => {
-            let copy = after.copied(alloc)?;
-            flow_to(marks, next, copy);
+            flow_to(marks, next, after);
             flow_to(marks, target, after);
         }
     }
-    Ok(())
 }
 
-/// A shape flows to a place. Most places are reached once.
+/// A shape flows to a place.
 fn flow_to(marks: &mut Vec<Mark>, to: usize, after: Shape)
     requires { to < length marks.old.items }
     ensures flows { FlowsTo marks.old.items to after marks.new.items }
     ensures size { length marks.new.items ≡ length marks.old.items }
 {
-    if let Mark::Unreached = &marks[to] {
-        marks[to] = Mark::Has(after);
-    } else {
-        meet_at(marks, to, after);
-    }
-}
-
-/// A shape meets what came to a place.
-fn meet_at(marks: &mut Vec<Mark>, to: usize, after: Shape)
-    requires { to < length marks.old.items }
-    ensures flows { FlowsTo marks.old.items to after marks.new.items }
-    ensures size { length marks.new.items ≡ length marks.old.items }
-{
-    let mark = mem::replace(&mut marks[to], Mark::Unreached);
-    marks[to] = meet(mark, after);
+    marks[to] = meet(marks[to], after);
 }
 
 /// A mark, where one more shape comes.
@@ -157,13 +120,7 @@ fn meet(mark: Mark, after: Shape) -> Mark
 {
     match mark {
         Mark::Unreached => Mark::Has(after),
-        Mark::Has(before) => {
-            if before.is_same(&after) {
-                Mark::Has(before)
-            } else {
-                Mark::Differs
-            }
-        }
-        Mark::Differs => Mark::Differs,
+        Mark::Has(before) if before.is_same(after) => mark,
+        _ => Mark::Differs,
     }
 }

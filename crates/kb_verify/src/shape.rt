@@ -1,94 +1,141 @@
 //! Shapes: the kinds of the operands at a place.
-ghost use Rattle.std.specs.Prelude.{◌≡◌, ◌≤◌, ◌∷◌, ◌↔◌, [], length, reverse, take, drop};
-ghost use Rattle.std.specs.Prelude.{IfOk, OnOk, MatchOption, IsTrue};
+ghost use Rattle.std.specs.Prelude.{◌≡◌, ◌≤◌, ◌∷◌, ◌↔◌, [], length, MatchOption, IsTrue};
+ghost use Rattle.kb_verify.specs.Check.{fitting};
+ghost use Rattle.kb_verify.specs.Packed.{low_bit, high_bit, kind_of};
 
-use kb_context::NoMemory;
+use crate::fault::Defect;
 use kb_core::Kind;
-use smallvec::SmallVec;
-use std::alloc::Global;
 use std::marker::Model;
 
-/// How many kinds stand in the shape itself. Most shapes are no larger, so that a copy takes no memory.
-const INLINE: usize = 8;
+/// How many operands may stand.
+const OPERAND_LIMIT: u8 = 64;
 
-/// The kinds of the operands at a place. Contracts see them from the top.
-#[derive(Debug, Drop)]
+/// The kinds of the operands at a place, at most 64. A kind has a bit in each of two words, so that a shape
+/// is copied and compared as numbers are. Contracts see the kinds from the top.
+#[derive(Clone, Copy, Debug)]
 pub(crate) struct Shape {
-    kinds: SmallVec<Kind, INLINE, Global>,
+    height: u8,
+    low: u64,
+    high: u64,
 }
 
 impl Model for Shape {
-    ghost use Rattle.std.specs.Prelude.{List, reverse};
+    ghost use Rattle.std.specs.Prelude.{◌≤◌, ◌<◌, ◌^◌, List, length};
     ghost use Rattle.kb_core.specs.declared.arg.Kind.{Kind};
+    ghost use Rattle.kb_verify.specs.Packed.{kinds_in, low_word, high_word};
+    ghost use Rattle.kb_verify.specs.Packed.{counted, low_back, high_back};
 
     ghost Value = { List Kind };
 
-    ghost view = { λ s. reverse s.kinds.items };
+    ghost view = { λ s. kinds_in s.height s.low s.high };
+
+    ghost invariant = { λ s. (s.height ≤ 64) × (s.low < 2 ^ s.height) × (s.high < 2 ^ s.height) };
+
+    ghost inverse = { λ ks. record { height = length ks; low = low_word ks; high = high_word ks } };
+
+    ghost inverse_ok = { λ s h i. record {
+      height = counted s.height s.low s.high i;
+      low = low_back s.height s.low s.high h.1 i;
+      high = high_back s.height s.low s.high h.2 i;
+    } };
 }
 
 impl Shape {
-    /// No operand. It takes no memory.
-    pub(crate) fn new(alloc: Global) -> Shape
+    /// No operand.
+    pub(crate) fn new() -> Shape
         ensures { result ≡ [] }
     {
         Shape {
-            kinds: SmallVec::new(alloc),
+            height: 0,
+            low: 0,
+            high: 0,
         }
     }
 
     /// How many operands there are.
-    pub(crate) fn len(&self) -> usize
-        ensures { result ≡ length self.now }
+    pub(crate) fn len(self) -> usize
+        ensures len { result ≡ length self }
+        ensures fits { length self ≤ 64 }
     {
-        self.kinds.len()
+        usize::from(self.height)
     }
 
-    /// A copy.
-    pub(crate) fn copied(&self, alloc: Global) -> Result<Shape, NoMemory>
-        ensures { IfOk result (λ made. made ≡ self.now) }
+    /// These operands: no more stand than may.
+    pub(crate) fn fitted(self) -> Result<Shape, Defect>
+        ensures { result ≡ fitting self }
     {
+        Ok(self)
+    }
+
+    /// One more on top, if it may stand.
+    pub(crate) fn with(self, kind: Kind) -> Result<Shape, Defect>
+        ensures { result ≡ fitting (kind ∷ self) }
+    {
+        if self.height >= OPERAND_LIMIT {
+            return Err(Defect::TooHigh);
+        }
         Ok(Shape {
-            kinds: SmallVec::from_slice(alloc, self.kinds.as_slice())?,
+            height: self.height + 1,
+            low: 2 * self.low + low_bit(kind),
+            high: 2 * self.high + high_bit(kind),
         })
     }
 
-    /// Puts a kind on top.
-    pub(crate) fn push(&mut self, kind: Kind) -> Result<(), NoMemory>
-        ensures { OnOk result (self.new ≡ kind ∷ self.old) }
+    /// The topmost kind and those below it.
+    pub(crate) fn split(self) -> Option<(Kind, Shape)>
+        ensures { MatchOption result (self ≡ []) (λ parts. self ≡ parts.0 ∷ parts.1) }
     {
-        self.kinds.push(kind)?;
-        Ok(())
-    }
-
-    /// Takes the topmost kind.
-    pub(crate) fn pop(&mut self) -> Option<Kind>
-        ensures { MatchOption result (self.old ≡ []) (λ kind. self.old ≡ kind ∷ self.new) }
-    {
-        self.kinds.pop()
-    }
-
-    /// So many of the topmost kinds, the last on top.
-    pub(crate) fn topmost(&self, count: usize) -> &[Kind]
-        requires { count ≤ length self.now }
-        ensures { result.now ≡ reverse (take count self.now) }
-    {
-        let left = self.kinds.len() - count;
-        &self.kinds.as_slice()[left..]
-    }
-
-    /// Takes so many of the topmost kinds away.
-    pub(crate) fn remove(&mut self, count: usize)
-        requires { count ≤ length self.old }
-        ensures { self.new ≡ drop count self.old }
-    {
-        let left = self.kinds.len() - count;
-        self.kinds.truncate(left);
+        if self.height == 0 {
+            return None;
+        }
+        let below = Shape {
+            height: self.height - 1,
+            low: self.low / 2,
+            high: self.high / 2,
+        };
+        Some((kind_of(self.low % 2, self.high % 2), below))
     }
 
     /// Whether both are the same.
-    pub(crate) fn is_same(&self, other: &Shape) -> bool
-        ensures { IsTrue result ↔ (self.now ≡ other.now) }
+    pub(crate) fn is_same(self, other: Shape) -> bool
+        ensures { IsTrue result ↔ (self ≡ other) }
     {
-        self.kinds.as_slice() == other.kinds.as_slice()
+        if self.height != other.height {
+            return false;
+        }
+        if self.low != other.low {
+            return false;
+        }
+        self.high == other.high
+    }
+}
+
+fn low_bit(kind: Kind) -> u64
+    ensures { result ≡ low_bit kind }
+{
+    match kind {
+        Kind::Text | Kind::Truth => 0,
+        Kind::Number | Kind::Any => 1,
+    }
+}
+
+fn high_bit(kind: Kind) -> u64
+    ensures { result ≡ high_bit kind }
+{
+    match kind {
+        Kind::Text | Kind::Number => 0,
+        Kind::Truth | Kind::Any => 1,
+    }
+}
+
+/// The kind that has these bits.
+fn kind_of(low: u64, high: u64) -> Kind
+    ensures { result ≡ kind_of low high }
+{
+    match (low, high) {
+        (0, 0) => Kind::Text,
+        (_, 0) => Kind::Number,
+        (0, _) => Kind::Truth,
+        _ => Kind::Any,
     }
 }

@@ -1,8 +1,7 @@
 use Rattle.std.proofs.Common.{◌∙◌, inr, sym, subst, arith}
-use Rattle.kb_verify.specs.Faults.{IsFailure}
 use Rattle.kb_verify.specs.Marks.{FlowsFrom}
 use Rattle.kb_verify.proofs.Edges.{at_place}
-use Rattle.kb_verify.proofs.Passes.{skipped, differs_first, failed_first, looked_on, read_as}
+use Rattle.kb_verify.proofs.Passes.{skipped, differs_first, fails_first, looked_on, read_as}
 use Rattle.kb_verify.proofs.forward.look.Goals as goal
 
 pub returns-in-Unreached-clause-marked : goal.returns-in-Unreached-clause-marked
@@ -23,15 +22,14 @@ returns-in-Err-clause-marked c = λ marked.
     let h = c.args.handler.now in
     let has = read_as ms c.args.place c.index.result.now _ (omega (arith, c.requires.size, c.requires.within)) c.index.ensures c.in-Has.is in
     let at = at_place h.code c.code.result.now c.args.place c.code.ensures c.requires.within in
-    subst (IsFailure c.args.callable.now h) (sym c.failure_at.ensures)
-    (failed_first c.args.callable.now h c.args.place ms c.in-Has.shape _ c.in-Err.failure marked c.requires.within has at c.in-Err.ensures)
+    inr (fails_first c.args.callable.now h c.args.place ms c.in-Has.before _ c.in-Err.defect marked has at (sym c.in-Err.ensures))
 
-pub returns-in_ok-flow_from-in-Ok-clause-marked : goal.returns-in_ok-flow_from-in-Ok-clause-marked
-returns-in_ok-flow_from-in-Ok-clause-marked c = λ marked.
+pub returns-in-Ok-clause-marked : goal.returns-in-Ok-clause-marked
+returns-in-Ok-clause-marked c = λ marked.
     let ms = c.args.marks.now.items in
     let ns = c.flow_from.new.marks.items in
     let h = c.args.handler.now in
     let has = read_as ms c.args.place c.index.result.now _ (omega (arith, c.requires.size, c.requires.within)) c.index.ensures c.in-Has.is in
     let at = at_place h.code c.code.result.now c.args.place c.code.ensures c.requires.within in
-    let flows = subst (λ x. FlowsFrom x ms c.in-Ok.after ns) c.exits_at.ensures c.in_ok-flow_from-in-Ok.ensures.flows in
-    looked_on c.args.callable.now h c.args.place ms ns c.in-Has.shape c.in-Ok.after _ marked has at c.in-Ok.ensures (c.flow_from.ensures.size ∙ c.requires.size) flows
+    let flows = subst (λ x. FlowsFrom x ms c.in-Ok.after ns) c.exits_at.ensures c.flow_from.ensures.flows in
+    looked_on c.args.callable.now h c.args.place ms ns c.in-Has.before c.in-Ok.after _ marked has at (sym c.in-Ok.ensures) (c.flow_from.ensures.size ∙ c.requires.size) flows
