@@ -4,12 +4,11 @@ ghost use Rattle.kb_verify.specs.Accepted.{IsAccepted};
 ghost use Rattle.kb_verify.specs.Faults.{IsFailure, IsTrueFault};
 ghost use Rattle.kb_verify.specs.Paths.{IsDearestCost};
 
-use crate::backward::dearest_costs;
 use crate::callable::Callable;
 use crate::fault::VerifyFault;
 use crate::verified::examine;
 use kb_code::Handler;
-use kb_context::{Failure, NoMemory};
+use kb_context::Failure;
 use std::alloc::Global;
 
 /// What a dearest path of a handler costs that is accepted against the commands that it may call, or the
@@ -25,21 +24,7 @@ pub fn dearest_cost(
     ensures fault { IfErr result (IsFailure callable.now handler.now) }
 {
     match examine(alloc, callable, handler) {
-        Ok(_callees) => match cost_of_accepted(alloc, callable, handler) {
-            Ok(cost) => Ok(cost),
-            Err(_) => Err(Failure::NoMemory),
-        },
+        Ok((cost, _)) => Ok(cost),
         Err(failure) => Err(failure),
     }
-}
-
-/// What a dearest path of a handler costs that is accepted.
-fn cost_of_accepted(alloc: Global, callable: &Callable, handler: &Handler) -> Result<u64, NoMemory>
-    requires { IsAccepted callable.now handler.now }
-    ensures { IfOk result (IsDearestCost callable.now handler.now) }
-{
-    let costs = dearest_costs(alloc, callable, handler)?;
-    // No effect at run time: the proof reads from it that no cost was held at the largest number.
-    let _limit = handler.signature().budget();
-    Ok(costs[0])
 }

@@ -2,7 +2,7 @@
 ghost use Rattle.std.specs.Prelude.{◌≡◌, ◌<◌, length, MatchResult, IfOk, IfErr};
 ghost use Rattle.kb_verify.specs.Accepted.{AreCallees, IsAccepted, IsChecked};
 ghost use Rattle.kb_verify.specs.Faults.{IsFailure, IsTrueFault};
-ghost use Rattle.kb_verify.specs.Paths.{IsWithinBudget};
+ghost use Rattle.kb_verify.specs.Paths.{IsDearestCost, IsWithinBudget};
 ghost use Rattle.kb_verify.specs.Shapes.{HasShapes};
 
 use crate::backward::{dearest_costs, dearest_path};
@@ -78,43 +78,47 @@ pub fn verify(
     ensures fault { IfErr result (λ e. IsFailure callable.now handler e.1) }
 {
     match examine(alloc, callable, &handler) {
-        Ok(callees) => Ok(Verified { handler, callees }),
+        Ok((_, callees)) => Ok(Verified { handler, callees }),
         Err(failure) => Err((handler, failure)),
     }
 }
 
-/// The callees of a handler that is accepted.
+/// What a dearest path of a handler costs that is accepted, and its callees.
 pub(crate) fn examine(
     alloc: Global,
     callable: &Callable,
     handler: &Handler,
-) -> Result<Seq<Callee>, Failure<VerifyFault>>
+) -> Result<(u64, Seq<Callee>), Failure<VerifyFault>>
     ensures { MatchResult result
-        (λ callees. IsAccepted callable.now handler.now × AreCallees callable.now handler.now callees)
+        (λ found. IsAccepted callable.now handler.now × IsDearestCost callable.now handler.now found.0
+        × AreCallees callable.now handler.now found.1)
         (λ failure. IsFailure callable.now handler.now failure) }
 {
     if handler.code().is_empty() {
         return Err(Failure::Fault(VerifyFault::Wrong(Defect::FallsOff, 0)));
     }
     let marks = assign(alloc, callable, handler)?;
-    check_budget(alloc, callable, handler)?;
-    shallow_callees(alloc, callable, handler, marks.as_slice())
+    let cost = cost_within_budget(alloc, callable, handler)?;
+    let callees = shallow_callees(alloc, callable, handler, marks.as_slice())?;
+    Ok((cost, callees))
 }
 
-/// Whether each path is within the budget.
-fn check_budget(
+/// What a dearest path costs, where that is within the budget.
+fn cost_within_budget(
     alloc: Global,
     callable: &Callable,
     handler: &Handler,
-) -> Result<(), Failure<VerifyFault>>
+) -> Result<u64, Failure<VerifyFault>>
     requires some_code { 0 < length handler.now.code }
     requires shapes { HasShapes callable.now handler.now }
-    ensures { MatchResult result (λ _. IsWithinBudget callable.now handler.now)
+    ensures { MatchResult result
+        (λ cost. IsWithinBudget callable.now handler.now × IsDearestCost callable.now handler.now cost)
         (λ failure. IsFailure callable.now handler.now failure) }
 {
     let costs = dearest_costs(alloc, callable, handler)?;
-    if costs[0] <= u64::from(handler.signature().budget()) {
-        return Ok(());
+    let cost = costs[0];
+    if cost <= u64::from(handler.signature().budget()) {
+        return Ok(cost);
     }
     let path = dearest_path(alloc, callable, handler, costs.as_slice())?;
     Err(Failure::Fault(VerifyFault::OverBudget(path)))
