@@ -45,11 +45,8 @@ fn blank(alloc: Global, size: usize) -> Result<Vec<Mark>, NoMemory>
     requires { 0 < size }
     ensures { IfOk result (λ marks. marks.items ≡ Mark.Has [] ∷ replicate (size - 1) Mark.Unreached) }
 {
-    let mut marks = Vec::with_capacity(alloc, size)?;
-    marks.push(Mark::Has(Shape::new()))?;
-    for _ in 1..size {
-        marks.push(Mark::Unreached)?;
-    }
+    let mut marks = vec![in alloc; Mark::Unreached; size]?;
+    marks[0] = Mark::Has(Shape::new());
     Ok(marks)
 }
 

@@ -8,13 +8,14 @@ use kb_core::Kind;
 use std::marker::Model;
 
 /// How many operands may stand.
-const OPERAND_LIMIT: u8 = 64;
+const OPERAND_LIMIT: usize = 64;
 
 /// The kinds of the operands at a place, at most 64. A kind has a bit in each of two words, so that a shape
-/// is copied and compared as numbers are. Contracts see the kinds from the top.
+/// is copied and compared as numbers are (whole words: a byte among them would be copied with what fills it up,
+/// in pieces). Contracts see the kinds from the top.
 #[derive(Clone, Copy, Debug)]
 pub(crate) struct Shape {
-    height: u8,
+    height: usize,
     low: u64,
     high: u64,
 }
@@ -57,7 +58,7 @@ impl Shape {
         ensures len { result ≡ length self }
         ensures fits { length self ≤ 64 }
     {
-        usize::from(self.height)
+        self.height
     }
 
     /// These operands: no more stand than may.

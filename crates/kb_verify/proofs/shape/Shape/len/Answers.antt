@@ -5,4 +5,4 @@ use Rattle.kb_verify.proofs.shape.Shape.len.Goals as goal
 pub returns-clause-len : goal.returns-clause-len
 returns-clause-len c =
     let s = c.self.inside in
-    c.from.ensures ∙ sym (counted s.height s.low s.high) ∙ ap length c.self.view_is
+    sym (counted s.height s.low s.high) ∙ ap length c.self.view_is
