@@ -11,8 +11,8 @@ use std::marker::Model;
 const OPERAND_LIMIT: usize = 64;
 
 /// The kinds of the operands at a place, at most 64. A kind has a bit in each of two words, so that a shape
-/// is copied and compared as numbers are (whole words: a byte among them would be copied with what fills it up,
-/// in pieces). Contracts see the kinds from the top.
+/// is copied and compared as numbers are (a byte among whole words would be copied in pieces, with what
+/// fills it up). Contracts see the kinds from the top.
 #[derive(Clone, Copy, Debug)]
 pub(crate) struct Shape {
     height: usize,
