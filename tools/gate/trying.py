@@ -41,8 +41,8 @@ from gate.source import functions_of, named_in, users_of
 from gate.twins import Proofs, Twin, goals_left, texts_below, with_twins
 
 FLAGS = ["--jobs", "1"]
-# Edits that one check tries: more take no less time, and trouble with one costs all.
-MOST = 30
+# Edits that one check tries. A check takes 10 to 20 seconds of a processor beside its edits, and trouble with one costs all.
+MOST = 80
 # What rt ci says of a crate that it has proved, or that an earlier run on this machine has.
 PROVED = re.compile(r"^rt: (\w+) (?:proved$|is kept: )")
 printing = threading.Lock()

@@ -1,5 +1,5 @@
--- What a handler may call: the native commands, the handlers of the extensions that its own depends on, in load
--- order, and those of its own file. Of equal names the first counts.
+-- What a handler may call: the native commands, the handlers of the extensions that its own depends on, in
+-- load order, and those of its own file. Of equal names the first counts.
 use Rattle.std.specs.Prelude.{ℕ, Bool, List, [], ◌∷◌, if◌then◌else◌}
 use Rattle.std.specs.FinMap as map
 use Rattle.std.specs.List.{list_any}

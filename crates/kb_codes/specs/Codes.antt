@@ -21,7 +21,8 @@ checked verified = record {
 
 -- each handler was accepted against some commands, and has its callees, as those declare them
 abbrev pub EachChecked : List HandlerData → List (List Callee) → Type 0
-EachChecked handlers all = AllZip (λ h callees. IsChecked (record { handler = h; callees = callees })) handlers all
+EachChecked handlers all =
+    AllZip (λ h callees. IsChecked (record { handler = h; callees = callees })) handlers all
 
 -- the same, where callees are kept at all
 abbrev pub CalleesAreChecked : List HandlerData → Option (List (List Callee)) → Type 0

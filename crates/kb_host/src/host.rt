@@ -57,18 +57,10 @@ pub fn run_session<R: Print, C: HostCommand>(
     natives: Vec<C>,
 ) -> Result<(), HostFault> {
     let mut session = Session::load(alloc, inputs, natives)?;
-    let used = use_and_print(rt, &mut session);
-    drop(session);
-    used
-}
-
-/// Uses a session and prints its trace.
-fn use_and_print<R: Print, C: HostCommand>(
-    rt: &R,
-    session: &mut Session<C>,
-) -> Result<(), HostFault> {
-    use_session(session)?;
-    match write_whole(&mut io::writer(rt), session.trace().text_from(0)) {
+    let used = use_session(&mut session);
+    let trace = session.into_trace();
+    used?;
+    match write_whole(&mut io::writer(rt), trace.text_from(0)) {
         Ok(()) => Ok(()),
         Err(_) => Err(HostFault::Write),
     }

@@ -1,6 +1,6 @@
 -- What an extension's handlers may call is live, or one of them, so that none of their callees is missing.
 use Rattle.std.proofs.Common.{◌≡◌, ℕ, Bool, true, false, cond, List, [], ◌∷◌, Option, Some, None, refl, sym, ap, ◌∙◌}
-use Rattle.std.proofs.Common.{subst, map as map_list, if◌then◌else◌}
+use Rattle.std.proofs.Common.{map as map_list, if◌then◌else◌}
 use Rattle.std.specs.Prelude.{slice_get, option_map, option_and_then}
 use Rattle.std.specs.FinMap as map
 use Rattle.std.specs.List.{All}
@@ -20,7 +20,7 @@ use Rattle.kb_core.specs.declared.native.Native.{Native}
 use Rattle.kb_core.specs.declared.native.Native.TheVariants as n
 use Rattle.kb_files.specs.declared.extension_file.Extension.{Extension}
 use Rattle.kb_registry.specs.Live.{Live, callee, callee_by, is_live, where_live}
-use Rattle.kb_registry.specs.Missing.{declares, declared_live, declared_among, is_there, unless_there}
+use Rattle.kb_registry.specs.Missing.{declares, declared_live, is_there, unless_there}
 use Rattle.kb_registry.specs.Missing.{missing_in, missing_from}
 use Rattle.kb_verify.specs.Accepted.{AreDeclared, CheckedHandler}
 use Rattle.kb_verify.specs.Callable.{Commands, with_first}

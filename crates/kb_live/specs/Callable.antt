@@ -1,5 +1,5 @@
--- What the handlers of an extension may call: the live natives, the handlers of the extensions that it depends
--- on, in load order, and those of its own file. Of equal names the first counts.
+-- What the handlers of an extension may call: the live natives, the handlers of the extensions that it
+-- depends on, in load order, and those of its own file. Of equal names the first counts.
 use Rattle.std.specs.Prelude.{ℕ, Bool, List, [], ◌∷◌, Option, Some, None, slice_get, if◌then◌else◌}
 use Rattle.std.specs.FinMap as map
 use Rattle.std.specs.List.{list_any}

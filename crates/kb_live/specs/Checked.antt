@@ -25,8 +25,8 @@ AreVerified extensions number handlers live verified =
     AllVerified (callable_of extensions number handlers live) handlers verified
 
 -- they are verified and live from then on
-pub record Admits (extensions : List Extension) (number : ℕ) (handlers : List HandlerData) (live next : Live) :
-    Type 0 where
+pub record Admits (extensions : List Extension) (number : ℕ) (handlers : List HandlerData)
+    (live next : Live) : Type 0 where
   pub verified : List CheckedHandler
   pub are : AreVerified extensions number handlers live verified
   pub free : code_fault (checked verified) live ≡ None
@@ -70,7 +70,8 @@ pub record Stops (extensions : List Extension) (number : ℕ) (handlers : List H
   pub is : result ≡ Err failure
 
 -- what comes of the handlers of extensions, which are numbered from a number, in load order
-abbrev pub JoinAll : List Extension → ℕ → List (List HandlerData) → Live → Result Live (Failure LoadFault) → Type 0
+abbrev pub JoinAll : List Extension → ℕ → List (List HandlerData) → Live → Result Live (Failure LoadFault)
+    → Type 0
 JoinAll extensions number [] live result = result ≡ Ok live
 JoinAll extensions number (handlers ∷ rest) live result =
     Stops extensions number handlers live result

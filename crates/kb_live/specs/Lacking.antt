@@ -12,4 +12,5 @@ use Rattle.kb_live.specs.Checked.{LiveChecked}
 abbrev pub NeverLacksCallees : Type 0
 NeverLacksCallees =
     (natives : List Native) (extensions : List Extension) (handlers : List (List HandlerData))
-    (fault : LoadFault) → LiveChecked natives extensions handlers (Err (Fault fault)) → fault.refusal.number ≡ 74 → ⊥
+    (fault : LoadFault) → LiveChecked natives extensions handlers (Err (Fault fault))
+    → fault.refusal.number ≡ 74 → ⊥

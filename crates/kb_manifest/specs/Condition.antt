@@ -4,7 +4,7 @@ use Rattle.std.specs.Prelude.{ℕ, List, [], ◌∷◌, Option, Some, None, Resu
 use Rattle.kb_when.specs.Clause.{Clause, never, patterns_of}
 use Rattle.kb_when.specs.ClauseText.{clause_in}
 use Rattle.kb_when.specs.Marks.{MarkedClause}
-use Rattle.kb_when.specs.Pattern.{AreRight}
+use Rattle.kb_pattern.specs.Pattern.{AreRight}
 use Rattle.kb_when.specs.Unread.{unread_of, marked_by}
 use Rattle.kb_when.specs.WhenFault.{number_of}
 use Rattle.kb_when.specs.declared.fault.WhenFault.{WhenFault}

@@ -1,6 +1,6 @@
 -- Why a script over memory didn't run, in a session that was just loaded.
-use Rattle.std.proofs.Common.{◌≡◌, ◌∙◌, refl, sym, ap, subst, Bool, true, false, List, [], ◌∷◌, ℕ}
-use Rattle.std.specs.Prelude.{Option, Some, Result, Ok, Err}
+use Rattle.std.proofs.Common.{◌≡◌, ◌∙◌, sym, ap, subst, true, false, List, [], ◌∷◌, ℕ}
+use Rattle.std.specs.Prelude.{Option, Some, Result, Err}
 use Rattle.kb_context.specs.declared.failure.Failure.{Failure}
 use Rattle.kb_context.specs.declared.failure.Failure.TheVariants.{Fault}
 use Rattle.kb_core.specs.declared.native.Native.{Native}

@@ -51,7 +51,7 @@ pub fn transcript<C: HostCommand>(
     let mut out = Vec::new(alloc);
     let mut reader = script;
     let ran = run_script(alloc, &mut reader, &mut out, &mut session, &mut shelf);
-    drop(session);
+    drop(session.into_trace());
     match ran {
         Ok(()) => Ok(out),
         Err(Failure::NoMemory) => Err(Failure::NoMemory),

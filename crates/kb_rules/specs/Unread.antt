@@ -2,7 +2,7 @@
 use Rattle.std.specs.Prelude.{◌==◌, ℕ, List, [], Option, None, Some, map, filter, option_map}
 use Rattle.kb_when.specs.Clause.{Clause, patterns_of}
 use Rattle.kb_when.specs.Marks.{MarkedClause}
-use Rattle.kb_when.specs.Pattern.{AreRight}
+use Rattle.kb_pattern.specs.Pattern.{AreRight}
 use Rattle.kb_when.specs.Unread.{unread_of, marked_by}
 use Rattle.kb_when.specs.declared.unread.UnreadPattern.{UnreadPattern}
 use Rattle.kb_rules.specs.declared.entry.Entry.{Entry}

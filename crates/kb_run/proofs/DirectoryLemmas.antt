@@ -1,5 +1,5 @@
 -- What was had of the files in extensions' directories.
-use Rattle.std.proofs.Common.{◌≡◌, ◌<◌, ◌≤◌, ◌+◌, ◌++◌, ◌∙◌, List, [], ◌∷◌, ℕ, drop, length, map, get_or, sym, ap, subst, inr, append-nil, append_assoc}
+use Rattle.std.proofs.Common.{◌<◌, ◌≤◌, ◌+◌, ◌++◌, ◌∙◌, List, [], ◌∷◌, ℕ, drop, length, map, get_or, sym, ap, subst, inr, append-nil, append_assoc}
 use Rattle.std.proofs.lemmas.List.{drop_more, drop_all, map-append}
 use Rattle.std.specs.Borrow.{Bor}
 use Rattle.std.specs.Prelude.{Option, Some, None, Ok, option_map}

@@ -118,7 +118,7 @@ fn run_loaded<'a, S: Read + Drop, I: Read, O: Write + Drop, C: Console + Drop, H
         Ok(mut session) => {
             say_warnings(&session, voice);
             let end = play_any(alloc, script, input, trace, &mut session, &mut shelf);
-            drop(session);
+            drop(session.into_trace());
             end
         }
         Err(failure) => Err(Stop::from(failure)),

@@ -42,7 +42,6 @@ use Rattle.kb_trace.specs.declared.event.Event.{Event}
 use Rattle.kb_trace.specs.declared.event.Event.TheVariants as event
 use Rattle.kb_vm.specs.Meaning as answer
 use Rattle.kb_vm.specs.Meaning.{Answer, first_world, run, run_callee, start_callee}
-use Rattle.kb_vm.specs.declared.trap.Trap.{Trap}
 use Rattle.kb_vm.specs.declared.trap.Trap.TheVariants.{WrongArgument}
 
 -- ---- starts

@@ -1,13 +1,13 @@
 -- In a session that is loaded each live handler is verified.
-use Rattle.std.proofs.Common.{◌≡◌, refl, sym, ap, subst, List, [], ◌∷◌, ℕ, suc, ◌+◌, map, inl, inr, arith}
-use Rattle.std.specs.Prelude.{Option, Some, None, Result, Ok, Err, MatchResult, IfOk}
+use Rattle.std.proofs.Common.{◌≡◌, sym, subst, List, [], ◌∷◌, ℕ, suc, ◌+◌, map, inl, inr, arith}
+use Rattle.std.specs.Prelude.{Option, Some, None, Result, Ok, Err, IfOk}
 use Rattle.std.specs.List.{All}
 use Rattle.kb_bindings.specs.Fault.{refused_by}
 use Rattle.kb_bindings.specs.Load.{Files}
 use Rattle.kb_bindings.specs.declared.fault.LoadFault.{LoadFault}
 use Rattle.kb_bindings.specs.declared.fault.LoadFile.TheVariants as file
 use Rattle.kb_code.specs.Handler.{HandlerData}
-use Rattle.kb_codes.specs.Codes.{AreChecked, EachChecked, checked}
+use Rattle.kb_codes.specs.Codes.{EachChecked, checked}
 use Rattle.kb_context.specs.Refusal.{numbered}
 use Rattle.kb_context.specs.declared.failure.Failure.{Failure}
 use Rattle.kb_core.specs.declared.native.Native.{Native}

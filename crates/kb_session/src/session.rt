@@ -178,6 +178,15 @@ impl<C: HostCommand> Session<C> {
         })
     }
 
+    /// Ends the session: its trace stays, and all else that it has is dropped, its closures among it. It
+    /// takes no memory.
+    pub fn into_trace(self) -> Lines
+        ensures { result ≡ self.trace }
+    {
+        let Session { trace, .. } = self;
+        trace
+    }
+
     /// All lines that the session has written, the first first. It takes no memory.
     pub fn trace(&self) -> &Lines
         ensures { result.now ≡ self.now.trace }

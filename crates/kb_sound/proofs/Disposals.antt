@@ -10,7 +10,7 @@ use Rattle.kb_code.specs.Handler.{HandlerData}
 use Rattle.kb_code.specs.Reachable.{Calls}
 use Rattle.kb_code.proofs.ReachableLemmas.{all_called}
 use Rattle.kb_codes.specs.Callee.{Callee, Plain}
-use Rattle.kb_codes.specs.Live.{handlers_in, handler_named, same_native, is_it, calls_native, caller_of}
+use Rattle.kb_codes.specs.Live.{handlers_in, same_native, is_it, calls_native, caller_of}
 use Rattle.kb_codes.specs.Live as codes
 use Rattle.kb_registry.specs.declared.fault.RegistryFault.TheVariants.{InUse}
 use Rattle.kb_registry.specs.Live.{Live, Registered, natives_of, holder, holder_in, without, disposed}

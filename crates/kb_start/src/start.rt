@@ -138,7 +138,8 @@ fn run_handler<C: HostCommand>(
 
 /// Adds the lines of a start that ended, on the core that it left.
 fn note_end(ended: &Ended<'_>, core: &Core, trace: &mut Lines) -> Result<Finish, NoMemory>
-    requires { (first : Core) × (answer : Answer) × Ends first answer (outcome core.now ended.now) ended.now.finish }
+    requires { (first : Core) × (answer : Answer)
+        × Ends first answer (outcome core.now ended.now) ended.now.finish }
     ensures ok { (first : Core) → (answer : Answer)
         → Ends first answer (outcome core.now ended.now) ended.now.finish
         → IfOk result (λ finish. started core.now trace.new finish ≡ behind trace.old (ran answer)) }

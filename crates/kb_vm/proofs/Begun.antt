@@ -1,7 +1,7 @@
 -- A handler whose first instruction is there, or isn't.
 use Rattle.std.proofs.Common.{◌≡◌, ◌∙◌, ℕ, zero, suc, true, List, [], ◌∷◌, ◌++◌, Option, Some, None, sym, ap, subst}
 use Rattle.std.proofs.Common.{true≢false}
-use Rattle.std.specs.Prelude.{slice_get, is_ok, Result, Ok, Err}
+use Rattle.std.specs.Prelude.{slice_get, is_ok, Err}
 use Rattle.kb_core.specs.declared.arg.Arg.{Arg}
 use Rattle.kb_code.specs.declared.instr.Instr.{Instr}
 use Rattle.kb_code.specs.Handler.{HandlerData}

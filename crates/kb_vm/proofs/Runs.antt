@@ -1,7 +1,7 @@
 -- A frame that runs on, instruction by instruction.
-use Rattle.std.proofs.Common.{◌≡◌, ◌<◌, ◌≤◌, ℕ, zero, suc, ◌+◌, ◌-◌, Bool, List, [], ◌∷◌, ◌++◌, Option, Some, None}
+use Rattle.std.proofs.Common.{◌≡◌, ◌<◌, ◌≤◌, ℕ, zero, suc, ◌+◌, ◌-◌, Bool, List, [], ◌∷◌, Option, Some, None}
 use Rattle.std.proofs.Common.{true≢false, refl, sym, ap, subst, ◌∙◌, arith, if◌then◌else◌}
-use Rattle.std.specs.Prelude.{slice_get, Result, Ok, Err, is_ok, length}
+use Rattle.std.specs.Prelude.{slice_get, Result, Ok, Err, is_ok}
 use Rattle.std.proofs.lemmas.Bool.{lt-ltb, le-ltb}
 use Rattle.std.proofs.lemmas.List.{length-append}
 use Rattle.kb_core.specs.declared.arg.Arg.{Arg}
@@ -16,7 +16,7 @@ use Rattle.kb_vm.specs.declared.trap.Trap.{Trap}
 use Rattle.kb_vm.specs.declared.trap.Trap.TheVariants.{BadCode}
 use Rattle.kb_vm.specs.Action.{MayLackMemory}
 use Rattle.kb_vm.specs.Effect.{Effect, Stop, Leave, Next, Goto, effect}
-use Rattle.kb_vm.specs.Meaning.{Step, World, Answer, Done, Stuck, fetched, follow, run, with_step}
+use Rattle.kb_vm.specs.Meaning.{Step, World, Answer, Stuck, fetched, follow, run, with_step}
 use Rattle.kb_vm.specs.Outcome.{Precedes, world_of}
 use Rattle.kb_vm.specs.State.{Begun, Pauses, fetched_at}
 use Rattle.kb_vm.proofs.Bound.{run_step}

@@ -1,35 +1,29 @@
 -- One turn of the machine.
-use Rattle.std.proofs.Common.{◌≡◌, ◌<◌, ◌≤◌, ℕ, zero, suc, ◌+◌, ◌-◌, Bool, List, [], ◌∷◌, ◌++◌, Option, Some, None}
-use mathlib.Core.Bool.{true≢false}
+use Rattle.std.proofs.Common.{◌≡◌, ◌<◌, ◌≤◌, ℕ, ◌+◌, ◌-◌, Bool, List, [], ◌∷◌, ◌++◌, Some, None}
 use Rattle.std.proofs.Common.{sym, ap, ◌∙◌, arith, if◌then◌else◌}
-use Rattle.std.specs.Prelude.{slice_get}
 use Rattle.std.proofs.lemmas.Bool.{le-leb, lt-leb, lt-ltb, le-ltb}
 use Rattle.kb_core.specs.declared.arg.Arg.{Arg}
 use Rattle.kb_core.specs.declared.run.Core.{Core}
-use Rattle.kb_code.specs.declared.instr.Instr.{Instr}
 use Rattle.kb_vm.specs.declared.machine.Machine.{Machine}
 use Rattle.kb_vm.specs.declared.machine.Turn.{Turn}
 use Rattle.kb_vm.specs.declared.machine.Turn.TheVariants as turn
 use Rattle.kb_vm.specs.declared.trap.Trap.TheVariants.{OutOfBudget, BadCode}
 use Rattle.kb_vm.specs.CallLine.{call_line}
 use Rattle.kb_codes.specs.Callee.{Callee, Plain, Coded, Table, declared_by}
-use Rattle.kb_vm.specs.Effect.{Effect, Enter, Goto, effect}
-use Rattle.kb_vm.specs.Meaning.{World, with_step, with_line, Answer, Done, Stuck, and_then, fetched, run_callee, follow, run}
-use Rattle.kb_vm.specs.Meaning.{native_called, first_world, Step}
+use Rattle.kb_vm.specs.Effect.{Enter, Goto}
+use Rattle.kb_vm.specs.Meaning.{World, with_line, Answer, Done, Stuck, and_then, run_callee, run}
+use Rattle.kb_vm.specs.Meaning.{native_called, first_world}
 use Rattle.kb_vm.specs.Outcome.{Shows}
 use Rattle.kb_vm.specs.State.{finish, rest, rest_of, TurnedFrom, Pays, PaysFrom, credit, Begins, Begun}
 use Rattle.kb_vm.specs.Action.{IsCallable}
 use Rattle.kb_vm.specs.declared.machine.Frame.{Frame}
-use Rattle.kb_vm.specs.declared.trap.Trap.{Trap}
 use Rattle.kb_code.specs.Handler.{HandlerData}
 use Rattle.kb_core.specs.declared.native.Native.{Native}
 use Rattle.kb_core.specs.Core.{core_after}
 use Rattle.kb_core.specs.Native.{budget_of}
-use Rattle.std.specs.Prelude.{sum_by, Result, Ok, Err, is_ok}
+use Rattle.std.specs.Prelude.{sum_by}
 use Rattle.std.proofs.lemmas.List.Sums.{sum_by-append}
-use Rattle.std.proofs.lemmas.List.{length-append}
 use Rattle.kb_vm.specs.Leave.{Keeps, Left}
-use Rattle.kb_vm.proofs.Bound.{run_step}
 use Rattle.kb_vm.proofs.Frames.{finish_stuck}
 
 -- a jump, by whether it leads to a later place

@@ -14,7 +14,7 @@ use Rattle.kb_when.specs.Number.{number_of}
 use Rattle.kb_when.specs.Words.{the_true, the_false, the_in, the_not, is_reserved, is_equal, is_unequal}
 use Rattle.kb_when.specs.Clause.{Clause, Clauses, no_clauses, clause, always, never, key, equals, compare}
 use Rattle.kb_when.specs.Clause.{matches, member, not_of}
-use Rattle.kb_when.specs.Pattern.{flags_of}
+use Rattle.kb_pattern.specs.Pattern.{flags_of}
 use Rattle.kb_when.specs.Grammar.{Disjuncts, Conjuncts, Operand, KeyTail, alone, equal_word, equal_quoted}
 use Rattle.kb_when.specs.Grammar.{unequal_word, unequal_quoted, compared, matched, among, not_among}
 use Rattle.kb_when.specs.Grammar.{last_or, more_or, last_and, more_and, negated, enclosed, truth, falsity}

@@ -3,7 +3,6 @@ pub mod DescentLemmas
 pub mod GrammarLemmas
 pub mod MarkedLemmas
 pub mod NumberLemmas
-pub mod PatternLemmas
 pub mod SameLemmas
 pub mod TokenizerLemmas
 pub mod UnreadLemmas

@@ -7,13 +7,13 @@ use Rattle.std.proofs.lemmas.List.{map-append}
 use Rattle.kb_context.specs.Scopes.{Keys}
 use Rattle.kb_when.specs.Clause as tree
 use Rattle.kb_when.specs.Clause.{patterns_of, all_patterns}
-use Rattle.kb_when.specs.declared.flags.Flags.{Flags}
+use Rattle.kb_pattern.specs.declared.flags.Flags.{Flags}
 use Rattle.kb_when.specs.declared.tree.Tree.{Tree}
 use Rattle.kb_when.specs.declared.tree.Tree.TheFolds.{fold-roll-Tree}
 use Rattle.kb_when.specs.declared.tree.Tree.TheOpen.{Tree-F}
 use Rattle.kb_when.specs.declared.tree.Tree.TheVariants.{And, Or, rolls-And, rolls-Or}
 use Rattle.kb_when.specs.Tree.{marked_step, marked_of, markeds_of, clause_of, clauses_of}
-use Rattle.kb_when.specs.Pattern.{MarkedPattern}
+use Rattle.kb_pattern.specs.Pattern.{MarkedPattern}
 use Rattle.kb_when.specs.Marked.{Marked, always, never, key, equals, compare, matches, member, not_of, all_of}
 use Rattle.kb_when.specs.Marked.{any_of, Markeds, no_clauses, clause, tree_of, trees_of, patterns_in}
 use Rattle.kb_when.specs.Marked.{all_patterns_in, marks_of, all_marks, HasPattern}

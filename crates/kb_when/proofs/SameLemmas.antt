@@ -13,8 +13,8 @@ use Rattle.kb_when.specs.declared.operator.Operator.TheVariants.{Below, AtMost, 
 use Rattle.kb_when.specs.Operator.{operator_eq}
 use Rattle.kb_when.specs.Clause.{Clause, always, never, key, equals, compare, matches, member, not_of}
 use Rattle.kb_when.specs.Clause.{all_of, any_of, Clauses, no_clauses, clause}
-use Rattle.kb_when.specs.Pattern.{same_truth, same_flags}
-use Rattle.kb_when.specs.declared.flags.Flags.{Flags}
+use Rattle.kb_pattern.specs.Pattern.{same_truth, same_flags}
+use Rattle.kb_pattern.specs.declared.flags.Flags.{Flags}
 use Rattle.kb_when.specs.Tree.{clauses_of}
 use Rattle.kb_when.specs.Same.{same, same_all, is_always, is_never, is_key, is_equals, is_compare}
 use Rattle.kb_when.specs.Same.{is_matches, is_member}

@@ -5,13 +5,13 @@ use Rattle.std.proofs.lemmas.Bool.Decides.{nat_tests}
 use Rattle.std.proofs.Common.{arith, refl, sym, ◌∙◌, ap, subst, append_assoc, append-nil, add-one}
 use Rattle.std.proofs.lemmas.List.{length-append}
 use Rattle.std.specs.List.{list_any}
-use Rattle.kb_when.specs.Pattern.{MarkedPattern, AreRight}
+use Rattle.kb_pattern.specs.Pattern.{MarkedPattern, AreRight}
 use Rattle.kb_when.specs.Clause.{patterns_of}
 use Rattle.kb_when.specs.Marked.{Marked, tree_of, marks_of, patterns_in, all_patterns_in}
 use Rattle.kb_when.specs.Tree.{marked_of, markeds_of}
 use Rattle.kb_when.specs.declared.tree.Tree.{Tree}
 use Rattle.kb_when.specs.Marks.{MarkedClause, beside}
-use Rattle.kb_when.specs.declared.flags.Flags.{Flags}
+use Rattle.kb_pattern.specs.declared.flags.Flags.{Flags}
 use Rattle.kb_when.specs.declared.unread.Noted.{Noted}
 use Rattle.kb_when.specs.declared.unread.UnreadPattern.{UnreadPattern}
 use Rattle.kb_when.specs.Unread.{unread_from, unread_of, marks_from, marked_by, IsKept, note, note_all}

@@ -1,6 +1,6 @@
 -- The tree of a clause, as contracts see a clause.
 use Rattle.std.specs.Prelude.{ℕ, ℤ, List, [], ◌∷◌, ◌++◌}
-use Rattle.kb_when.specs.declared.flags.Flags.{Flags}
+use Rattle.kb_pattern.specs.declared.flags.Flags.{Flags}
 use Rattle.kb_when.specs.declared.operator.Operator.{Operator}
 
 mutual

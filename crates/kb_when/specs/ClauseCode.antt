@@ -7,7 +7,7 @@ use Rattle.kb_when.specs.declared.operator.Operator.{Operator}
 use Rattle.kb_when.specs.declared.operator.Operator.TheVariants.{Below, AtMost, Above, AtLeast}
 use Rattle.kb_when.specs.Clause.{Clause, always, never, key, equals, compare, matches, member, not_of}
 use Rattle.kb_when.specs.Clause.{all_of, any_of, Clauses, no_clauses, clause}
-use Rattle.kb_when.specs.declared.flags.Flags.{Flags}
+use Rattle.kb_pattern.specs.declared.flags.Flags.{Flags}
 
 abbrev head : Gv → Gv
 head gnil = gnil

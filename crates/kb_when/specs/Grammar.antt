@@ -7,7 +7,7 @@ use Rattle.kb_when.specs.declared.token.Token.TheVariants.{Comparison, Like, Wor
 use Rattle.kb_when.specs.Number.{number_of}
 use Rattle.kb_when.specs.Clause.{Clause, always, never, key, equals, compare, matches, member, not_of}
 use Rattle.kb_when.specs.Clause.{all_of, any_of, Clauses, no_clauses, clause}
-use Rattle.kb_when.specs.Pattern.{flags_of}
+use Rattle.kb_pattern.specs.Pattern.{flags_of}
 use Rattle.kb_when.specs.Words.{the_true, the_false, the_in, the_not, is_reserved, is_equal, is_unequal}
 
 -- one clause is itself, and several are joined; the grammar gives at least one

@@ -8,7 +8,6 @@ pub mod Marks
 pub mod Number
 pub mod Operator
 pub mod Parser
-pub mod Pattern
 pub mod Reading
 pub mod Same
 pub mod Tokenizer

@@ -4,7 +4,7 @@ use Rattle.std.specs.Prelude.{ℕ, ℤ, List, [], ◌∷◌, ◌++◌, map, Bool
 use Rattle.std.specs.FinMap.{get}
 use Rattle.kb_context.specs.Scopes.{Keys}
 use Rattle.kb_when.specs.declared.operator.Operator.{Operator}
-use Rattle.kb_when.specs.Pattern.{MarkedPattern}
+use Rattle.kb_pattern.specs.Pattern.{MarkedPattern}
 use Rattle.kb_when.specs.Clause as tree
 use Rattle.kb_when.specs.Clause.{Clause, Clauses}
 use Rattle.kb_when.specs.Value.{key_holds, equals_holds, compare_holds, match_holds, member_holds}

@@ -13,7 +13,7 @@ use Rattle.kb_context.specs.declared.failure.Failure.{Failure}
 use Rattle.kb_context.specs.Failure.{Fails}
 use Rattle.kb_when.specs.Clause.{Clause, always, never, key, equals, compare, matches, member, not_of}
 use Rattle.kb_when.specs.Clause.{Clauses, no_clauses}
-use Rattle.kb_when.specs.Pattern.{flags_of}
+use Rattle.kb_pattern.specs.Pattern.{flags_of}
 use Rattle.kb_when.specs.Grammar.{any_joined, all_joined}
 use Rattle.kb_when.specs.Reading.{State, at_operand, behind_operand, Opened, bang, paren, Built, append}
 use Rattle.kb_when.specs.Reading.{snoc}

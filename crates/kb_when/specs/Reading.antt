@@ -13,7 +13,7 @@ use Rattle.kb_when.specs.declared.fault.WhenFault.TheVariants.{Unexpected, TooDe
 use Rattle.kb_when.specs.Number.{number_of}
 use Rattle.kb_when.specs.Clause.{Clause, always, never, key, equals, compare, matches, member, not_of}
 use Rattle.kb_when.specs.Clause.{Clauses, no_clauses, clause}
-use Rattle.kb_when.specs.Pattern.{flags_of}
+use Rattle.kb_pattern.specs.Pattern.{flags_of}
 use Rattle.kb_when.specs.Words.{the_true, the_false, the_in, the_not, is_reserved, is_equal, is_unequal}
 use Rattle.kb_when.specs.Grammar.{any_joined, all_joined}
 

@@ -6,8 +6,8 @@ use Rattle.kb_when.specs.declared.operator.Operator.{Operator}
 use Rattle.kb_when.specs.Operator.{operator_eq}
 use Rattle.kb_when.specs.Clause.{Clause, always, never, key, equals, compare, matches, member, not_of}
 use Rattle.kb_when.specs.Clause.{all_of, any_of, Clauses, no_clauses, clause}
-use Rattle.kb_when.specs.Pattern.{same_flags}
-use Rattle.kb_when.specs.declared.flags.Flags.{Flags}
+use Rattle.kb_pattern.specs.Pattern.{same_flags}
+use Rattle.kb_pattern.specs.declared.flags.Flags.{Flags}
 
 abbrev pub is_always : Clause → Bool
 is_always always = true

@@ -1,13 +1,13 @@
 -- Which patterns of a clause aren't read, and the marks that say so.
 use Rattle.std.specs.Prelude.{◌≡◌, ℕ, zero, suc, List, [], ◌∷◌, ◌++◌, Bool, length, nat_eq, if◌then◌else◌}
 use Rattle.std.specs.List.{list_any}
-use Rattle.kb_when.specs.declared.flags.Flags.{Flags}
+use Rattle.kb_pattern.specs.declared.flags.Flags.{Flags}
 use Rattle.kb_when.specs.declared.unread.UnreadPattern.{UnreadPattern}
 use Rattle.kb_when.specs.declared.unread.Noted.{Noted}
 use Rattle.kb_when.specs.Clause.{Clause, patterns_of}
 use Rattle.kb_when.specs.Marked.{Marked, tree_of, marks_of}
 use Rattle.kb_when.specs.Marks.{MarkedClause, beside}
-use Rattle.kb_when.specs.Pattern.{MarkedPattern, IsRight, AreRight}
+use Rattle.kb_pattern.specs.Pattern.{MarkedPattern, AreRight, HasRightMark}
 
 -- the marked ones of these patterns, numbered from n on
 abbrev pub unread_from : ℕ → List (List ℕ × Flags) → List Bool → List UnreadPattern
@@ -37,9 +37,6 @@ pub record IsKept (m : Marked) (kept : List UnreadPattern) : Type 0 where
   pub right : AreRight (patterns_of (tree_of m)) (marks_of m)
 
 -- ---- how they are found
-
-abbrev pub HasRightMark : MarkedPattern → Type 0
-HasRightMark p = IsRight (p.text, p.flags) p.unread
 
 abbrev pub HaveRightMarks : List MarkedPattern → Type 0
 HaveRightMarks [] = Unit {0}

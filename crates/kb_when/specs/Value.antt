@@ -14,7 +14,7 @@ use Rattle.kb_when.specs.declared.operator.Operator.{Operator}
 use Rattle.kb_when.specs.Operator.{compared}
 use Rattle.kb_when.specs.Clause.{Clause, always, never, key, equals, compare, matches, member, not_of}
 use Rattle.kb_when.specs.Clause.{all_of, any_of, Clauses, no_clauses, clause, patterns_of}
-use Rattle.kb_when.specs.Pattern.{MarkedPattern, pattern_holds}
+use Rattle.kb_pattern.specs.Pattern.{MarkedPattern, pattern_holds}
 
 abbrev pub is_zero : ℤ → Bool
 is_zero (pos n) = nat_eq n 0

@@ -7,14 +7,13 @@ ghost use Rattle.kb_when.specs.Reading.{behind_key, behind_not, at_value, at_oth
 ghost use Rattle.kb_when.specs.Parser.{clause_of_atom, clause_of_condition, ReadsAtom, FailsAt};
 
 use crate::fault::WhenFault;
-use crate::flags::Flags;
 use crate::number::read_number;
 use crate::operator::Operator;
-use crate::pattern::Pattern;
 use crate::token::Token;
 use crate::tree::Tree;
 use crate::words::{is_reserved, is_word};
 use kb_context::{NoMemory, Text};
+use kb_pattern::{Flags, Pattern};
 use std::alloc::Global;
 
 /// An atom, whose words the tokens own.

@@ -43,7 +43,7 @@ impl Clause {
     ghost use Rattle.kb_when.specs.ClauseText.{StandsFor, clause_in, ReadsByGrammar};
     ghost use Rattle.kb_when.specs.Value.{value};
     ghost use Rattle.kb_when.specs.Clause.{never, patterns_of};
-    ghost use Rattle.kb_when.specs.Pattern.{AreRight};
+    ghost use Rattle.kb_pattern.specs.Pattern.{AreRight};
     ghost use Rattle.kb_when.specs.Unread.{unread_of, marked_by};
 
     /// The clause of a text.

@@ -5,11 +5,9 @@ mod atom;
 mod characters;
 pub mod clause;
 pub mod fault;
-pub mod flags;
 mod number;
 mod operator;
 mod parser;
-mod pattern;
 mod piece;
 pub mod shared;
 mod token;
@@ -21,6 +19,5 @@ mod words;
 
 pub use clause::Clause;
 pub use fault::WhenFault;
-pub use flags::Flags;
 pub use shared::SharedClause;
 pub use unread::UnreadPattern;

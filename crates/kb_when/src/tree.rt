@@ -5,8 +5,8 @@ ghost use Rattle.kb_when.specs.Same.{same_all};
 ghost use Rattle.kb_when.specs.Tree.{clause_of, clauses_of};
 
 use crate::operator::Operator;
-use crate::pattern::Pattern;
 use kb_context::Text;
+use kb_pattern::Pattern;
 
 /// A clause as the program holds it. Parentheses leave no node of their own.
 #[derive(Debug, Drop)]

@@ -3,9 +3,9 @@ ghost use Rattle.std.specs.Prelude.{◌≡◌, [], map, OnOk, IfOk};
 ghost use Rattle.kb_when.specs.Tree.{marked_of};
 ghost use Rattle.kb_when.specs.Unread.{IsKept};
 
-use crate::pattern::Pattern;
 use crate::tree::Tree;
 use kb_context::{NoMemory, Seq, Text};
+use kb_pattern::Pattern;
 use std::alloc::Global;
 
 /// A pattern of a clause that `regex` doesn't read. What it stands for never holds (our decision).
@@ -25,7 +25,8 @@ pub(crate) struct Noted {
 }
 
 impl Noted {
-    ghost use Rattle.kb_when.specs.Unread.{note, HasRightMark};
+    ghost use Rattle.kb_when.specs.Unread.{note};
+    ghost use Rattle.kb_pattern.specs.Pattern.{HasRightMark};
 
     /// No pattern so far.
     fn new(alloc: Global) -> Noted

@@ -6,10 +6,10 @@ ghost use Rattle.kb_when.specs.Value.{key_holds, equals_holds, compare_holds, ma
 
 use crate::number::{is_spelling, read_number};
 use crate::operator::Operator;
-use crate::pattern::Pattern;
 use crate::tree::Tree;
 use itoa::Buffer;
 use kb_context::{ContextValue, NoMemory, Scopes, Seq, Text};
+use kb_pattern::Pattern;
 use std::alloc::Global;
 
 /// Whether a key alone holds.

@@ -1,7 +1,5 @@
 use Rattle.std.proofs.Common.{◌≡◌, ◌∙◌, ◌-◌, ap, sym, rules, subst, arith, ◌<◌}
-use Rattle.std.specs.Prelude.{slice_get, Ok, Err}
-use Rattle.kb_vm.specs.Action.{Does}
-use Rattle.kb_vm.specs.Effect.{effect}
+use Rattle.std.specs.Prelude.{slice_get}
 use Rattle.kb_vm.specs.State.{fetched_at}
 use Rattle.kb_vm.proofs.Runs.{Far, stops, calls, goes_next, goes_to, goes_back, traps, leaves, lacks}
 use Rattle.kb_vm.proofs.machine.run_on.Goals as goal

@@ -1,6 +1,6 @@
-use Rattle.std.proofs.Common.{◌≡◌, ◌<◌, ◌≤◌, ◌+◌, ◌-◌, ◌∙◌, ap, sym, subst, arith}
+use Rattle.std.proofs.Common.{◌<◌, ◌+◌, ◌-◌, ◌∙◌, ap, sym, subst, arith}
 use Rattle.kb_vm.specs.Meaning.{run}
-use Rattle.kb_vm.specs.State.{PausedFrom, IsPaid, TurnedFrom, called_by, finish, rest_of}
+use Rattle.kb_vm.specs.State.{PausedFrom, IsPaid, TurnedFrom, finish}
 use Rattle.kb_vm.specs.declared.machine.Machine.{Machine}
 use Rattle.kb_vm.proofs.Frames.{finish_keeps, finish_stuck}
 use Rattle.kb_vm.proofs.Turns.{left_pays, left_turned, paid_on, paused_shows}

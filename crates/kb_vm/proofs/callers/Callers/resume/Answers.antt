@@ -1,4 +1,4 @@
-use Rattle.std.proofs.Common.{◌≡◌, ◌∙◌, sym, map, subst}
+use Rattle.std.proofs.Common.{◌∙◌, sym, map, subst}
 use Rattle.std.specs.List.{All}
 use Rattle.kb_vm.specs.Operand.{arg_of}
 use Rattle.kb_vm.specs.Waiting.{IsSmall}

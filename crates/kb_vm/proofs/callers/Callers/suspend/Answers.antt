@@ -1,9 +1,9 @@
-use Rattle.std.proofs.Common.{◌≡◌, ◌∙◌, ◌++◌, ◌∷◌, [], ap, sym, length, map, arith}
+use Rattle.std.proofs.Common.{◌∙◌, ◌++◌, ◌∷◌, [], ap, sym, length, map, arith}
 use Rattle.std.specs.Prelude.{reverse}
 use Rattle.std.proofs.lemmas.List.{length-map}
 use Rattle.std.proofs.lemmas.List.Elements.{All-push, All-same}
 use Rattle.kb_vm.specs.Operand.{arg_of}
-use Rattle.kb_vm.specs.Waiting.{IsSmall, widths}
+use Rattle.kb_vm.specs.Waiting.{IsSmall}
 use Rattle.kb_vm.proofs.Waiting.{suspended, suspended_size}
 use Rattle.kb_vm.specs.declared.callers.Waiting.{Waiting}
 use Rattle.kb_vm.proofs.callers.Callers.suspend.Goals as goal

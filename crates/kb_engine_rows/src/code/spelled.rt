@@ -1,0 +1,60 @@
+//! Handlers made at random as a file says them, so that a row can be made of one.
+use crate::code::names::{CALLS, TEXTS};
+use crate::code::random::Draft;
+use kb_code::encode;
+use kb_context::NoMemory;
+use kb_core::Kind;
+use std::alloc::Global;
+
+fn word_of(kind: Kind) -> &'static str {
+    match kind {
+        Kind::Text => "text",
+        Kind::Number => "number",
+        Kind::Truth => "truth",
+        Kind::Any => "any",
+    }
+}
+
+fn add_params(text: &mut String, params: &[Kind]) -> Result<(), NoMemory> {
+    for nth in 0..params.len() {
+        let comma = if nth == 0 { "" } else { "," };
+        let kind = word_of(params[nth]);
+        write!(text, "{comma}{{\"name\":\"p{nth}\",\"kind\":\"{kind}\"}}")?;
+    }
+    Ok(())
+}
+
+fn add_names(text: &mut String, names: &[&str]) -> Result<(), NoMemory> {
+    for nth in 0..names.len() {
+        let comma = if nth == 0 { "" } else { "," };
+        let name = names[nth];
+        write!(text, "{comma}\"{name}\"")?;
+    }
+    Ok(())
+}
+
+/// The handler of a name and a budget that is made of a draft, as an object of a file.
+pub(crate) fn object(
+    alloc: Global,
+    name: &str,
+    draft: &Draft,
+    budget: u64,
+) -> Result<String, NoMemory> {
+    let depth = draft.depth;
+    let code = encode(alloc, draft.code.as_slice())?;
+    let code = hex::encode(alloc, code.as_slice())?;
+    let code = code.as_str();
+    let mut text = format!(in alloc; "{{\"command\":\"{name}\",\"params\":[")?;
+    add_params(&mut text, draft.params.as_slice())?;
+    write!(text, "],\"budget\":{budget},\"depth\":{depth},\"texts\":[")?;
+    add_names(&mut text, TEXTS.as_slice())?;
+    text.push_str("],\"calls\":[")?;
+    add_names(&mut text, CALLS.as_slice())?;
+    write!(text, "],\"code\":\"{code}\"}}")?;
+    Ok(text)
+}
+
+/// A file of these objects.
+pub(crate) fn file(alloc: Global, objects: &str) -> Result<String, NoMemory> {
+    format!(in alloc; "{{\"version\":1,\"handlers\":[{objects}]}}")
+}
