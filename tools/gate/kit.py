@@ -67,13 +67,16 @@ def built_libraries(crates):
 
 @contextlib.contextmanager
 def room_with(crate, texts):
-    """A copy of the crate's own texts, in a folder of its own, with these in place of its own or beside them."""
+    """A copy of the crate's own texts, in a folder of its own, with these in place of its own or beside them, and without those that are `None`."""
     with tempfile.TemporaryDirectory(prefix="wrong-bodies-") as folder:
         for part in rt.rtlib.PARTS:
             if os.path.isdir(os.path.join(crate.folder, part)):
                 shutil.copytree(os.path.join(crate.folder, part), os.path.join(folder, part))
         for path, text in texts.items():
             file = os.path.join(folder, path)
+            if text is None:
+                os.remove(file)
+                continue
             os.makedirs(os.path.dirname(file), exist_ok=True)
             with open(file, "w", encoding="utf-8") as own:
                 own.write(text)

@@ -12,7 +12,7 @@ from gate.edits import edits_of
 from gate.said import Said
 from gate.source import functions_of
 from gate.trying import PROVED, Crate, trouble_in, try_as_proved
-from gate.twins import Proofs, Twin, goals_left
+from gate.twins import Proofs
 
 SOURCE = """\
 //! A crate on which wrong bodies are tried.
@@ -175,18 +175,6 @@ class Reading(unittest.TestCase):
     def test_a_line_that_nobody_knows_judges_nothing(self):
         self.assertTrue(trouble(said("fn tiny::a::other: could not tell"), "a::callee"))
         self.assertTrue(said("fn tiny::a::callee: could not tell").found["a::callee"].unread)
-
-    def test_a_start_leaves_its_holes_alone(self):
-        written = "use A.{b}\n\n-- src/a.rt:1:1\npub holds : goal.holds\nholds g c = search\n\npub returns : goal.returns\nreturns g c = ?\n"
-        twin = Twin(types.SimpleNamespace(unit="a::callee"), "callee_wrong_1")
-        with tempfile.TemporaryDirectory() as top:
-            self.assertEqual(goals_left(twin, set(), top), [])
-            write(f"{top}/proofs/a/callee_wrong_1/Answers.antt", written)
-            self.assertEqual(goals_left(twin, set(), top), ["returns"])
-            # (without invariants of its own a start asks for them, and its goals rest on what isn't there)
-            write(f"{top}/proofs/a/callee_wrong_1/Invariants.antt", "")
-            self.assertEqual(goals_left(twin, set(), top), [])
-            self.assertEqual(goals_left(twin, {"proofs/a/callee_wrong_1/Invariants.antt"}, top), ["returns"])
 
     def test_closures_and_rings_are_one_with_their_functions(self):
         found = said("fn tiny::a::fn::callee::all+FnMut::call_mut: no proof: `search` did not prove `returns`")

@@ -16,9 +16,10 @@ such a check may tell of an edit is held to this, so that no edit passes for ref
   waits for what failed is tried again, in a batch without anything in place that it reaches.
 - Where a goal of a function fails that no edit changes, or a lemma, the batch isn't judged: some edit reaches past its
   function. Its halves are tried, down to single edits.
-- Where nobody had to answer a goal, the proof is only started: rattle writes a hole for each goal that its search leaves open,
-  and a hole refuses the edit. A start takes what is called by its contract and proves nothing, so it takes a third of a
-  check's time, and callers stand beside callees. What has no hole is tried by a check.
+- A check would prove what an edited function calls, too. So all edits are first tried over stand-ins, as
+  tools/gate/stand_ins.py says: a check in which what they call is taken by its contract alone, so that callers stand beside
+  callees. A goal of the very twin or function that fails there refuses its edit. What has none is tried over the functions
+  themselves.
 - What isn't refused so is tried alone, by a whole check over the kept work and then from nothing, and judged as rt
   judges a must-fail edit.
 - The functions themselves must be proved, or nothing that was tried counts: rt ci has just said so of the crate, or they
@@ -38,7 +39,8 @@ from gate.edits import edits_of, sources_of, with_edits
 from gate.kit import built_libraries, check, room_with, rt
 from gate.said import Said
 from gate.source import functions_of, named_in, users_of
-from gate.twins import Proofs, Twin, goals_left, texts_below, with_twins
+from gate.stand_ins import proofs_of_stand_ins, stand_ins_of, with_stand_ins
+from gate.twins import Proofs, Twin, with_twins
 
 FLAGS = ["--jobs", "1"]
 # Edits that one check tries. A check takes 10 to 20 seconds of a processor beside its edits, and trouble with one costs all.
@@ -148,7 +150,7 @@ class Crate:
             if edit.fault:
                 self.judged(Tried(edit, False, f"can't be applied: {edit.fault}"))
         self.pending = [it for it in self.edits if not it.fault and self.trial_of(it)]
-        self.start_all()
+        self.try_all_over_stand_ins()
         while self.pending:
             self.try_batch(self.next_batch())
         for edit in self.edits:
@@ -184,19 +186,12 @@ class Crate:
             words = [word for it in names for word in ("--only", it)]
             return check(self.crate, room.folder, [*FLAGS, *words], self.kept), functions_of(room)
 
-    def started(self, texts, targets):
-        """Starts the proofs of these functions in a copy of the crate with these files, and returns which goals each leaves open, too."""
-        with room_with(self.crate, texts) as room:
-            before = {f"proofs/{path}" for path in texts_below(f"{room.folder}/proofs")}
-            words = [word for it in targets for word in ("--start", it.plain_name())]
-            ran = check(self.crate, room.folder, [*FLAGS, *words], self.kept)
-            return ran, functions_of(room), {it: goals_left(it, before, room.folder) for it in targets}
-
-    def texts_of(self, batch, controls):
-        """The sources with a batch's edits and twins in them, and the twins' files of proofs."""
+    def texts_of(self, batch, controls, stand_ins=()):
+        """The sources with a batch's edits and twins and these stand-ins in them, and the files of their proofs."""
         twins = [*controls, *(it.twin for it in batch if it.twin)]
         sources = with_edits([it.edit for it in batch if not it.twin], self.sources)
-        texts = {path: "\n".join(lines) for path, lines in with_twins(twins, sources).items()}
+        texts = {path: "\n".join(lines) for path, lines in with_twins(twins, with_stand_ins(stand_ins, sources), sources).items()}
+        texts |= proofs_of_stand_ins(stand_ins, self.proofs, self.crate)
         return texts | {path: text for it in twins for path, text in self.proofs.of_twin(it).items()}
 
     def judged(self, tried):
@@ -223,39 +218,46 @@ class Crate:
         needed = [it for it in self.functions if it in twins and self.proofs.of(it)]
         return [Twin(it, f"{it.name}_wrong_0") for it in needed if self.has_controls]
 
-    def start_all(self):
-        """Starts the proofs of all that stands changed, and takes the edits that are refused so from what is left."""
-        left = [it for it in map(self.trial_of, self.pending) if all(map(self.proofs.can_start, it.functions))]
+    def try_all_over_stand_ins(self):
+        """Tries all edits over stand-ins for what they call, and takes those that are refused so from what is left."""
+        left = [self.trial_of(it) for it in self.pending]
         while left:
             batch = []
             for it in left:
                 if len(batch) < MOST and all(map(it.is_beside, batch)):
                     batch.append(it)
             left = [it for it in left if it not in batch]
-            self.start_batch(batch)
+            self.try_over_stand_ins(batch)
 
-    def start_batch(self, batch):
-        """Tries edits by one start."""
+    def try_over_stand_ins(self, batch):
+        """Tries edits by one check of what has them alone."""
         self.batches += 1
         number, begun = self.batches, time.time()
-        controls = self.controls_of(batch)
-        texts = self.texts_of(batch, controls)
-        ran, functions, left = self.started(texts, [*controls, *(target for it in batch for target in it.targets)])
+        controls, stand_ins = self.controls_of(batch), self.stand_ins_beside(batch)
+        texts = self.texts_of(batch, controls, stand_ins)
+        ran, functions = self.checked(texts, [it.plain_name() for it in controls] + [name for it in batch for name in it.plain_names()])
         said = Said(ran.stdout, self.crate, functions)
-        trouble = start_trouble_in(ran, said)
+        trouble = trouble_in(ran, said, {it.unit for it in [*controls, *stand_ins]} | {unit for it in batch for unit in it.units})
         took = f"took {time.time() - begun:.0f} s{trouble and f', not judged: {trouble}'}"
-        self.say(f"{self.crate.name}: start {number} of {len(batch)} edits {took}")
+        self.say(f"{self.crate.name}: batch {number} of {len(batch)} edits over stand-ins {took}")
         if trouble:
             return
-        unlike = {it.function for it in controls if left[it] or said.found[it.unit].is_broken}
+        unlike = {it.function for it in controls if said.found[it.unit].is_broken or said.found[it.unit].unread}
         for it in batch:
-            if unlike & {*it.functions} or any(said.found[unit].is_broken for unit in it.units):
-                continue
-            opened = [goal for target in it.targets for goal in left[target]]
-            if opened:
-                self.pending.remove(it.edit)
-                where = it.functions[0].unit if it.twin else " or ".join(sorted(it.units))
-                self.judged(Tried(it.edit, True, f"refused by start {number}: `{opened[0]}` of {where}", number))
+            if not unlike & {*it.functions}:
+                self.judge_by_goals(it, said, number)
+
+    def stand_ins_beside(self, batch):
+        """The functions that stand-ins have the place of, beside a batch."""
+        changed = {unit for it in batch for unit in it.changed}
+        return [it for it in stand_ins_of(self.functions, self.proofs) if it.unit not in changed]
+
+    def judge_by_goals(self, trial, said, number):
+        """Takes an edit from what is left where a goal of what has it fails."""
+        refusing = refusing_in(trial, said)
+        if refusing:
+            self.pending.remove(trial.edit)
+            self.judged(refused_at(trial, *refusing[0], number))
 
     def try_batch(self, batch):
         """Tries edits by one check, and takes what needs no other batch from what is left."""
@@ -300,22 +302,19 @@ class Crate:
             self.with_twins.discard(control.function)
 
     def judge(self, trial, said, number, batch):
-        edit, verdicts = trial.edit, [(unit, said.found[unit]) for unit in sorted(trial.units)]
+        edit = trial.edit
         is_disturbed = any(it is not trial and trial.rests_on(it, self.calls) for it in batch)
         if is_disturbed or trial.twin and edit.function not in self.with_twins:
             return
-        refusing = [(unit, it) for unit, it in verdicts if unit in said.named and it.goals and not it.unread and not it.is_proved]
+        refusing = refusing_in(trial, said)
         lacks_control = self.has_controls and trial.twin and self.proofs.of(edit.function) and edit.function not in self.controlled
-        waits = any(it.waits for _, it in verdicts)
+        waits = any(said.found[unit].waits for unit in trial.units)
         if (lacks_control or waits and not refusing) and edit not in self.waited:
             self.waited.add(edit)
             return
         self.pending.remove(edit)
         if refusing and not lacks_control:
-            unit, verdict = refusing[0]
-            less = " (a proof file also names what the edit took away)" if verdict.lacks_names else ""
-            where = edit.function.unit if trial.twin else unit
-            self.judged(Tried(edit, True, f"refused in batch {number}: `{verdict.goals[0]}` of {where}{less}", number))
+            self.judged(refused_at(trial, *refusing[0], number))
 
     def try_alone(self, edit):
         """Judges an edit as rt does a must-fail edit: over the kept work, and from nothing where it isn't refused."""
@@ -334,18 +333,22 @@ class Crate:
         self.judged(Tried(edit, refused, f"{text} ({time.time() - begun:.0f} s)", says_little=says_little))
 
 
+def refusing_in(trial, said):
+    """What has the edit and has a goal of its own that failed in a check, with what the check says of it."""
+    found = [(unit, said.found[unit]) for unit in sorted(trial.units) if unit in said.named]
+    return [(unit, it) for unit, it in found if it.goals and not it.unread and not it.is_proved]
+
+
+def refused_at(trial, unit, verdict, number):
+    """An edit that a batch refuses at a goal."""
+    less = " (a proof file also names what the edit took away)" if verdict.lacks_names else ""
+    where = trial.edit.function.unit if trial.twin else unit
+    return Tried(trial.edit, True, f"refused in batch {number}: `{verdict.goals[0]}` of {where}{less}", number)
+
+
 def is_refusal(verdict):
-    """Whether rt's verdict on an edit, one of its words, says that it was refused, as rt ci counts it."""
-    return verdict in (rt.REFUSED, rt.AT_LIMIT)
-
-
-def start_trouble_in(ran, said):
-    """Why a start of edits tells nothing of them, or an empty text."""
-    if rt.rtlib.STALE.search(ran.stdout):
-        return "the kept work of a library could not be used"
-    if not said.lines[-1].startswith("started="):
-        return f"it did not reach the prover: {next(iter(said.lines), '')[:120]}"
-    return next((f"the prover cannot read an edited text: {it[:120]}" for it in said.lines if rt.unread(it, ())), "")
+    """Whether rt's verdict on an edit, one of its words or in some kits a yes or no, says that it was refused, as rt ci counts it."""
+    return verdict in [getattr(rt, word, True) for word in ("REFUSED", "AT_LIMIT")]
 
 
 def trouble_in(ran, said, changed):

@@ -13,10 +13,6 @@ import os
 import re
 
 
-# A goal that a start left open.
-LEFT = re.compile(r"(?m)^([^\s:]+)(?: [\w-]+)* = \?$")
-
-
 @dataclasses.dataclass(eq=False)
 class Twin:
     """A copy of a function: under which name, and with which edit, or without one."""
@@ -71,10 +67,6 @@ class Proofs:
         """The files of a function's proof."""
         return {path: text for path, text in self.texts.items() if path.startswith(f"{folder_of(function)}/")}
 
-    def can_start(self, function):
-        """Whether nobody wrote a part of the function's proof, but for the invariants of its loops."""
-        return all(path.endswith("/Invariants.antt") for path in self.of(function)) and not self.calls_itself(function)
-
     def calls_itself(self, function):
         """Whether the function's proof is that of a cycle that it is alone in."""
         parts = folder_of(function).rpartition("/")
@@ -96,18 +88,10 @@ class Proofs:
         return {f"{own}{at[len(start):]}": path.sub(named, text) for at, text in self.of(twin.function).items()}
 
 
-def goals_left(target, before, folder):
-    """The goals for which a start left a hole in a function's or twin's answers, or none where it wrote another file than those before."""
-    own, found = folder_of(target), texts_below(os.path.join(folder, folder_of(target)))
-    if any(path != "Answers.antt" and f"{own}/{path}" not in before for path in found):
-        return []
-    return LEFT.findall(found.get("Answers.antt", ""))
-
-
-def with_twins(twins, texts):
-    """Sources, as lists of lines, with these twins behind their functions."""
+def with_twins(twins, texts, own):
+    """Sources, as lists of lines, with these twins behind their functions, whose own text stands in the sources `own` at the same lines."""
     changed = {path: [*lines] for path, lines in texts.items()}
     for it in sorted(twins, key=lambda it: -it.function.closes):
         at = it.function.closes
-        changed[it.function.file][at:at] = it.lines(texts)
+        changed[it.function.file][at:at] = it.lines(own)
     return changed

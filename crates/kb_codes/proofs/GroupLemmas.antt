@@ -1,12 +1,15 @@
 -- Lemmas on handlers and their links, place by place.
-use Rattle.std.proofs.Common.{◌≡◌, ◌∙◌, ℕ, zero, suc, ◌+◌, ◌<◌, Bool, true, false, cond, List, [], ◌∷◌, ◌++◌, Some, refl}
-use Rattle.std.proofs.Common.{sym, ap, drop, find, length, get_or, arith, take, subst}
+use Rattle.std.proofs.Common.{◌≡◌, ◌∙◌, ℕ, zero, suc, ◌+◌, ◌<◌, Bool, true, false, cond, List, [], ◌∷◌, ◌++◌, Some, None, refl}
+use Rattle.std.proofs.Common.{sym, ap, drop, find, length, map, get_or, arith, take, subst}
 use Rattle.std.proofs.Math.Seq.{take-suc}
+use Rattle.std.proofs.lemmas.List.{length-map, get_or-map}
 use Rattle.std.specs.List.{AllZip, list_any}
 use Rattle.kb_core.specs.declared.native.Native.{Native}
+use Rattle.kb_core.specs.Native.{named}
 use Rattle.kb_code.specs.Handler.{HandlerData}
 use Rattle.kb_codes.specs.declared.links.Links.{Links}
-use Rattle.kb_codes.specs.Links.{AreLinks}
+use Rattle.kb_codes.specs.declared.target.Target.{Target}
+use Rattle.kb_codes.specs.Links.{AreLinks, natives_in}
 use Rattle.kb_codes.specs.Live.{calls_native, natives_of, same_native}
 
 -- there are as many links as handlers
@@ -27,9 +30,9 @@ its_links (k ∷ ls) (x ∷ hs) (suc place) l h zip below = its_links ls hs plac
 
 pub its_natives : (links : List Links) (hs : List HandlerData) (place : ℕ) (l : Links) (h : HandlerData)
     → AllZip AreLinks links hs → place < length hs → l ≡ get_or links place l → h ≡ get_or hs place h
-    → l.natives ≡ natives_of h
+    → natives_in l.targets ≡ natives_of h
 its_natives links hs place l h zip below at its =
-    ap (λ (l : Links). l.natives) at ∙ (its_links links hs place l h zip below).natives ∙ sym (ap natives_of its)
+    ap (λ (l : Links). natives_in l.targets) at ∙ (its_links links hs place l h zip below).natives ∙ sym (ap natives_of its)
 
 module _ (native : Native) where
   abbrev called : Links → Bool
@@ -87,3 +90,15 @@ one_more links new hs place l h zip below its own pushed =
     ap (λ n. take n hs) next ∙ take-suc hs place h below ∙ ap (λ h. take place hs ++ h ∷ []) (sym its) in
     subst (λ ls. AllZip AreLinks ls (take (place + 1) hs)) (sym pushed)
     (subst (λ hs. AllZip AreLinks (links ++ l ∷ []) hs) (sym grown) (zip_more links (take place hs) l h zip own))
+
+-- what a name is the name of, by the native of the target at its place
+pub target_native : (targets : List Target) (names : List (List ℕ)) (place : ℕ) (t : Target) (name : List ℕ)
+    → natives_in targets ≡ map named names → place < length names → name ≡ get_or names place name
+    → (get_or targets place t).native ≡ named name
+target_native targets names place t name same below is =
+    let many : length targets ≡ length names =
+    sym (length-map targets (λ (t : Target). t.native)) ∙ ap length same ∙ length-map names named in
+    sym (get_or-map (λ (t : Target). t.native) targets place t None (subst (λ n. place < n) (sym many) below))
+    ∙ ap (λ natives. get_or natives place None) same
+    ∙ get_or-map named names place name None below
+    ∙ ap named (sym is)

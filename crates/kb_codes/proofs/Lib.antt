@@ -1,4 +1,5 @@
 pub mod CheckedLemmas
 pub mod GroupLemmas
 pub mod Groups
+pub mod Apart
 pub mod Taken

@@ -1,5 +1,5 @@
 -- What is kept of an extension's handlers.
-use Rattle.std.specs.Prelude.{◌≡◌, ℕ, Bool, List, is_some, slice_get}
+use Rattle.std.specs.Prelude.{◌≡◌, ℕ, Bool, List, Some, is_some, slice_get}
 use Rattle.std.specs.List.{AllZip}
 use Rattle.std.specs.Option.{option_and_then}
 use Rattle.kb_code.specs.Handler.{HandlerData}
@@ -18,6 +18,11 @@ FindsFirst names all first =
 pub record IsGroup (names : Names) (links : List Links) (handlers : List HandlerData) : Type 0 where
   pub linked : AllZip AreLinks links handlers
   pub found : FindsFirst names handlers handlers
+
+-- a handler of the name stands at the place
+pub record IsNamedAt (name : List ℕ) (handlers : List HandlerData) (place : ℕ) (h : HandlerData) : Type 0 where
+  pub there : slice_get handlers place ≡ Some h
+  pub its : h.command ≡ name
 
 -- a handler of the name is among these, by the place that is kept for it
 abbrev pub is_kept : Names → List HandlerData → List ℕ → Bool

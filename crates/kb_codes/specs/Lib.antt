@@ -1,6 +1,7 @@
 pub mod Fault
 pub mod Codes
 pub mod Live
+pub mod Apart
 pub mod Links
 pub mod Names
 pub mod Group

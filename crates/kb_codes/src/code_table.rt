@@ -1,6 +1,6 @@
 //! Which handlers are live, by extension and by name.
 ghost use Rattle.std.specs.Prelude.{◌≡◌, ◌≤◌, ◌||◌, ◌++◌, ◌∷◌, [], Some, None, OnOk, OnErr, IfOk};
-ghost use Rattle.std.specs.Prelude.{IfErr, option_copied, is_some, length, take, drop};
+ghost use Rattle.std.specs.Prelude.{IfErr, IfSome, option_copied, is_some, length, take, drop};
 ghost use Rattle.std.specs.List.{AllZip};
 ghost use Rattle.kb_context.specs.Failure.{IsRefusal, IsRefusalOrMemory};
 ghost use Rattle.kb_codes.specs.Group.{IsGroup, FindsFirst, is_kept};
@@ -13,17 +13,18 @@ ghost use Rattle.kb_context.specs.declared.failure.Failure.TheVariants as failur
 use crate::codes::Codes;
 use crate::commands::Linked;
 use crate::fault::CodesFault;
-use crate::group::{Group, links_of};
+use crate::group::{Around, Group, links_of};
 use crate::links::Links;
 use crate::names::Names;
+use crate::target::Spot;
 use kb_code::Handler;
 use kb_context::{Failure, NoMemory, Seq};
 use kb_core::Native;
 use std::alloc::Global;
 use std::marker::Model;
 
-/// The live handlers, by the extension that brought them and by name. Contracts see the groups of the
-/// extensions in load order, each with its code.
+/// The live handlers, by the extension that brought them and by name. No two of them have one name. Contracts
+/// see the groups of the extensions in load order, each with its code.
 #[derive(Drop)]
 pub struct CodeTable {
     alloc: Global,
@@ -32,11 +33,14 @@ pub struct CodeTable {
 
 impl Model for CodeTable {
     ghost use Rattle.std.specs.Prelude.{List};
-    ghost use Rattle.kb_codes.specs.Live.{Group as GroupData};
+    ghost use Rattle.kb_codes.specs.Apart.{AreApart};
+    ghost use Rattle.kb_codes.specs.Live.{Group as GroupData, handlers_in};
 
     ghost Value = { List GroupData };
 
     ghost view = { λ t. t.groups.items };
+
+    ghost invariant = { λ t. AreApart (handlers_in t.groups.items) };
 }
 
 impl CodeTable {
@@ -62,6 +66,28 @@ impl CodeTable {
             }
         }
         None
+    }
+
+    /// The live handler of a name, with what its calls are, lent: the one at a spot, where that has the name, so
+    /// that it isn't looked up, and else whichever has it. It takes no memory.
+    pub fn linked_near(&self, name: &str, spot: Option<Spot>) -> Option<Linked<'_>>
+        ensures { result ≡ handler_named name.now (handlers_in self.now) }
+    {
+        match self.linked_at(name, spot) {
+            Some(linked) => Some(linked),
+            None => self.linked(name),
+        }
+    }
+
+    /// The live handler at a spot, where it has the name.
+    fn linked_at(&self, name: &str, spot: Option<Spot>) -> Option<Linked<'_>>
+        ensures { IfSome result (λ h. handler_named name.now (handlers_in self.now) ≡ Some h) }
+    {
+        let spot = spot?;
+        match self.groups.get(spot.extension as usize) {
+            Some(group) => group.named_at(spot.place, name),
+            None => None,
+        }
     }
 
     /// The live handler of a name, lent. It takes no memory.
@@ -101,7 +127,7 @@ impl CodeTable {
         ensures why { IfErr result (λ e. IsRefusalOrMemory (codes_fault codes.handlers self.now) e.1) }
         ensures back { IfErr result (λ e. e.0 ≡ codes) }
     {
-        match self.resolved(codes.handlers()) {
+        match self.resolved(extension, codes.handlers()) {
             Ok((links, names)) => Ok(Group::new(extension, codes, links, names)),
             Err(Failure::Fault(fault)) => Err((codes, Failure::Fault(fault))),
             Err(Failure::NoMemory) => {
@@ -111,9 +137,11 @@ impl CodeTable {
         }
     }
 
-    /// Makes the code of an extension live. It is handed back where memory is refused; then the table stays
-    /// as it was.
+    /// Makes the code of an extension live, whose names are free. It is handed back where memory is refused;
+    /// then the table stays as it was.
+    #[tactic(auto, using(crate::proofs::Apart::put_stays))]
     pub fn put(&mut self, group: Group) -> Result<(), Codes>
+        requires { codes_fault group.codes.handlers self.old ≡ None }
         ensures ok { OnOk result (self.new ≡ with_group group self.old) }
         ensures back { IfErr result (λ back. back ≡ group.codes) }
         ensures err { OnErr result (self.new ≡ self.old) }
@@ -137,6 +165,7 @@ impl CodeTable {
 
     /// Takes the code of an extension away and gives it back, or `None` where the extension holds no group.
     /// It takes no memory.
+    #[tactic(auto, using(crate::proofs::Apart::without_stays))]
     pub fn dispose(&mut self, extension: u32) -> Option<Codes>
         ensures codes { result ≡ group_of extension self.old }
         ensures table { self.new ≡ without_group extension self.old }
@@ -155,13 +184,22 @@ impl CodeTable {
     }
 
     /// What is resolved once of handlers: their links, and their places by name.
-    fn resolved(&self, handlers: &[Handler]) -> Result<(Seq<Links>, Names), Failure<CodesFault>>
+    fn resolved(
+        &self,
+        extension: u32,
+        handlers: &[Handler],
+    ) -> Result<(Seq<Links>, Names), Failure<CodesFault>>
         ensures ok { IfOk result (λ r. IsGroup r.1 r.0 handlers.now) }
         ensures free { OnOk result (codes_fault handlers.now self.now ≡ None) }
         ensures err { IfErr result (λ failure. IsRefusal (codes_fault handlers.now self.now) failure) }
     {
         let names = self.names_of(handlers)?;
-        let links = links_of(self.alloc, handlers)?;
+        let around = Around {
+            groups: self.groups.as_slice(),
+            extension,
+            names: &names,
+        };
+        let links = links_of(self.alloc, handlers, &around)?;
         Ok((links, names))
     }
 

@@ -5,39 +5,42 @@ ghost use Rattle.kb_core.specs.Ran.{Does};
 ghost use Rattle.kb_codes.specs.Callee.{Callee, IsLive, declared_by};
 ghost use Rattle.kb_codes.specs.Found.{callee_of};
 ghost use Rattle.kb_codes.specs.Live.{natives_of};
+ghost use Rattle.kb_codes.specs.Links.{natives_in};
 
+use crate::target::Target;
 use kb_code::Handler;
 use kb_context::Text;
 use kb_core::{Args, Core, Native, Ran};
 use std::marker::Model;
 
-/// A live handler, lent, with the native that each name in its list of calls is the name of, so that a call
-/// of a native looks no name up. Contracts see the handler.
+/// A live handler, lent, with what each name in its list of calls is the name of, so that a call looks no name
+/// up. Contracts see the handler.
 #[derive(Drop)]
 pub struct Linked<'r> {
     handler: &'r Handler,
-    natives: &'r [Option<Native>],
+    targets: &'r [Target],
 }
 
 impl<'r> Model for Linked<'r> {
     ghost use Rattle.std.specs.Prelude.{◌≡◌};
     ghost use Rattle.kb_code.specs.Handler.{HandlerData};
+    ghost use Rattle.kb_codes.specs.Links.{natives_in};
     ghost use Rattle.kb_codes.specs.Live.{natives_of};
 
     ghost Value = { HandlerData };
 
     ghost view = { λ l. l.handler.now };
 
-    ghost invariant = { λ l. l.natives.now ≡ natives_of l.handler.now };
+    ghost invariant = { λ l. natives_in l.targets.now ≡ natives_of l.handler.now };
 }
 
 impl<'r> Linked<'r> {
-    /// A handler, with the native of each name in its list of calls. It takes no memory.
-    pub fn new(handler: &'r Handler, natives: &'r [Option<Native>]) -> Linked<'r>
-        requires { natives.now ≡ natives_of handler.now }
+    /// A handler, with what each name in its list of calls is the name of. It takes no memory.
+    pub fn new(handler: &'r Handler, targets: &'r [Target]) -> Linked<'r>
+        requires { natives_in targets.now ≡ natives_of handler.now }
         ensures { result ≡ handler.now }
     {
-        Linked { handler, natives }
+        Linked { handler, targets }
     }
 
     /// The handler. It takes no memory.
@@ -47,14 +50,13 @@ impl<'r> Linked<'r> {
         self.handler
     }
 
-    /// The name at an index in the list of calls, and the native of that name, if there is one. It takes no
-    /// memory.
-    pub fn call(&self, index: usize) -> (&'r Text, Option<Native>)
+    /// The name at an index in the list of calls, and what it is the name of. It takes no memory.
+    pub fn call(&self, index: usize) -> (&'r Text, Target)
         requires { index < length self.now.calls }
         ensures name { slice_get self.now.calls index ≡ Some result.0.now }
-        ensures native { result.1 ≡ named result.0.now }
+        ensures native { result.1.native ≡ named result.0.now }
     {
-        (&self.handler.calls()[index], self.natives[index])
+        (&self.handler.calls()[index], self.targets[index])
     }
 }
 
@@ -104,10 +106,9 @@ impl<'r> Found<'r> {
 pub trait Commands {
     ghost live: { Self → List ℕ → Option Callee };
 
-    /// The live command of a name, by the native that the name is the name of, if there is one, or `None`
-    /// where none is live. It takes no memory.
-    fn command(&self, name: &str, native: Option<Native>) -> Option<Found<'_>>
-        requires { native ≡ named name.now }
+    /// The live command of a name, by what it is the name of, or `None` where none is live. It takes no memory.
+    fn command(&self, name: &str, target: Target) -> Option<Found<'_>>
+        requires { target.native ≡ named name.now }
         ensures { option_map callee_of result ≡ live self.now name.now };
 
     /// Runs the closure of a native that is live, with arguments that fit it. It costs at most the native's

@@ -1,7 +1,7 @@
 //! The code of an extension, with what is resolved once of it.
-ghost use Rattle.std.specs.Prelude.{◌≡◌, IfOk, find, length, slice_get, option_copied, option_map};
+ghost use Rattle.std.specs.Prelude.{◌≡◌, IfOk, IfSome, find, length, slice_get, option_copied, option_map};
 ghost use Rattle.std.specs.List.{AllZip};
-ghost use Rattle.kb_codes.specs.Group.{IsGroup};
+ghost use Rattle.kb_codes.specs.Group.{IsGroup, IsNamedAt};
 ghost use Rattle.kb_codes.specs.Links.{AreLinks};
 ghost use Rattle.kb_codes.specs.Live.{handler_named, calls_native};
 
@@ -9,6 +9,7 @@ use crate::codes::Codes;
 use crate::commands::Linked;
 use crate::links::Links;
 use crate::names::Names;
+use crate::target::Spot;
 use kb_code::Handler;
 use kb_context::{NoMemory, Seq};
 use kb_core::{Native, Signature};
@@ -22,6 +23,33 @@ pub struct Group {
     codes: Codes,
     links: Seq<Links>,
     names: Names,
+}
+
+/// The handlers that stand around those of an extension that are to be live: the live ones, and these themselves.
+#[derive(Drop)]
+pub(crate) struct Around<'a> {
+    pub groups: &'a [Group],
+    pub extension: u32,
+    pub names: &'a Names,
+}
+
+impl<'a> Around<'a> {
+    /// Where a handler of the name stands, of the extension's own or of a live one, as a hint on which nothing
+    /// rests. It takes no memory.
+    pub(crate) fn spot(&self, name: &str) -> Option<Spot> {
+        if let Some(place) = self.names.place(name) {
+            return Some(Spot {
+                extension: self.extension,
+                place,
+            });
+        }
+        for group in self.groups {
+            if let Some(spot) = group.spot(name) {
+                return Some(spot);
+            }
+        }
+        None
+    }
 }
 
 impl Model for Group {
@@ -81,6 +109,27 @@ impl Group {
         }
     }
 
+    /// The handler at a place, with its links, where it has the name. It takes no memory.
+    pub(crate) fn named_at(&self, place: usize, name: &str) -> Option<Linked<'_>>
+        ensures { IfSome result (λ h. IsNamedAt name.now self.now.codes.handlers place h) }
+    {
+        match linked_at(self.codes.handlers(), self.links.as_slice(), place) {
+            Some(linked) if linked.handler().command().as_str() == name => Some(linked),
+            _ => None,
+        }
+    }
+
+    /// Where the handler of a name stands. It takes no memory.
+    pub(crate) fn spot(&self, name: &str) -> Option<Spot> {
+        match self.names.place(name) {
+            Some(place) => Some(Spot {
+                extension: self.extension,
+                place,
+            }),
+            None => None,
+        }
+    }
+
     /// What the handler of a name declares. It takes no memory.
     pub fn signature(&self, name: &str) -> Option<&Signature>
         ensures { option_copied result
@@ -121,19 +170,23 @@ fn linked_at<'a>(handlers: &'a [Handler], links: &'a [Links], place: usize) -> O
     ensures { result ≡ slice_get handlers.now place }
 {
     if place < handlers.len() {
-        return Some(Linked::new(&handlers[place], links[place].natives.as_slice()));
+        return Some(Linked::new(&handlers[place], links[place].targets.as_slice()));
     }
     None
 }
 
-/// The links of handlers.
+/// The links of handlers, among those around them.
 #[tactic(auto, using(crate::proofs::GroupLemmas::one_more))]
-pub(crate) fn links_of(alloc: Global, handlers: &[Handler]) -> Result<Seq<Links>, NoMemory>
+pub(crate) fn links_of(
+    alloc: Global,
+    handlers: &[Handler],
+    around: &Around<'_>,
+) -> Result<Seq<Links>, NoMemory>
     ensures { IfOk result (λ links. AllZip AreLinks links handlers.now) }
 {
     let mut links = Vec::with_capacity(alloc, handlers.len())?;
     for handler in handlers {
-        links.push(Links::new(alloc, handler)?)?;
+        links.push(Links::new(alloc, handler, around)?)?;
     }
     Ok(Seq::from_vec(links))
 }

@@ -8,9 +8,11 @@ pub mod fault;
 pub mod group;
 mod links;
 mod names;
+pub mod target;
 
 pub use code_table::CodeTable;
 pub use codes::Codes;
 pub use commands::{Commands, Found, Linked};
 pub use fault::CodesFault;
 pub use group::Group;
+pub use target::{Spot, Target};

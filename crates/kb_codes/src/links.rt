@@ -3,30 +3,36 @@ ghost use Rattle.std.specs.Prelude.{◌≡◌, ◌||◌, None, map, IfOk, OnOk, 
 ghost use Rattle.std.specs.List.{list_any};
 ghost use Rattle.kb_core.specs.Native.{named};
 ghost use Rattle.kb_core.specs.declared.native.Native.{Native};
-ghost use Rattle.kb_codes.specs.Links.{AreLinks};
+ghost use Rattle.kb_codes.specs.Links.{AreLinks, natives_in};
 ghost use Rattle.kb_codes.specs.Live.{same_native, is_it};
 
+use crate::group::Around;
+use crate::target::Target;
 use kb_code::Handler;
 use kb_context::{NoMemory, Seq, Text};
 use kb_core::Native;
 use std::alloc::Global;
 
-/// What the names in a handler's list of calls are among the natives, and which natives are its callees.
+/// What the names in a handler's list of calls are the names of, and which natives are its callees.
 #[derive(Drop)]
 pub(crate) struct Links {
-    pub natives: Seq<Option<Native>>,
+    pub targets: Seq<Target>,
     pub called: Seq<Native>,
 }
 
 impl Links {
-    /// The links of a handler.
-    pub(crate) fn new(alloc: Global, handler: &Handler) -> Result<Links, NoMemory>
+    /// The links of a handler, among those around it.
+    pub(crate) fn new(
+        alloc: Global,
+        handler: &Handler,
+        around: &Around<'_>,
+    ) -> Result<Links, NoMemory>
         ensures { IfOk result (λ links. AreLinks links handler.now) }
     {
-        let natives = natives_named(alloc, handler.calls())?;
+        let targets = targets_named(alloc, handler.calls(), around)?;
         let callees = handler.callees(alloc)?;
-        let called = called_among(alloc, natives.as_slice(), callees.as_slice())?;
-        Ok(Links { natives, called })
+        let called = called_among(alloc, targets.as_slice(), callees.as_slice())?;
+        Ok(Links { targets, called })
     }
 
     /// Whether the native is a callee.
@@ -37,39 +43,52 @@ impl Links {
     }
 }
 
-/// The native of each name, if it is the name of one.
-fn natives_named(alloc: Global, names: &[Text]) -> Result<Seq<Option<Native>>, NoMemory>
-    ensures { IfOk result (λ natives. natives ≡ map named names.now) }
+/// What each name is the name of.
+fn targets_named(
+    alloc: Global,
+    names: &[Text],
+    around: &Around<'_>,
+) -> Result<Seq<Target>, NoMemory>
+    ensures { IfOk result (λ targets. natives_in targets ≡ map named names.now) }
 {
-    let mut natives = Vec::with_capacity(alloc, names.len())?;
+    let mut targets = Vec::with_capacity(alloc, names.len())?;
     for name in names {
-        natives.push(Native::named(name.as_str()))?;
+        targets.push(target_of(name.as_str(), around))?;
     }
-    Ok(Seq::from_vec(natives))
+    Ok(Seq::from_vec(targets))
+}
+
+/// What a name is the name of.
+fn target_of(name: &str, around: &Around<'_>) -> Target
+    ensures { result.native ≡ named name.now }
+{
+    match Native::named(name) {
+        Some(native) => Target::of(Some(native)),
+        None => Target {
+            native: None,
+            spot: around.spot(name),
+        },
+    }
 }
 
 /// The natives at these places, each once.
-fn called_among(
-    alloc: Global,
-    natives: &[Option<Native>],
-    callees: &[u16],
-) -> Result<Seq<Native>, NoMemory>
+fn called_among(alloc: Global, targets: &[Target], callees: &[u16]) -> Result<Seq<Native>, NoMemory>
     ensures { IfOk result (λ called. (native : Native) → list_any (λ n. same_native n native) called
-        ≡ list_any (λ n. is_it native (get_or natives.now n None)) callees.now) }
+        ≡ list_any (λ n. is_it native (get_or (natives_in targets.now) n None)) callees.now) }
 {
     let mut called = Vec::new(alloc);
     for callee in callees {
-        add_called(&mut called, native_at(natives, *callee))?;
+        add_called(&mut called, native_at(targets, *callee))?;
     }
     Ok(Seq::from_vec(called))
 }
 
 /// The native at a place, if there is one.
-fn native_at(natives: &[Option<Native>], place: u16) -> Option<Native>
-    ensures { result ≡ get_or natives.now place None }
+fn native_at(targets: &[Target], place: u16) -> Option<Native>
+    ensures { result ≡ get_or (natives_in targets.now) place None }
 {
-    match natives.get(usize::from(place)) {
-        Some(native) => *native,
+    match targets.get(usize::from(place)) {
+        Some(target) => target.native,
         None => None,
     }
 }

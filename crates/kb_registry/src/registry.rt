@@ -8,7 +8,8 @@ ghost use Rattle.kb_core.specs.Native.{Fits, declaration_of};
 ghost use Rattle.kb_core.specs.Ran.{Does};
 ghost use Rattle.kb_codes.specs.Callee.{declared_by};
 ghost use Rattle.kb_codes.specs.Found.{callee_of};
-ghost use Rattle.kb_codes.specs.Live.{handlers_in, handler_named, caller_of, group_of, same_native};
+ghost use Rattle.kb_codes.specs.Live.{handlers_in, handler_named, caller_of, group_of, codes_fault};
+ghost use Rattle.kb_codes.specs.Live.{same_native};
 ghost use Rattle.kb_registry.specs.Live.{fresh, is_live, live_native, registration_fault, registered};
 ghost use Rattle.kb_registry.specs.Live.{holder, disposed, disposal_fault, callee, callee_by, table_of};
 ghost use Rattle.kb_registry.specs.CodeFault.{callee_fault, code_fault};
@@ -21,7 +22,7 @@ use crate::fault::RegistryFault;
 use crate::missing::Among;
 use indexmap::IndexMap;
 use kb_code::Handler;
-use kb_codes::{CodeTable, Codes, CodesFault, Commands, Found, Group, Linked};
+use kb_codes::{CodeTable, Codes, CodesFault, Commands, Found, Group, Linked, Target};
 use kb_context::{Failure, NoMemory};
 use kb_core::{Args, Core, Native, Ran, Signature};
 use std::alloc::Global;
@@ -389,6 +390,7 @@ impl<C: HostCommand> Registry<C> {
 
     /// Makes code live whose names are free.
     fn admit_code(&mut self, group: Group) -> Result<(), (Codes, Failure<RegistryFault>)>
+        requires { codes_fault group.codes.handlers self.old.code ≡ None }
         ensures allowed { OnOk result (callee_fault (missing_callee group.codes self.old) ≡ None) }
         ensures ok { OnOk result (self.new ≡ with_code group.extension group.codes self.old) }
         ensures why { let fault = callee_fault (missing_callee group.codes self.old) in
@@ -441,16 +443,16 @@ impl<C: HostCommand> Registry<C> {
         }
     }
 
-    /// The live command of an identifier, by the native that it is the identifier of, if there is one.
-    fn found(&self, command: &str, native: Option<Native>) -> Option<Found<'_>>
-        ensures { option_map callee_of result ≡ callee_by native command.now self.now }
+    /// The live command of an identifier, by what it is the identifier of.
+    fn found(&self, command: &str, target: Target) -> Option<Found<'_>>
+        ensures { option_map callee_of result ≡ callee_by target.native command.now self.now }
     {
-        match native {
+        match target.native {
             Some(native) => match self.entry(native) {
                 Some(_) => Some(Found::Plain(native)),
                 None => None,
             },
-            None => match self.code.linked(command) {
+            None => match self.code.linked_near(command, target.spot) {
                 Some(linked) => Some(Found::Coded(linked)),
                 None => None,
             },
@@ -461,8 +463,8 @@ impl<C: HostCommand> Registry<C> {
 impl<C: HostCommand> Commands for Registry<C> {
     ghost live = { λ r. table_of r };
 
-    fn command(&self, name: &str, native: Option<Native>) -> Option<Found<'_>> {
-        self.found(name, native)
+    fn command(&self, name: &str, target: Target) -> Option<Found<'_>> {
+        self.found(name, target)
     }
 
     #[tactic(auto, using(crate::proofs::Lives::live_where_called))]

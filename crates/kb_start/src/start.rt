@@ -13,7 +13,7 @@ ghost use Rattle.kb_start.specs.Start.{started, started_as, behind, ran, start_o
 use crate::held_core::{Ended, HeldCore};
 use crate::run_commands::start_list;
 use kb_code::Handler;
-use kb_codes::{Commands, Found};
+use kb_codes::{Commands, Found, Target};
 use kb_context::NoMemory;
 use kb_core::{Core, Native};
 use kb_registry::{HostCommand, Registry};
@@ -75,7 +75,7 @@ pub(crate) fn start_live<C: HostCommand>(
     if let Some(closure) = registry.live_command(command) {
         return run_native(alloc, command, closure, given, core, trace);
     }
-    match registry.command(command, Native::named(command)) {
+    match registry.command(command, Target::of(Native::named(command))) {
         Some(Found::Coded(handler)) => {
             let handler = handler.handler();
             run_handler(alloc, command, handler, given, registry, core, trace)

@@ -239,8 +239,8 @@ pub(crate) fn call<'r, L: Commands>(
     if usize::from(index) >= handler.handler().calls().len() {
         return Called::Stop(Trap::UnknownCommand);
     }
-    let (name, native) = handler.call(usize::from(index));
-    match commands.command(name.as_str(), native) {
+    let (name, target) = handler.call(usize::from(index));
+    match commands.command(name.as_str(), target) {
         Some(callee) => enter(
             operands,
             handler.handler().signature().depth(),

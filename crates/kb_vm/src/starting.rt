@@ -13,7 +13,7 @@ use crate::arena::Arena;
 use crate::given::{Given, args_fit};
 use crate::machine::{End, Outcome, fetch, run_handler};
 use crate::trap::Trap;
-use kb_codes::{Commands, Found, Linked};
+use kb_codes::{Commands, Found, Linked, Target};
 use kb_core::{Args, Core, Native, Ran};
 use kb_stream::Lines;
 use std::alloc::Global;
@@ -35,7 +35,7 @@ pub fn start<'r, L: Commands>(
     ensures bound { IfSome (L.live commands.now command.now)
         (λ callee. result.spent ≤ (declared_by callee).budget) }
 {
-    match commands.command(command, Native::named(command)) {
+    match commands.command(command, Target::of(Native::named(command))) {
         Some(callee) => start_found(alloc, commands, command, callee, args, core),
         None => unspent(alloc, core, End::NotFound),
     }

@@ -1,6 +1,7 @@
 use Rattle.std.proofs.Common.{◌≡◌, None, take, get_or}
 use Rattle.std.specs.List.{list_any}
 use Rattle.kb_core.specs.declared.native.Native.{Native}
+use Rattle.kb_codes.specs.Links.{natives_in}
 use Rattle.kb_codes.specs.Live.{same_native, is_it}
 use Rattle.kb_codes.proofs.links.called_among.Given as goal
 
@@ -8,4 +9,4 @@ use Rattle.kb_codes.proofs.links.called_among.Given as goal
 abbrev pub invariant-loop-callee : goal.invariant-loop-callee
 invariant-loop-callee l =
     (native : Native) → list_any (λ n. same_native n native) l.called.items
-    ≡ list_any (λ n. is_it native (get_or l.natives n None)) (take l.callee-index l.callees)
+    ≡ list_any (λ n. is_it native (get_or (natives_in l.targets) n None)) (take l.callee-index l.callees)

@@ -1,6 +1,0 @@
-use Rattle.std.proofs.Common.{◌≡◌, map, take}
-use Rattle.kb_core.specs.Native.{named}
-use Rattle.kb_codes.proofs.links.natives_named.Given as goal
-
-abbrev pub invariant-loop-name : goal.invariant-loop-name
-invariant-loop-name l = l.natives.items ≡ map named (take l.name-index l.names)
