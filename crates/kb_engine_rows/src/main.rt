@@ -2,10 +2,7 @@
 //! sessions, and transcripts of scripts.
 #![tactic(auto)]
 
-mod calls;
-mod code;
 mod rows;
-mod sessions;
 
 use kb_row_text::tell_files;
 use rows::Rows;

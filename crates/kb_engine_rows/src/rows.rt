@@ -1,8 +1,9 @@
 //! All kinds of rows of the engine.
-use crate::calls::Calls;
-use crate::{code, sessions};
+use kb_call_rows::Calls;
+use kb_code_rows::{drawn, verified};
 use kb_context::NoMemory;
 use kb_row_text::{Answers, Teller, tell_rows};
+use kb_session_rows::{tell, transcript};
 use std::alloc::Global;
 
 /// Tells the blocks of a file.
@@ -14,9 +15,9 @@ pub struct Rows {
 impl Answers for Rows {
     fn answer(&mut self, alloc: Global, kind: &str, text: &[u8]) -> Result<String, NoMemory> {
         match kind {
-            "verify" => code::verified(alloc, text),
-            "random" => code::drawn(alloc, text),
-            "transcript" => sessions::transcript(alloc, text),
+            "verify" => verified(alloc, text),
+            "random" => drawn(alloc, text),
+            "transcript" => transcript(alloc, text),
             _ => self.calls.answer(alloc, kind, text),
         }
     }
@@ -37,8 +38,8 @@ impl Teller for Rows {
         told: &mut String,
     ) -> Result<(), NoMemory> {
         match kind {
-            "session" => sessions::tell(alloc, false, lines, told),
-            "raw" => sessions::tell(alloc, true, lines, told),
+            "session" => tell(alloc, false, lines, told),
+            "raw" => tell(alloc, true, lines, told),
             _ => tell_rows(alloc, self, kind, lines, told),
         }
     }

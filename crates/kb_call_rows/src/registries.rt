@@ -1,5 +1,5 @@
 //! Registries of closures: calls in order, and what each answers.
-use crate::calls::{answers, natives};
+use crate::{answers, natives};
 use kb_context::{Failure, NoMemory};
 use kb_core::{Args, Core, Native, Ran, plain};
 use kb_registry::{HostCommand, Registry, RegistryFault, Ticket};

@@ -1,9 +1,9 @@
 //! A handler made at random that is tried.
-use crate::code::judged::handlers_in;
-use crate::code::names::command_at;
-use crate::code::random::{Draft, Random, drawn};
-use crate::code::spelled::{file, object};
-use crate::code::ways::dearest;
+use crate::judged::handlers_in;
+use crate::names::command_at;
+use crate::random::{Draft, Random, drawn};
+use crate::spelled::{file, object};
+use crate::ways::dearest;
 use kb_code::Handler;
 use kb_context::NoMemory;
 use kb_verify::Callable;

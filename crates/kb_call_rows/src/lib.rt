@@ -1,4 +1,6 @@
 //! Rows that are one call each, of the libraries below a session.
+#![tactic(auto)]
+
 mod answers;
 mod boxed;
 mod clauses;
@@ -17,14 +19,14 @@ use std::str;
 
 /// Answers the calls of a file.
 #[derive(Drop)]
-pub(crate) struct Calls {
+pub struct Calls {
     // Of the last layout above that was read, as the calls since have left them.
     scopes: Option<Scopes>,
 }
 
 impl Calls {
     /// One that has read no layout yet.
-    pub(crate) fn new() -> Calls {
+    pub fn new() -> Calls {
         Calls { scopes: None }
     }
 }

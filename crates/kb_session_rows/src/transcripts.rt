@@ -1,5 +1,5 @@
 //! Transcripts of scripts over memory.
-use crate::sessions::host::all_commands;
+use crate::host::all_commands;
 use kb_bindings::{Inputs, LoadFault};
 use kb_context::{Failure, NoMemory};
 use kb_keys::Platform;

@@ -3,7 +3,7 @@
 //! and `platform NAME` (`linux` where there is none). More than one line of a file are parted by line feeds,
 //! and manifests, which may share a line, by ` ;; `. The host's closures are those of `natives NAME ..` and
 //! `shelf NAME ..`, each one for every native where there is no line.
-use crate::sessions::host::{Command, all_commands, commands_named};
+use crate::host::{Command, all_commands, commands_named};
 use kb_bindings::ExtensionFiles;
 use kb_context::NoMemory;
 use kb_ending::lent;

@@ -1,9 +1,9 @@
 //! Starts of a handler that was accepted.
-use crate::code::choices;
-use crate::code::counts::Counts;
-use crate::code::finding::Finding;
-use crate::code::live::{Dear, put};
-use crate::code::trial::Trial;
+use crate::choices;
+use crate::counts::Counts;
+use crate::finding::Finding;
+use crate::live::{Dear, put};
+use crate::trial::Trial;
 use kb_context::Failure;
 use kb_registry::Registry;
 use kb_verify::Verified;

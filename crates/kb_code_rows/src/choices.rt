@@ -1,6 +1,6 @@
 //! What decides forks: which of the context keys and of the arguments count as true. A choice is a number,
 //! whose lowest bits are those of the keys, and then come those of the arguments.
-use crate::code::names::{KEYS, TEXTS};
+use crate::names::{KEYS, TEXTS};
 use kb_context::{ContextValue, Layout, LayoutScope, NoMemory, Scopes, Seq, Text, TextMap};
 use kb_core::{Arg, Args, Core, Kind};
 use std::alloc::{AllocError, Global};

@@ -1,6 +1,6 @@
 //! Handlers: what is read of an extension's `handlers.json`, and of code.
-use crate::calls::answers::fault;
-use crate::calls::natives::declared_by;
+use crate::answers::fault;
+use crate::natives::declared_by;
 use hex::encode as in_digits;
 use kb_code::{CodeFault, Handler, Instr, decode, encode};
 use kb_context::{Failure, NoMemory, Seq, Text};

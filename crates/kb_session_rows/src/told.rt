@@ -2,11 +2,9 @@
 //!
 //! Its lines are those of the files (`inputs`), then those of the script, and below each what it writes,
 //! behind `> `. A line that begins with `? ` is none of the script's: it asks something else of the session.
-use crate::sessions::host::Command;
-use crate::sessions::inputs::{
-    all_handlers, commands_in, extensions_of, files_in, is_of_file, manifests_in,
-};
-use crate::sessions::streams::{Broken, Narrow};
+use crate::host::Command;
+use crate::inputs::{all_handlers, commands_in, extensions_of, files_in, is_of_file, manifests_in};
+use crate::streams::{Broken, Narrow};
 use kb_bindings::{Inputs, LoadFault, UnreadIn};
 use kb_context::{Failure, NoMemory, fault_name};
 use kb_core::Native;

@@ -1,4 +1,6 @@
 //! Rows of handlers' code: a handler before the verifier each, or handlers that are made at random.
+#![tactic(auto)]
+
 mod choices;
 mod counts;
 mod finding;
@@ -14,22 +16,20 @@ mod tried;
 mod verdict;
 mod ways;
 
-use judged::judged;
 use kb_context::NoMemory;
 use std::alloc::Global;
 use std::str;
-use tried::tried;
 
 /// What the verifier says of a handler, which is written as the JSON of a file.
-pub(crate) fn verified(alloc: Global, text: &[u8]) -> Result<String, NoMemory> {
-    judged(alloc, text)
+pub fn verified(alloc: Global, text: &[u8]) -> Result<String, NoMemory> {
+    judged::judged(alloc, text)
 }
 
 /// What comes of the handlers that follow from a seed, of so many files.
-pub(crate) fn drawn(alloc: Global, text: &[u8]) -> Result<String, NoMemory> {
+pub fn drawn(alloc: Global, text: &[u8]) -> Result<String, NoMemory> {
     let text = str::from_utf8(text).unwrap_or("");
     let (seed, files) = text.split_once(' ').unwrap_or((text, ""));
     let seed = seed.parse::<u64>().unwrap_or(0);
     let files = files.parse::<u32>().unwrap_or(0);
-    tried(alloc, seed, files)
+    tried::tried(alloc, seed, files)
 }

@@ -1,5 +1,5 @@
 //! Scopes that rows make, change and ask.
-use crate::calls::answers::{fault, file_fault, shown};
+use crate::answers::{fault, file_fault, shown};
 use kb_context::{ContextValue, Failure, NoMemory, ScopeFault, Scopes, UnknownScope};
 use kb_files::{read_context_text, read_scopes};
 use std::alloc::{AllocError, Global};

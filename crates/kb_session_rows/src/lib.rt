@@ -1,4 +1,6 @@
 //! Rows of whole sessions: a block that is a session each, and transcripts of scripts.
+#![tactic(auto)]
+
 mod host;
 mod inputs;
 mod streams;
@@ -10,17 +12,12 @@ use std::alloc::Global;
 use std::str;
 
 /// Tells a session, or a raw one, which has the handlers of its extensions.
-pub(crate) fn tell(
-    alloc: Global,
-    is_raw: bool,
-    lines: &str,
-    told: &mut String,
-) -> Result<(), NoMemory> {
+pub fn tell(alloc: Global, is_raw: bool, lines: &str, told: &mut String) -> Result<(), NoMemory> {
     told::tell(alloc, is_raw, lines, told)
 }
 
 /// The transcript of a script.
-pub(crate) fn transcript(alloc: Global, text: &[u8]) -> Result<String, NoMemory> {
+pub fn transcript(alloc: Global, text: &[u8]) -> Result<String, NoMemory> {
     match str::from_utf8(text) {
         Ok(text) => transcripts::text(alloc, text),
         Err(_) => String::from_str(alloc, "no text"),

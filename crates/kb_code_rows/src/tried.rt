@@ -1,14 +1,14 @@
 //! Handlers made at random, before the verifier and in the machine: none that is accepted traps or costs
 //! more than it declares, whatever decides its forks, and none is refused for its budget without a way that
 //! costs more.
-use crate::code::counts::Counts;
-use crate::code::finding::Finding;
-use crate::code::judged::callable_with;
-use crate::code::live::{Dear, clear, natives};
-use crate::code::random::Random;
-use crate::code::spelled::file;
-use crate::code::trial::{Trial, drawn_trial};
-use crate::code::verdict::{Verdict, judge};
+use crate::counts::Counts;
+use crate::finding::Finding;
+use crate::judged::callable_with;
+use crate::live::{Dear, clear, natives};
+use crate::random::Random;
+use crate::spelled::file;
+use crate::trial::{Trial, drawn_trial};
+use crate::verdict::{Verdict, judge};
 use kb_context::{Failure, NoMemory};
 use kb_registry::Registry;
 use kb_verify::Callable;

@@ -1,5 +1,5 @@
 //! Clauses: their faults, their trees, and whether they hold.
-use crate::calls::answers::{fault, truth};
+use crate::answers::{fault, truth};
 use kb_context::{Failure, NoMemory, Scopes};
 use kb_when::{Clause, UnreadPattern, WhenFault};
 use std::alloc::{AllocError, Global};

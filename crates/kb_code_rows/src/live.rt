@@ -1,5 +1,5 @@
 //! The commands that are live while handlers made at random are tried.
-use crate::code::finding::Finding;
+use crate::finding::Finding;
 use kb_codes::Codes;
 use kb_context::{Failure, NoMemory, Seq};
 use kb_core::{Args, Core, NATIVES, Native, Ran, plain};

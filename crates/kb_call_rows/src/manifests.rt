@@ -1,5 +1,5 @@
 //! Manifests: what is read of an extension's `package.json`, in one line.
-use crate::calls::answers::fault;
+use crate::answers::fault;
 use kb_context::{Failure, NoMemory};
 use kb_json::FileFault;
 use kb_jsonc::read;

@@ -1,5 +1,5 @@
 //! Small handlers that are made at random, always the same of a seed.
-use crate::code::phrases::{Given, Top, arbitrary, drawn_phrase, later};
+use crate::phrases::{Given, Top, arbitrary, drawn_phrase, later};
 use kb_code::Instr;
 use kb_context::NoMemory;
 use kb_core::Kind;

@@ -1,10 +1,10 @@
 //! What the verifier says of a handler made at random, and whether that can be.
-use crate::code::counts::Counts;
-use crate::code::finding::Finding;
-use crate::code::live::Dear;
-use crate::code::starts::run;
-use crate::code::trial::Trial;
-use crate::code::ways::{followed, jumps_of};
+use crate::counts::Counts;
+use crate::finding::Finding;
+use crate::live::Dear;
+use crate::starts::run;
+use crate::trial::Trial;
+use crate::ways::{followed, jumps_of};
 use kb_context::Failure;
 use kb_registry::Registry;
 use kb_verify::{Callable, Step, VerifyFault, verify};

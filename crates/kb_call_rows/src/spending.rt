@@ -3,7 +3,7 @@ ghost use Rattle.kb_core.specs.Native.{Fits};
 ghost use Rattle.kb_core.specs.Ran.{Does};
 ghost use Rattle.kb_core.specs.declared.native.Native.TheVariants.{TypeText};
 
-use crate::calls::boxed::{type_dearly, window};
+use crate::boxed::{type_dearly, window};
 use kb_code::Handler;
 use kb_codes::Codes;
 use kb_context::{NoMemory, Seq};

@@ -1,5 +1,5 @@
 //! Ways through code, and what they cost, told from the instructions alone: nothing here asks the verifier.
-use crate::code::names::CALLS;
+use crate::names::CALLS;
 use kb_code::Instr;
 use kb_verify::{Callable, Step};
 

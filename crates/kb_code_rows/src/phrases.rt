@@ -1,7 +1,7 @@
 //! What code is made of at random: phrases of three instructions. Most leave the operands as they were, so
 //! that a jump over some of them leads to a place with the same kinds of operands.
-use crate::code::names::{CALLS, KEYS, TEXTS, command_at};
-use crate::code::random::Random;
+use crate::names::{CALLS, KEYS, TEXTS, command_at};
+use crate::random::Random;
 use kb_code::Instr;
 use kb_core::Kind;
 use kb_verify::Callable;

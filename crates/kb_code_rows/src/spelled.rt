@@ -1,6 +1,6 @@
 //! Handlers made at random as a file says them, so that a row can be made of one.
-use crate::code::names::{CALLS, TEXTS};
-use crate::code::random::Draft;
+use crate::names::{CALLS, TEXTS};
+use crate::random::Draft;
 use kb_code::encode;
 use kb_context::NoMemory;
 use kb_core::Kind;
