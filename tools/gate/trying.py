@@ -29,6 +29,7 @@ such a check may tell of an edit is held to this, so that no edit passes for ref
 import concurrent.futures
 import dataclasses
 import os
+import queue
 import re
 import shutil
 import tempfile
@@ -393,29 +394,48 @@ def try_crates(crates, is_kept=False):
     for crate, functions, edits in crates_with_edits(crates):
         chosen.append(crate)
         call = lambda given, jobs, it=(crate, functions, edits): try_crate(*it, is_kept)
-        tasks[crate.name, "edits"] = ([], len(edits) * crate.count(rb"\n"), rt.need(crate), call)
+        tasks[crate.name, "edits"] = ([], work_of(crate, edits), rt.need(crate), call)
     if not built_libraries(chosen):
         say("a library was not built")
         return False
     return told(it for results in rt.in_lanes(tasks).values() for it in results)
 
 
+def work_of(crate, edits):
+    """A measure of what it takes to try a crate's edits."""
+    return len(edits) * crate.count(rb"\n")
+
+
 def try_as_proved(crates, lines):
-    """Tries the wrong bodies of each crate once these lines of rt ci, which it passes on, say that the crate is proved."""
+    """Tries the wrong bodies of each crate once these lines of rt ci, which it passes on, say that the crate is proved, the most work first."""
     os.nice(10)
     waiting = {it[0].name: it for it in crates_with_edits(crates)}
-    running, proved = [], set()
+    ready, proved = queue.PriorityQueue(), set()
     with concurrent.futures.ThreadPoolExecutor(rt.processors()) as pool:
-        for line in lines:
-            say(line.rstrip("\n"))
-            proved.update(PROVED.findall(line))
-            for name, (crate, functions, edits) in [*waiting.items()]:
-                if {name, *(it.name for it in crate.below())} <= proved:
-                    del waiting[name]
-                    running.append(pool.submit(try_crate, crate, functions, edits, is_proved=True))
-    found = [it for results in running for it in results.result()]
+        lanes = [pool.submit(try_ready, ready) for _ in range(rt.processors())]
+        try:
+            for line in lines:
+                say(line.rstrip("\n"))
+                proved.update(PROVED.findall(line))
+                for name, (crate, functions, edits) in [*waiting.items()]:
+                    if {name, *(it.name for it in crate.below())} <= proved:
+                        del waiting[name]
+                        ready.put((-work_of(crate, edits), name, (crate, functions, edits)))
+        finally:
+            for number in range(len(lanes)):
+                # (behind all that is there)
+                ready.put((1, str(number), None))
+    found = [it for lane in lanes for it in lane.result()]
     lost = [Tried(it, False, "the crate is not proved") for _, _, edits in waiting.values() for it in edits]
     return told([*found, *lost])
+
+
+def try_ready(ready):
+    """Tries the edits of crates that come ready, one crate after another, until there is nothing in a crate's place."""
+    found = []
+    while (it := ready.get()[-1]) is not None:
+        found += try_crate(*it, is_proved=True)
+    return found
 
 
 def told(found):
