@@ -11,7 +11,7 @@ such a check may tell of an edit is held to this, so that no edit passes for ref
 - An edit is refused where the check names a goal of the very twin or function that has it: at its lines, in its folder
   of proofs/, or in its own line. A proof file that names what the edit took away is no such goal. While editing, a twin of a
   function with files of proofs/ is judged only where its control, a twin without an edit, is proved.
-- Nothing is judged beside an edit in place of what it calls, so callers and callees part. One between them that no
+- Over the functions themselves nothing is judged beside an edit in place of what it calls, so callers and callees part. One between them that no
   edit changes only waits for what it calls, and its contract stands as it was. What has no failing goal and
   waits for what failed is tried again, in a batch without anything in place that it reaches.
 - Where a goal of a function fails that no edit changes, or a lemma, the batch isn't judged: some edit reaches past its
