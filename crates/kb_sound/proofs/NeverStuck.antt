@@ -24,6 +24,7 @@ use Rattle.kb_vm.specs.declared.trap.Trap.{Trap}
 use Rattle.kb_vm.specs.declared.trap.Trap.TheVariants.{OutOfBudget, BadCode, WrongArgument}
 use Rattle.kb_vm.specs.Effect.{Effect, Stop, Leave, Next, Goto, Enter, effect}
 use Rattle.kb_vm.specs.Meaning.{World, first_world, with_step, with_line, Answer, Done, Stuck, and_then}
+use Rattle.kb_vm.specs.Position.{Position, outset, moved, passed}
 use Rattle.kb_vm.specs.Meaning.{fetched, run_callee, follow, go, run, start_callee}
 use Rattle.kb_sound.specs.Sound.{IsVerified, AllVerified, IsDone, NeverStuck, StartsNeverStuck}
 use Rattle.kb_sound.proofs.Shapes.{Fit}
@@ -53,8 +54,9 @@ module _ (table : Table) (all : AllVerified table) where
   abbrev Safe : ℕ → Type 0
   Safe n = (h : HandlerData) (v : IsVerified table h) (args : List Arg) →
       fits h.signature.params args ≡ true →
-      (left p : ℕ) (operands : List Arg) (w : World) → Reachable h.code p → Fit (shape_at h v p) operands →
-      Pays v.commands h p left → left < n → IsDone (go n table h args left p operands w)
+      (left : ℕ) (at : Position) (w : World) → Reachable h.code at.place →
+      Fit (shape_at h v at.place) at.operands → Pays v.commands h at.place left → left < n →
+      IsDone (go n table h args left at w)
 
   -- what is known at a place, with 1 paid for its instruction
   record Here (h : HandlerData) (v : IsVerified table h) (args : List Arg) (left p : ℕ)
@@ -82,62 +84,63 @@ module _ (table : Table) (all : AllVerified table) where
   callee_done n ih name (Plain native) given w is f lt = tt
   callee_done n ih name (Coded g) given w is f lt =
       let v = all name g is in
-      ih g v given f g.signature.budget 0 [] w (first v.accepted.some_code)
+      ih g v given f g.signature.budget outset w (first v.accepted.some_code)
       (subst (λ ks. Fit ks []) (sym v.accepted.shapes.1.start) tt) v.accepted.within_budget lt
 
   -- at an exit with operands that fit
-  goes_done : (n : ℕ) → Safe n → (h : HandlerData) (v : IsVerified table h) (args : List Arg) (left p q : ℕ)
-      (x : Instr) (operands : List Arg) (w : World) (here : Here h v args left p x) → left < n →
-      (is_exit (exits_of (suc p) x) q ≡ true) × Fit here.right.after operands →
-      (p < q) × IsDone (go n table h args left q operands w)
-  goes_done n ih h v args left p q x operands w here lt m =
-      let f = follows v.commands h p q (shape_at h v p)
+  goes_done : (n : ℕ) → Safe n → (h : HandlerData) (v : IsVerified table h) (args : List Arg) (left : ℕ)
+      (at : Position) (q : ℕ) (x : Instr) (operands : List Arg) (w : World) (here : Here h v args left at.place x) → left < n →
+      (is_exit (exits_of (suc at.place) x) q ≡ true) × Fit here.right.after operands →
+      (at.place < q) × IsDone (go n table h args left (moved at q operands) w)
+  goes_done n ih h v args left at q x operands w here lt m =
+      let f = follows v.commands h at.place q (shape_at h v at.place)
       here.right.after x here.at here.right.is_right m.0 in (
         f.later,
-        ih h v args here.args_fit left q operands w (onward here.reachable f)
+        ih h v args here.args_fit left (moved at q operands) w (onward here.reachable f)
             (subst (λ ks. Fit ks operands) (sym (here.right.flows q f.within f)) m.1)
-            (λ steps c path. let l = pays_on h v args left p q x here f steps c path in
+            (λ steps c path. let l = pays_on h v args left at.place q x here f steps c path in
             let k = cost_pos v.commands h x in omega (arith, l, k)) lt,
       )
 
-  follow_done : (n : ℕ) → Safe n → (h : HandlerData) (v : IsVerified table h) (args : List Arg) (left p : ℕ)
-      (x : Instr) (w : World) (here : Here h v args left p x) → left < n → (e : Effect) →
-      Moves table v.commands h here.right.after p x e → IsDone (follow (go n table) h args left p w e)
-  follow_done n ih h v args left p x w here lt (Stop trap) m = absurd m
-  follow_done n ih h v args left p x w here lt Leave m = tt
-  follow_done n ih h v args left p x w here lt (Next operands) m =
-      (goes_done n ih h v args left p (p + 1) x operands w here lt m).1
-  follow_done n ih h v args left p x w here lt (Goto to operands) m =
-      let g = goes_done n ih h v args left p to x operands w here lt m in
-      subst (λ b. IsDone (if b then go n table h args left to operands w else Stuck BadCode h.command p w))
+  follow_done : (n : ℕ) → Safe n → (h : HandlerData) (v : IsVerified table h) (args : List Arg) (left : ℕ)
+      (at : Position) (x : Instr) (w : World) (here : Here h v args left at.place x) → left < n → (e : Effect) →
+      Moves table v.commands h here.right.after at.place x e → IsDone (follow (go n table) h args left at w e)
+  follow_done n ih h v args left at x w here lt (Stop trap) m = absurd m
+  follow_done n ih h v args left at x w here lt Leave m = tt
+  follow_done n ih h v args left at x w here lt (Next operands) m =
+      (goes_done n ih h v args left at (at.place + 1) x operands w here lt m).1
+  follow_done n ih h v args left at x w here lt (Goto to operands) m =
+      let g = goes_done n ih h v args left at to x operands w here lt m in
+      subst (λ b. IsDone (if b then go n table h args left (moved at to operands) w else Stuck BadCode h.command at.place w))
       (sym (le-leb _ _ g.0)) g.1
-  follow_done n ih h v args left p x w here lt (Enter name callee given operands) m =
-      let exit : is_exit (exits_of (suc p) x) (p + 1) ≡ true =
-      subst (λ y. is_exit (exits_of (suc p) y) (p + 1) ≡ true) (sym m.is_call) (next_exit p) in
-      let f = follows v.commands h p (p + 1) (shape_at h v p)
+  follow_done n ih h v args left at x w here lt (Enter name callee given operands) m =
+      let exit : is_exit (exits_of (suc at.place) x) (at.place + 1) ≡ true =
+      subst (λ y. is_exit (exits_of (suc at.place) y) (at.place + 1) ≡ true) (sym m.is_call) (next_exit at.place) in
+      let f = follows v.commands h at.place (at.place + 1) (shape_at h v at.place)
       here.right.after x here.at here.right.is_right exit in
       let r = onward here.reachable f in
       let price : cost v.commands h x ≡ 1 + (declared_by callee).budget =
       ap (cost v.commands h) m.is_call ∙ ap (λ o. 1 + budget_in o) m.declared in
-      let some = some_path v.commands h (shape_at h v) v.accepted.shapes.1 (length h.code) (p + 1)
+      let some = some_path v.commands h (shape_at h v) v.accepted.shapes.1 (length h.code) (at.place + 1)
       (omega arith) r in
-      let l = pays_on h v args left p (p + 1) x here f some.0 some.1 some.2 in
+      let l = pays_on h v args left at.place (at.place + 1) x here f some.0 some.1 some.2 in
       let le : (declared_by callee).budget ≤ left = omega (arith, l, price) in
       subst (λ b. IsDone (if b then and_then (run_callee (go n table) callee given (with_line name given w))
-      (λ u. go n table h args (left - (declared_by callee).budget) (p + 1) operands u)
-      else Stuck OutOfBudget h.command p w)) (sym (le-leb _ _ le))
+      (λ u. go n table h args (left - (declared_by callee).budget) (passed at operands) u)
+      else Stuck OutOfBudget h.command at.place w)) (sym (le-leb _ _ le))
       (and_then_done _ _
       (callee_done n ih name callee given (with_line name given w) m.is_live m.given_fit
       (omega (arith, le, lt)))
-      (λ u. ih h v args here.args_fit (left - (declared_by callee).budget) (p + 1) operands u r
-      (subst (λ ks. Fit ks operands) (sym (here.right.flows (p + 1) f.within f)) m.kept)
-      (λ steps c path. let k = pays_on h v args left p (p + 1) x here f steps c path in
+      (λ u. ih h v args here.args_fit (left - (declared_by callee).budget) (passed at operands) u r
+      (subst (λ ks. Fit ks operands) (sym (here.right.flows (at.place + 1) f.within f)) m.kept)
+      (λ steps c path. let k = pays_on h v args left at.place (at.place + 1) x here f steps c path in
       omega (arith, k, price))
       (omega (arith, lt))))
 
   safe : (n : ℕ) → Safe n
-  safe zero = λ h v args fa left p operands w r f pays lt. absurd (omega (arith, lt))
-  safe (suc n) = λ h v args fa left p operands w r f pays lt.
+  safe zero = λ h v args fa left point w r f pays lt. absurd (omega (arith, lt))
+  safe (suc n) = λ h v args fa left point w r f pays lt.
+      let p = point.place in
       let x = get_or h.code p i.Return in
       let at : slice_get h.code p ≡ Some x = slice_get-get_or h.code p i.Return (reached h.code p r) in
       let right = v.accepted.shapes.1.each p x (reached h.code p r) r at in
@@ -166,19 +169,19 @@ module _ (table : Table) (all : AllVerified table) where
       (v.callees p k d callee, let deep = v.accepted.within_depth p k d callee in omega (arith, deep)) in
       let is = checked v.commands h p (shape_at h v p) right.after x right.is_right in
       let on : Instr → ℕ → Answer = λ y rest.
-      let e = effect table h args w.core operands y in follow (go n table) h args rest p
+      let e = effect table h args w.core point.operands y in follow (go n table) h args rest point
       (with_step y rest e w) e in
       let stuck : Trap → Answer = λ trap. Stuck trap h.command p w in
       subst (λ o. IsDone (fetched o left stuck on)) (sym at)
       (subst (λ m. IsDone (fetched (Some x) m stuck on)) (sym l)
-      (follow_done n (safe n) h v args (left - 1) p x _ here (omega (arith, l, lt)) _
-      (moves table v.commands h right.after p args w.core (shape_at h v p) operands x fa lives is.has_room
+      (follow_done n (safe n) h v args (left - 1) point x _ here (omega (arith, l, lt)) _
+      (moves table v.commands h right.after p args w.core (shape_at h v p) point.operands x fa lives is.has_room
       is.effect_is f)))
 
 pub never_stuck : NeverStuck
 unfolding run
 never_stuck table all h v args fa w =
-    safe table all (suc h.signature.budget) h v args fa h.signature.budget 0 [] w (first v.accepted.some_code)
+    safe table all (suc h.signature.budget) h v args fa h.signature.budget outset w (first v.accepted.some_code)
     (subst (λ ks. Fit ks []) (sym v.accepted.shapes.1.start) tt) v.accepted.within_budget (omega arith)
 
 callee_done_at : (table : Table) → AllVerified table → (name : List ℕ) (callee : Callee) →

@@ -12,6 +12,7 @@ use Rattle.kb_verify.specs.Accepted.{IsAccepted, IsCallee}
 use Rattle.kb_vm.specs.declared.machine.End.{End}
 use Rattle.kb_vm.specs.declared.machine.End.TheVariants as end
 use Rattle.kb_vm.specs.Meaning.{World, Answer, Done, Stuck, run, start_of}
+use Rattle.kb_vm.specs.Position.{outset}
 
 -- what the live command declares that a handler's list of calls has at an index
 abbrev pub live_declaration_at : Table → HandlerData → ℕ → Option Declaration
@@ -36,7 +37,7 @@ IsDone (Stuck trap command place w) = ⊥
 abbrev pub NeverStuck : Type 0
 NeverStuck = (table : Table) → AllVerified table → (h : HandlerData) → IsVerified table h →
     (args : List Arg) → fits h.signature.params args ≡ true → (w : World) →
-    IsDone (run table h args h.signature.budget 0 [] w)
+    IsDone (run table h args h.signature.budget outset w)
 
 -- no start of a live command with fitting arguments does
 abbrev pub StartsNeverStuck : Type 0

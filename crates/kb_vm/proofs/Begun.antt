@@ -11,6 +11,7 @@ use Rattle.kb_vm.specs.Effect.{effect}
 use Rattle.kb_vm.specs.Meaning.{Step, World, Answer, Done, Stuck, fetched, follow, with_step, run}
 use Rattle.kb_vm.specs.Memory.{IsBegun}
 use Rattle.kb_vm.specs.Outcome.{BeginsWith, world_of}
+use Rattle.kb_vm.specs.Position.{outset}
 use Rattle.kb_vm.specs.State.{fetched_at}
 use Rattle.kb_vm.proofs.Bound.{run_step}
 use Rattle.kb_vm.proofs.Frames.{follow_keeps, run_keeps}
@@ -29,7 +30,7 @@ module _ (table : Table) (h : HandlerData) (args : List Arg) (w : World) where
   at_first o left =
       fetched o left (λ trap. Stuck trap h.command 0 w) (λ instr rest.
       let e = effect table h args w.core [] instr in
-      follow (run table) h args rest 0 (with_step instr rest e w) e)
+      follow (run table) h args rest outset (with_step instr rest e w) e)
 
   begun_by : (o : Option Instr) (left : ℕ) → is_ok (fetched_at o left) ≡ true → IsBegun (at_first o left)
   begun_by None left ok = absurd (true≢false (sym ok))
@@ -37,13 +38,13 @@ module _ (table : Table) (h : HandlerData) (args : List Arg) (w : World) where
   begun_by (Some instr) (suc left) ok =
       let e = effect table h args w.core [] instr in
       begun_after _ w.steps (record { instr = instr; left = left; effect = e })
-      (follow_keeps (run table) (run_keeps table) h args left 0 (with_step instr left e w) e).steps
+      (follow_keeps (run table) (run_keeps table) h args left outset (with_step instr left e w) e).steps
 
   -- a first instruction is begun
   pub first_begun : is_ok (fetched_at (slice_get h.code 0) h.signature.budget) ≡ true
-      → IsBegun (run table h args h.signature.budget 0 [] w)
+      → IsBegun (run table h args h.signature.budget outset w)
   first_begun ok =
-      subst IsBegun (sym (run_step table h args h.signature.budget 0 [] w))
+      subst IsBegun (sym (run_step table h args h.signature.budget outset w))
       (begun_by (slice_get h.code 0) h.signature.budget ok)
 
   stuck_by : (o : Option Instr) (left : ℕ) (trap : Trap) → Err trap ≡ fetched_at o left
@@ -55,6 +56,6 @@ module _ (table : Table) (h : HandlerData) (args : List Arg) (w : World) where
 
   -- and without one it is stuck
   pub first_stuck : (trap : Trap) → Err trap ≡ fetched_at (slice_get h.code 0) h.signature.budget
-      → run table h args h.signature.budget 0 [] w ≡ Stuck trap h.command 0 w
+      → run table h args h.signature.budget outset w ≡ Stuck trap h.command 0 w
   first_stuck trap e =
-      run_step table h args h.signature.budget 0 [] w ∙ stuck_by (slice_get h.code 0) h.signature.budget trap e
+      run_step table h args h.signature.budget outset w ∙ stuck_by (slice_get h.code 0) h.signature.budget trap e

@@ -1,5 +1,5 @@
 -- The frames that wait, and what has happened before.
-use Rattle.std.proofs.Common.{◌≡◌, ℕ, zero, suc, ◌+◌, ◌-◌, Bool, true, false, List, [], ◌∷◌, ◌++◌, Option, Some, None}
+use Rattle.std.proofs.Common.{◌≡◌, ℕ, zero, suc, ◌-◌, Bool, true, false, List, [], ◌∷◌, ◌++◌, Option, Some, None}
 use Rattle.std.proofs.Common.{nat_le, refl, sym, ap, ◌∙◌, if◌then◌else◌, append_assoc}
 use Rattle.std.specs.Prelude.{slice_get, nat_lt}
 use Rattle.std.proofs.lemmas.List.{append-nil}
@@ -17,7 +17,8 @@ use Rattle.kb_vm.specs.CallLine.{call_line}
 use Rattle.kb_vm.specs.Meaning.{World, with_step, with_line, native_called, Answer, Done, Stuck, and_then, fetched}
 use Rattle.kb_vm.specs.Meaning.{Runner, run_callee, follow, go, run}
 use Rattle.kb_vm.specs.Outcome.{world_of, BeginsWith, Precedes}
-use Rattle.kb_vm.specs.State.{resume, finish, rest, rest_of, after_native, after_coded}
+use Rattle.kb_vm.specs.Position.{Position, outset, moved, passed}
+use Rattle.kb_vm.specs.State.{resume, finish, position_of, rest, rest_of, after_native, after_coded}
 
 pub finish_more : (table : Table) (fs : List Frame) (f : Frame) (a : Answer)
     → finish table (fs ++ f ∷ []) a ≡ finish table fs (and_then a (resume table f))
@@ -74,8 +75,8 @@ precedes_native n args w = record {
 
 -- what was there stays in what is run
 abbrev Keeps : Runner → Type 0
-Keeps f = (h : HandlerData) (args : List Arg) (left place : ℕ) (operands : List Arg) (w : World)
-    → Precedes w (world_of (f h args left place operands w))
+Keeps f = (h : HandlerData) (args : List Arg) (left : ℕ) (at : Position) (w : World)
+    → Precedes w (world_of (f h args left at w))
 
 and_then_keeps : (a : Answer) (on : World → Answer) (x : World)
     → ((v : World) → Precedes v (world_of (on v))) → Precedes x (world_of a)
@@ -87,58 +88,58 @@ module _ (f : Runner) (keeps : Keeps f) where
   callee_keeps : (callee : Callee) (args : List Arg) (w : World)
       → Precedes w (world_of (run_callee f callee args w))
   callee_keeps (Plain n) args w = precedes_native n args w
-  callee_keeps (Coded h) args w = keeps h args h.signature.budget 0 [] w
+  callee_keeps (Coded h) args w = keeps h args h.signature.budget outset w
 
-  goto_keeps : (h : HandlerData) (args : List Arg) (left place to : ℕ) (operands : List Arg) (w : World) (b : Bool)
-      → Precedes w (world_of (if b then f h args left to operands w else Stuck BadCode h.command place w))
-  goto_keeps h args left place to operands w false = precedes_same w
-  goto_keeps h args left place to operands w true = keeps h args left to operands w
+  goto_keeps : (h : HandlerData) (args : List Arg) (left : ℕ) (at : Position) (to : ℕ) (operands : List Arg) (w : World) (b : Bool)
+      → Precedes w (world_of (if b then f h args left (moved at to operands) w else Stuck BadCode h.command at.place w))
+  goto_keeps h args left at to operands w false = precedes_same w
+  goto_keeps h args left at to operands w true = keeps h args left (moved at to operands) w
 
-  enter_keeps : (h : HandlerData) (args : List Arg) (left place : ℕ) (w : World) (name : List ℕ) (callee : Callee)
+  enter_keeps : (h : HandlerData) (args : List Arg) (left : ℕ) (at : Position) (w : World) (name : List ℕ) (callee : Callee)
       (given operands : List Arg) (b : Bool)
       → Precedes w (world_of (if b then and_then (run_callee f callee given (with_line name given w))
-      (λ u. f h args (left - (declared_by callee).budget) (place + 1) operands u)
-      else Stuck OutOfBudget h.command place w))
-  enter_keeps h args left place w name callee given operands false = precedes_same w
-  enter_keeps h args left place w name callee given operands true =
+      (λ u. f h args (left - (declared_by callee).budget) (passed at operands) u)
+      else Stuck OutOfBudget h.command at.place w))
+  enter_keeps h args left at w name callee given operands false = precedes_same w
+  enter_keeps h args left at w name callee given operands true =
       and_then_keeps (run_callee f callee given (with_line name given w)) _ w
-      (λ u. keeps h args (left - (declared_by callee).budget) (place + 1) operands u)
+      (λ u. keeps h args (left - (declared_by callee).budget) (passed at operands) u)
       (precedes_on w (with_line name given w) _ (precedes_line name given w)
       (callee_keeps callee given (with_line name given w)))
 
-  pub follow_keeps : (h : HandlerData) (args : List Arg) (left place : ℕ) (w : World) (e : Effect)
-      → Precedes w (world_of (follow f h args left place w e))
-  follow_keeps h args left place w (Stop trap) = precedes_same w
-  follow_keeps h args left place w Leave = precedes_same w
-  follow_keeps h args left place w (Next operands) = keeps h args left (place + 1) operands w
-  follow_keeps h args left place w (Goto to operands) =
-      goto_keeps h args left place to operands w (nat_lt place to)
-  follow_keeps h args left place w (Enter name callee given operands) =
-      enter_keeps h args left place w name callee given operands (nat_le (declared_by callee).budget left)
+  pub follow_keeps : (h : HandlerData) (args : List Arg) (left : ℕ) (at : Position) (w : World) (e : Effect)
+      → Precedes w (world_of (follow f h args left at w e))
+  follow_keeps h args left at w (Stop trap) = precedes_same w
+  follow_keeps h args left at w Leave = precedes_same w
+  follow_keeps h args left at w (Next operands) = keeps h args left (passed at operands) w
+  follow_keeps h args left at w (Goto to operands) =
+      goto_keeps h args left at to operands w (nat_lt at.place to)
+  follow_keeps h args left at w (Enter name callee given operands) =
+      enter_keeps h args left at w name callee given operands (nat_le (declared_by callee).budget left)
 
-  fetched_keeps : (table : Table) (h : HandlerData) (args : List Arg) (place : ℕ) (operands : List Arg) (w : World)
+  fetched_keeps : (table : Table) (h : HandlerData) (args : List Arg) (at : Position) (w : World)
       (o : Option Instr) (left : ℕ)
-      → Precedes w (world_of (fetched o left (λ trap. Stuck trap h.command place w) (λ instr rest.
-      let e = effect table h args w.core operands instr in
-      follow f h args rest place (with_step instr rest e w) e)))
-  fetched_keeps table h args place operands w None left = precedes_same w
-  fetched_keeps table h args place operands w (Some instr) zero = precedes_same w
-  fetched_keeps table h args place operands w (Some instr) (suc left) =
-      let e = effect table h args w.core operands instr in
+      → Precedes w (world_of (fetched o left (λ trap. Stuck trap h.command at.place w) (λ instr rest.
+      let e = effect table h args w.core at.operands instr in
+      follow f h args rest at (with_step instr rest e w) e)))
+  fetched_keeps table h args at w None left = precedes_same w
+  fetched_keeps table h args at w (Some instr) zero = precedes_same w
+  fetched_keeps table h args at w (Some instr) (suc left) =
+      let e = effect table h args w.core at.operands instr in
       precedes_on w (with_step instr left e w) _ (precedes_step instr left e w)
-      (follow_keeps h args left place (with_step instr left e w) e)
+      (follow_keeps h args left at (with_step instr left e w) e)
 
 go_keeps : (table : Table) (n : ℕ) → Keeps (go n table)
-go_keeps table zero = λ h args left place operands w. precedes_same w
-go_keeps table (suc n) = λ h args left place operands w.
-    fetched_keeps (go n table) (go_keeps table n) table h args place operands w (slice_get h.code place) left
+go_keeps table zero = λ h args left at w. precedes_same w
+go_keeps table (suc n) = λ h args left at w.
+    fetched_keeps (go n table) (go_keeps table n) table h args at w (slice_get h.code at.place) left
 
 pub run_keeps : (table : Table) → Keeps (run table)
 unfolding run
-run_keeps table = λ h args left place operands w. go_keeps table (suc left) h args left place operands w
+run_keeps table = λ h args left at w. go_keeps table (suc left) h args left at w
 
 resume_keeps : (table : Table) (f : Frame) (v : World) → Precedes v (world_of (resume table f v))
-resume_keeps table f v = run_keeps table f.handler f.args f.left f.place f.operands v
+resume_keeps table f v = run_keeps table f.handler f.args f.left (position_of f) v
 
 pub finish_keeps : (table : Table) (fs : List Frame) (a : Answer) (x : World)
     → Precedes x (world_of a) → Precedes x (world_of (finish table fs a))
@@ -159,21 +160,27 @@ pub coded_keeps : (table : Table) (m : Machine) (h : HandlerData) (args : List A
     → Precedes w (world_of (after_coded table m h args w))
 coded_keeps table m h args w =
     finish_keeps table m.callers _ w
-    (and_then_keeps (run table h args h.signature.budget 0 [] w) (resume table m.frame) w
-    (resume_keeps table m.frame) (run_keeps table h args h.signature.budget 0 [] w))
+    (and_then_keeps (run table h args h.signature.budget outset w) (resume table m.frame) w
+    (resume_keeps table m.frame) (run_keeps table h args h.signature.budget outset w))
 
 pub rest_of_keeps : (table : Table) (m : Machine) (e : Effect) (w : World)
     → Precedes w (world_of (rest_of table m e w))
 rest_of_keeps table m e w =
     finish_keeps table m.callers _ w
-    (follow_keeps (run table) (run_keeps table) m.frame.handler m.frame.args m.frame.left m.frame.place w e)
+    (follow_keeps (run table) (run_keeps table) m.frame.handler m.frame.args m.frame.left (position_of m.frame) w e)
+
+pub at_outset : (turns : List ℕ) (operands : List Arg) → turns ≡ [] → operands ≡ []
+    → record { place = 0; turns = turns; operands = operands } ≡ outset
+at_outset turns operands t o =
+    ap (λ ts. record { place = 0; turns = ts; operands = operands }) t
+    ∙ ap (λ os. record { place = 0; turns = []; operands = os }) o
 
 -- a handler gets a frame, and its caller waits
 pub coded_rest : (table : Table) (m : Machine) (h : HandlerData) (args : List Arg) (w : World) (fs : List Frame)
-    (left : ℕ) (operands : List Arg) → fs ≡ m.callers ++ m.frame ∷ [] → left ≡ h.signature.budget
-    → operands ≡ [] → after_coded table m h args w ≡ finish table fs (run table h args left 0 operands w)
-coded_rest table m h args w fs left operands e l o =
-    sym (finish_more table m.callers m.frame (run table h args h.signature.budget 0 [] w))
-    ∙ ap (λ gs. finish table gs (run table h args h.signature.budget 0 [] w)) (sym e)
-    ∙ ap (λ n. finish table fs (run table h args n 0 [] w)) (sym l)
-    ∙ ap (λ os. finish table fs (run table h args left 0 os w)) (sym o)
+    (left : ℕ) (at : Position) → fs ≡ m.callers ++ m.frame ∷ [] → left ≡ h.signature.budget → at ≡ outset
+    → after_coded table m h args w ≡ finish table fs (run table h args left at w)
+coded_rest table m h args w fs left at e l o =
+    sym (finish_more table m.callers m.frame (run table h args h.signature.budget outset w))
+    ∙ ap (λ gs. finish table gs (run table h args h.signature.budget outset w)) (sym e)
+    ∙ ap (λ n. finish table fs (run table h args n outset w)) (sym l)
+    ∙ ap (λ p. finish table fs (run table h args left p w)) (sym o)

@@ -14,7 +14,8 @@ use Rattle.kb_vm.specs.Effect.{Enter, Goto}
 use Rattle.kb_vm.specs.Meaning.{World, with_line, Answer, Done, Stuck, and_then, run_callee, run}
 use Rattle.kb_vm.specs.Meaning.{native_called, first_world}
 use Rattle.kb_vm.specs.Outcome.{Shows}
-use Rattle.kb_vm.specs.State.{finish, rest, rest_of, TurnedFrom, Pays, PaysFrom, credit, Begins, Begun}
+use Rattle.kb_vm.specs.Position.{outset, moved, passed}
+use Rattle.kb_vm.specs.State.{finish, position_of, rest, rest_of, TurnedFrom, Pays, PaysFrom, credit, Begins, Begun}
 use Rattle.kb_vm.specs.Action.{IsCallable}
 use Rattle.kb_vm.specs.declared.machine.Frame.{Frame}
 use Rattle.kb_code.specs.Handler.{HandlerData}
@@ -28,7 +29,7 @@ use Rattle.kb_vm.proofs.Frames.{finish_stuck}
 
 -- a jump, by whether it leads to a later place
 goto_if : Table → Machine → ℕ → List Arg → World → Bool → Answer
-goto_if table m to operands w b = finish table m.callers (if b then run table m.frame.handler m.frame.args m.frame.left to operands w else Stuck BadCode m.frame.handler.command m.frame.place w)
+goto_if table m to operands w b = finish table m.callers (if b then run table m.frame.handler m.frame.args m.frame.left (moved (position_of m.frame) to operands) w else Stuck BadCode m.frame.handler.command m.frame.place w)
 
 pub goes_back : (table : Table) (m : Machine) (to : ℕ) (operands : List Arg) (w : World) → to ≤ m.frame.place
     → rest_of table m (Goto to operands) w ≡ Stuck BadCode m.frame.handler.command m.frame.place w
@@ -39,13 +40,13 @@ goes_back table m to operands w le =
 
 pub goes_on : (table : Table) (m : Machine) (to : ℕ) (operands : List Arg) (w : World) → m.frame.place < to
     → rest_of table m (Goto to operands) w
-    ≡ finish table m.callers (run table m.frame.handler m.frame.args m.frame.left to operands w)
+    ≡ finish table m.callers (run table m.frame.handler m.frame.args m.frame.left (moved (position_of m.frame) to operands) w)
 unfolding goto_if
 goes_on table m to operands w lt = ap (goto_if table m to operands w) (lt-ltb _ _ lt)
 
 -- a call, by whether its frame can pay for it
 enter_if : Table → Machine → List ℕ → Callee → List Arg → List Arg → World → Bool → Answer
-enter_if table m name callee given operands w b = finish table m.callers (if b then and_then (run_callee (run table) callee given (with_line name given w)) (λ u. run table m.frame.handler m.frame.args (m.frame.left - (declared_by callee).budget) (m.frame.place + 1) operands u) else Stuck OutOfBudget m.frame.handler.command m.frame.place w)
+enter_if table m name callee given operands w b = finish table m.callers (if b then and_then (run_callee (run table) callee given (with_line name given w)) (λ u. run table m.frame.handler m.frame.args (m.frame.left - (declared_by callee).budget) (passed (position_of m.frame) operands) u) else Stuck OutOfBudget m.frame.handler.command m.frame.place w)
 
 pub entered_poor : (table : Table) (m : Machine) (name : List ℕ) (callee : Callee) (given operands : List Arg)
     (w : World) → m.frame.left < (declared_by callee).budget
@@ -60,7 +61,7 @@ entered_poor table m name callee given operands w lt =
 abbrev pub paid : Table → Machine → ℕ → Callee → List Arg → List Arg → World → Answer
 paid table m most callee given operands w =
     finish table m.callers (and_then (run_callee (run table) callee given w)
-    (λ u. run table m.frame.handler m.frame.args (m.frame.left - most) (m.frame.place + 1) operands u))
+    (λ u. run table m.frame.handler m.frame.args (m.frame.left - most) (passed (position_of m.frame) operands) u))
 
 pub entered_rich : (table : Table) (m : Machine) (name : List ℕ) (callee k : Callee) (most : ℕ)
     (given operands : List Arg) (w : World) → most ≤ m.frame.left → most ≡ (declared_by callee).budget → callee ≡ k
@@ -137,15 +138,15 @@ left_pays m (turn.Trapped n trap) l = absurd l
 left_pays m (turn.NoMemory n) l = absurd l
 
 pub begun : (table : Table) (h : HandlerData) (args : List Arg) (core : Core) (m : Machine) → Begins h args core m
-    → run table h args h.signature.budget 0 [] (first_world core) ≡ rest table m (first_world core)
+    → run table h args h.signature.budget outset (first_world core) ≡ rest table m (first_world core)
 begun table h args core m b =
     let w = first_world core in
-    sym (ap (λ fs. finish table fs (run table m.frame.handler m.frame.args m.frame.left m.frame.place m.frame.operands w)) b.no_callers
-    ∙ ap (λ g. run table g m.frame.args m.frame.left m.frame.place m.frame.operands w) b.handler_is
-    ∙ ap (λ vs. run table h vs m.frame.left m.frame.place m.frame.operands w) b.args_are
-    ∙ ap (λ n. run table h args n m.frame.place m.frame.operands w) b.whole_budget
-    ∙ ap (λ p. run table h args h.signature.budget p m.frame.operands w) b.first_place
-    ∙ ap (λ os. run table h args h.signature.budget 0 os w) b.no_operands)
+    let at = position_of m.frame in
+    sym (ap (λ fs. finish table fs (run table m.frame.handler m.frame.args m.frame.left at w)) b.no_callers
+    ∙ ap (λ g. run table g m.frame.args m.frame.left at w) b.handler_is
+    ∙ ap (λ vs. run table h vs m.frame.left at w) b.args_are
+    ∙ ap (λ n. run table h args n at w) b.whole_budget
+    ∙ ap (λ p. run table h args h.signature.budget p w) b.at_outset)
 
 pub begun_shows : (h : HandlerData) (args : List Arg) (core : Core) (m : Machine) → Begins h args core m
     → Shows (first_world core) m.core m.lines m.spent

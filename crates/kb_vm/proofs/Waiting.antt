@@ -18,6 +18,7 @@ with_values w args operands = record {
   handler = w.handler;
   args = args;
   place = w.place;
+  turns = w.turns;
   left = w.left;
   operands = reverse operands;
 }
@@ -54,6 +55,7 @@ pub frame_alone : (w : Waiting) (args operands : List Arg) → w.args ≡ length
       handler = w.handler;
       args = args;
       place = w.place;
+      turns = w.turns;
       left = w.left;
       operands = operands;
     }
@@ -65,7 +67,7 @@ frame_alone w args operands a o =
     ∙ ap (λ n. with_values w args (take w.operands (drop n (args ++ reverse operands)))) a
     ∙ ap (λ os. with_values w args (take w.operands os)) (drop-append_seam args (reverse operands))
     ∙ ap (with_values w args) (take_all w.operands (reverse operands) all)
-    ∙ ap (λ os. record { handler = w.handler; args = args; place = w.place; left = w.left; operands = os }) (reverse-reverse operands)
+    ∙ ap (λ os. record { handler = w.handler; args = args; place = w.place; turns = w.turns; left = w.left; operands = os }) (reverse-reverse operands)
 
 -- the innermost frame that waits
 pub frames_back : (ws : List Waiting) (w : Waiting) (vs : List Arg) → widths (ws ++ w ∷ []) ≡ length vs
@@ -78,11 +80,11 @@ frames_back ws w vs e =
 
 -- a frame waits whose values were put behind the row
 pub suspended : (ws new : List Waiting) (vs now : List Arg) (f : Frame) (a o : ℕ) → widths ws ≡ length vs
-    → new ≡ ws ++ record { handler = f.handler; place = f.place; left = f.left; args = a; operands = o } ∷ []
+    → new ≡ ws ++ record { handler = f.handler; place = f.place; turns = f.turns; left = f.left; args = a; operands = o } ∷ []
     → now ≡ vs ++ (f.args ++ reverse f.operands) → a ≡ length f.args → o ≡ length f.operands
     → frames_of new now ≡ frames_of ws vs ++ f ∷ []
 suspended ws new vs now f a o size more behind is_a is_o =
-    let w : Waiting = record { handler = f.handler; place = f.place; left = f.left; args = a; operands = o } in
+    let w : Waiting = record { handler = f.handler; place = f.place; turns = f.turns; left = f.left; args = a; operands = o } in
     ap (λ us. frames_of us now) more
     ∙ ap (frames_of (ws ++ w ∷ [])) behind
     ∙ frames_on ws w vs (f.args ++ reverse f.operands) size
@@ -116,11 +118,12 @@ pub resumed : (us ws : List Waiting) (w : Waiting) (vs now args operands : List 
       handler = w.handler;
       args = args;
       place = w.place;
+      turns = w.turns;
       left = w.left;
       operands = operands;
     } ∷ []
 resumed us ws w vs now args operands is size kept is_a is_o =
-    let last : List Arg → List Arg → Frame = λ xs ys. record { handler = w.handler; args = xs; place = w.place; left = w.left; operands = ys } in
+    let last : List Arg → List Arg → Frame = λ xs ys. record { handler = w.handler; args = xs; place = w.place; turns = w.turns; left = w.left; operands = ys } in
     ap (λ xs. frames_of xs vs) is
     ∙ frames_back ws w vs (sym (ap widths is) ∙ size)
     ∙ ap (λ xs. frames_of ws xs ++ frame_of w (drop (length vs - width w) vs) ∷ []) (sym kept)

@@ -3,6 +3,7 @@ pub mod Operand
 pub mod Values
 pub mod CallLine
 pub mod Effect
+pub mod Position
 pub mod Meaning
 pub mod Memory
 pub mod Action

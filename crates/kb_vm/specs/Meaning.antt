@@ -1,5 +1,5 @@
 -- What a start does, written with calls as recursion: no frames and no meter.
-use Rattle.std.specs.Prelude.{◌≡◌, ℕ, zero, suc, ◌+◌, ◌-◌, nat_le, nat_lt, if◌then◌else◌, List, [], ◌∷◌, ◌++◌}
+use Rattle.std.specs.Prelude.{◌≡◌, ℕ, zero, suc, ◌-◌, nat_le, nat_lt, if◌then◌else◌, List, [], ◌∷◌, ◌++◌}
 use Rattle.std.specs.Prelude.{Option, Some, None, option_map, slice_get}
 use Rattle.kb_core.specs.declared.arg.Arg.{Arg}
 use Rattle.kb_core.specs.declared.native.Native.{Native}
@@ -13,6 +13,7 @@ use Rattle.kb_vm.specs.declared.trap.Trap.TheVariants.{WrongArgument, OutOfBudge
 use Rattle.kb_vm.specs.CallLine.{call_line}
 use Rattle.kb_codes.specs.Callee.{Callee, Plain, Coded, Table, declared_by}
 use Rattle.kb_vm.specs.Effect.{Effect, Stop, Leave, Next, Goto, Enter, effect}
+use Rattle.kb_vm.specs.Position.{Position, outset, moved, passed}
 
 -- an instruction that is begun: what it does, and what its frame may still spend behind it
 pub record Step : Type 0 where
@@ -62,49 +63,49 @@ fetched None left stuck on = stuck BadCode
 fetched (Some instr) zero stuck on = stuck OutOfBudget
 fetched (Some instr) (suc left) stuck on = on instr left
 
--- what runs a handler on: its arguments, its allowance, the place, the operands and the world
+-- what runs a handler on: its arguments, its allowance, where it stands, and the world
 abbrev pub Runner : Type 0
-Runner = HandlerData → List Arg → ℕ → ℕ → List Arg → World → Answer
+Runner = HandlerData → List Arg → ℕ → Position → World → Answer
 
 -- a callee as one value
 abbrev pub run_callee : Runner → Callee → List Arg → World → Answer
 run_callee run (Plain native) args w = Done (native_called native args w)
-run_callee run (Coded g) args w = run g args g.signature.budget 0 [] w
+run_callee run (Coded g) args w = run g args g.signature.budget outset w
 
 -- what follows an instruction's effect, by what is left of the allowance
-abbrev pub follow : Runner → HandlerData → List Arg → ℕ → ℕ → World → Effect → Answer
-follow run h args left place w (Stop trap) = Stuck trap h.command place w
-follow run h args left place w Leave = Done w
-follow run h args left place w (Next operands) = run h args left (place + 1) operands w
-follow run h args left place w (Goto to operands) =
-    if nat_lt place to then run h args left to operands w else Stuck BadCode h.command place w
-follow run h args left place w (Enter name callee given operands) =
+abbrev pub follow : Runner → HandlerData → List Arg → ℕ → Position → World → Effect → Answer
+follow run h args left at w (Stop trap) = Stuck trap h.command at.place w
+follow run h args left at w Leave = Done w
+follow run h args left at w (Next operands) = run h args left (passed at operands) w
+follow run h args left at w (Goto to operands) =
+    if nat_lt at.place to then run h args left (moved at to operands) w else Stuck BadCode h.command at.place w
+follow run h args left at w (Enter name callee given operands) =
     if nat_le (declared_by callee).budget left
     then and_then (run_callee run callee given (with_line name given w))
-    (λ v. run h args (left - (declared_by callee).budget) (place + 1) operands v)
-    else Stuck OutOfBudget h.command place w
+    (λ v. run h args (left - (declared_by callee).budget) (passed at operands) v)
+    else Stuck OutOfBudget h.command at.place w
 
 -- one instruction
 abbrev pub step : Table → Runner → Runner
-step table run h args left place operands w =
-    fetched (slice_get h.code place) left (λ trap. Stuck trap h.command place w) (λ instr rest.
-    let e = effect table h args w.core operands instr in
-    follow run h args rest place (with_step instr rest e w) e)
+step table run h args left at w =
+    fetched (slice_get h.code at.place) left (λ trap. Stuck trap h.command at.place w) (λ instr rest.
+    let e = effect table h args w.core at.operands instr in
+    follow run h args rest at (with_step instr rest e w) e)
 
 -- Runs a handler on. Each turn takes at least 1 from the allowance, and a callee's budget is less than the
 -- caller's allowance, so a bound above the allowance is never reached.
 abbrev pub go : ℕ → Table → Runner
-go zero table h args left place operands w = Stuck OutOfBudget h.command place w
-go (suc n) table h args left place operands w = step table (go n table) h args left place operands w
+go zero table h args left at w = Stuck OutOfBudget h.command at.place w
+go (suc n) table h args left at w = step table (go n table) h args left at w
 
 -- with bound enough
 unfoldable pub run : Table → Runner
-run table h args left place operands w = go (suc left) table h args left place operands w
+run table h args left at w = go (suc left) table h args left at w
 
 -- a run is one instruction, and then a run: nobody need trust the bound
 abbrev pub RunsByStep : Type 0
-RunsByStep = (table : Table) (h : HandlerData) (args : List Arg) (left place : ℕ) (operands : List Arg)
-    (w : World) → run table h args left place operands w ≡ step table (run table) h args left place operands w
+RunsByStep = (table : Table) (h : HandlerData) (args : List Arg) (left : ℕ) (at : Position) (w : World)
+    → run table h args left at w ≡ step table (run table) h args left at w
 
 -- a live command from the start, where its arguments fit it
 abbrev pub start_callee : Table → List ℕ → Callee → List Arg → World → Answer

@@ -17,14 +17,19 @@ use Rattle.kb_vm.specs.declared.machine.Paused.{Paused}
 use Rattle.kb_vm.specs.declared.machine.Turn.{Turn}
 use Rattle.kb_vm.specs.declared.machine.Turn.TheVariants as turn
 use Rattle.kb_codes.specs.Callee.{Callee, Table, declared_by}
-use Rattle.kb_vm.specs.Effect.{Effect, Enter, called, effect, topmost}
-use Rattle.kb_vm.specs.Meaning.{World, Answer, Done, Stuck, and_then, run, follow, native_called, with_step}
+use Rattle.kb_vm.specs.Effect.{Effect, Enter, called, topmost}
+use Rattle.kb_vm.specs.Meaning.{World, Answer, Done, Stuck, and_then, run, follow, native_called}
 use Rattle.kb_vm.specs.Memory.{RefusedLast, goes_on}
 use Rattle.kb_vm.specs.Outcome.{Shows, Precedes, world_of}
+use Rattle.kb_vm.specs.Position.{Position, outset, moved}
+
+-- where a frame stands
+abbrev pub position_of : Frame → Position
+position_of f = record { place = f.place; turns = f.turns; operands = f.operands }
 
 -- what a frame goes on with
 abbrev pub resume : Table → Frame → World → Answer
-resume table f w = run table f.handler f.args f.left f.place f.operands w
+resume table f w = run table f.handler f.args f.left (position_of f) w
 
 -- what the waiting frames, the outermost first, make of the innermost one's answer
 abbrev pub finish : Table → List Frame → Answer → Answer
@@ -66,7 +71,7 @@ Pays m (turn.NoMemory n) = Spends m n
 abbrev pub rest_of : Table → Machine → Effect → World → Answer
 rest_of table m e w =
     finish table m.callers
-    (follow (run table) m.frame.handler m.frame.args m.frame.left m.frame.place w e)
+    (follow (run table) m.frame.handler m.frame.args m.frame.left (position_of m.frame) w e)
 
 -- what is left to do, where a native is called first
 abbrev pub after_native : Table → Machine → Native → List Arg → World → Answer
@@ -76,7 +81,7 @@ after_native table m native args w = rest table m (native_called native args w)
 abbrev pub after_coded : Table → Machine → HandlerData → List Arg → World → Answer
 after_coded table m h args w =
     finish table m.callers
-    (and_then (run table h args h.signature.budget 0 [] w) (resume table m.frame))
+    (and_then (run table h args h.signature.budget outset w) (resume table m.frame))
 
 -- the same, where a command is called with the topmost operands
 abbrev pub after_call : Table → Machine → List ℕ → Callee → World → Answer
@@ -121,20 +126,25 @@ pub record Begun (n : ℕ) (w v : World) : Type 0 where
   pub natives : v.natives ≡ w.natives
   pub steps : length v.steps ≡ length w.steps + n
 
--- what a frame that pauses at a place leaves of an answer that was still to come
-abbrev pub PausedFrom : Table → HandlerData → List Arg → List Arg → Answer → World → ℕ → ℕ → Pause → Type 0
-PausedFrom table h args operands a v place left (pause.Stop trap) = a ≡ Stuck trap h.command place v
-PausedFrom table h args operands a v place left pause.Leave = a ≡ Done v
-PausedFrom table h args operands a v place left (pause.Call index) =
-    let e = called table h.signature.depth (slice_get h.calls index) operands in
-    CallMayBeRefused left e v × (a ≡ follow (run table) h args left place v e)
-PausedFrom table h args operands a v place left pause.NoMemory = Precedes v (world_of a) × RefusedLast v
+-- what a frame that pauses where it stands leaves of an answer that was still to come
+abbrev pub PausedFrom : Table → HandlerData → List Arg → Position → Answer → World → ℕ → Pause → Type 0
+PausedFrom table h args at a v left (pause.Stop trap) = a ≡ Stuck trap h.command at.place v
+PausedFrom table h args at a v left pause.Leave = a ≡ Done v
+PausedFrom table h args at a v left (pause.Call index) =
+    let e = called table h.signature.depth (slice_get h.calls index) at.operands in
+    CallMayBeRefused left e v × (a ≡ follow (run table) h args left at v e)
+PausedFrom table h args at a v left pause.NoMemory = Precedes v (world_of a) × RefusedLast v
 
--- a frame runs from a place with an allowance and operands up to where it pauses, whatever commands are live
+-- a frame runs from where it stands with an allowance up to where it pauses, whatever commands are live
+abbrev pub PausesAt : HandlerData → List Arg → Core → Position → ℕ → List Arg → Paused → Type 0
+PausesAt h args core at left after p =
+    (table : Table) (w : World) → w.core ≡ core → (v : World) × Begun (left - p.left) w v
+    × PausedFrom table h args (moved at p.place after) (run table h args left at w) v p.left p.why
+
+-- the same from a place with operands, whatever blocks are open: no instruction opens or closes one
 abbrev pub Pauses : HandlerData → List Arg → Core → List Arg → ℕ → ℕ → List Arg → Paused → Type 0
 Pauses h args core operands place left after p =
-    (table : Table) (w : World) → w.core ≡ core → (v : World) × Begun (left - p.left) w v
-    × PausedFrom table h args after (run table h args left place operands w) v p.place p.left p.why
+    (turns : List ℕ) → PausesAt h args core (record { place = place; turns = turns; operands = operands }) left after p
 
 -- where there is an instruction at which a frame pauses, it was paid for
 abbrev pub IsPaid : ℕ → ℕ → ℕ → Pause → Type 0
@@ -147,9 +157,8 @@ IsPaid before place left pause.NoMemory = left < before
 pub record Begins (h : HandlerData) (args : List Arg) (core : Core) (m : Machine) : Type 0 where
   pub handler_is : m.frame.handler ≡ h
   pub args_are : m.frame.args ≡ args
-  pub first_place : m.frame.place ≡ 0
+  pub at_outset : position_of m.frame ≡ outset
   pub whole_budget : m.frame.left ≡ h.signature.budget
-  pub no_operands : m.frame.operands ≡ []
   pub no_callers : m.callers ≡ []
   pub core_is : m.core ≡ core
   pub no_lines : m.lines ≡ []

@@ -15,6 +15,7 @@ frame_of w values = record {
   handler = w.handler;
   args = take w.args values;
   place = w.place;
+  turns = w.turns;
   left = w.left;
   operands = reverse (take w.operands (drop w.args values));
 }

@@ -4,6 +4,7 @@ ghost use Rattle.std.specs.Prelude.{◌≡◌, ◌≤◌, ◌<◌, ◌+◌, ◌-
 ghost use Rattle.std.specs.Prelude.{IfOk, OnOk, MatchResult, vec_capacity};
 ghost use Rattle.kb_vm.specs.Operand.{arg_of};
 
+use crate::blocks::Turns;
 use crate::given::Given;
 use crate::machine::Frame;
 use crate::operands::{Operand, Operands};
@@ -20,6 +21,7 @@ const ROOM: usize = 72;
 pub(crate) struct Waiting<'r> {
     pub handler: Linked<'r>,
     pub place: usize,
+    pub turns: Turns,
     pub left: u32,
     /// How many arguments it has.
     pub args: usize,
@@ -94,12 +96,14 @@ impl<'r, 'a> Callers<'r, 'a> {
             handler,
             args,
             place,
+            turns,
             left,
             mut operands,
         } = frame;
         self.waiting.push_reserved(Waiting {
             handler,
             place,
+            turns,
             left,
             args: args.as_slice().len(),
             operands: operands.len(),
@@ -122,6 +126,7 @@ impl<'r, 'a> Callers<'r, 'a> {
             handler: _,
             mut args,
             place: _,
+            turns: _,
             left: _,
             mut operands,
         } = done;
@@ -136,6 +141,7 @@ impl<'r, 'a> Callers<'r, 'a> {
             handler: waiting.handler,
             args,
             place: waiting.place,
+            turns: waiting.turns,
             left: waiting.left,
             operands,
         })

@@ -3,6 +3,7 @@
 
 mod action;
 mod arena;
+mod blocks;
 mod call_line;
 mod callers;
 mod given;

@@ -11,12 +11,14 @@ ghost use Rattle.kb_vm.specs.Leave.{Left};
 ghost use Rattle.kb_vm.specs.Meaning.{World, run, first_world};
 ghost use Rattle.kb_vm.specs.Outcome.{Shows, Ends};
 ghost use Rattle.kb_vm.specs.Memory.{RefusedLast};
+ghost use Rattle.kb_vm.specs.Position.{outset};
 ghost use Rattle.kb_vm.specs.State.{Begins, Turned, TurnedFrom, Pays, PaysFrom, after_native, after_coded};
 ghost use Rattle.kb_vm.specs.State.{rest_of, credit, after_call, fetched_at, called_by};
 ghost use Rattle.kb_vm.specs.State.{CallMayBeRefused, IsPaid, Pauses};
 
 use crate::action::{Action, Called, call, index_of, perform};
 use crate::arena::Arena;
+use crate::blocks::Turns;
 use crate::call_line::call_line;
 use crate::callers::Callers;
 use crate::given::Given;
@@ -35,6 +37,7 @@ pub(crate) struct Frame<'r, 'a> {
     pub handler: Linked<'r>,
     pub args: Given<'a>,
     pub place: usize,
+    pub turns: Turns,
     pub left: u32,
     pub operands: Operands<'a>,
 }
@@ -227,6 +230,7 @@ fn enter_coded<'r, 'a>(
                 handler,
                 args: given,
                 place: 0,
+                turns: Turns::none(),
                 left,
                 operands,
             },
@@ -416,6 +420,7 @@ fn take_turn<'r: 'a, 'a, L: Commands>(
         handler,
         args,
         place,
+        turns,
         left,
         mut operands,
     } = frame;
@@ -425,6 +430,7 @@ fn take_turn<'r: 'a, 'a, L: Commands>(
             handler,
             args,
             place: paused.place,
+            turns,
             left: paused.left,
             operands,
         },
@@ -463,6 +469,7 @@ fn begin<'r, 'a>(
                 handler,
                 args,
                 place: 0,
+                turns: Turns::none(),
                 left,
                 operands,
             },
@@ -486,7 +493,7 @@ pub(crate) fn run_handler<'r: 'a, 'a, L: Commands>(
 ) -> Outcome<'r>
     requires { is_ok (fetched_at (slice_get handler.code 0) handler.signature.budget) ≡ true }
     ensures ends { Ends core (run (L.live commands.now) handler.entry args.entry
-        handler.entry.signature.budget 0 [] (first_world core)) result result.finish }
+        handler.entry.signature.budget outset (first_world core)) result result.finish }
     ensures bound { result.spent ≤ handler.entry.signature.budget }
 {
     let mut machine = match begin(alloc, handler, args, core) {

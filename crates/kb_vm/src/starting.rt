@@ -7,6 +7,7 @@ ghost use Rattle.kb_codes.specs.Callee.{IsLive, declared_by};
 ghost use Rattle.kb_codes.specs.Found.{callee_of};
 ghost use Rattle.kb_vm.specs.Meaning.{Done, first_world, native_called, run, start_callee, start_of};
 ghost use Rattle.kb_vm.specs.Outcome.{Ends, Gives};
+ghost use Rattle.kb_vm.specs.Position.{outset};
 ghost use Rattle.kb_vm.specs.State.{fetched_at};
 
 use crate::arena::Arena;
@@ -88,7 +89,7 @@ fn start_handler<'r, L: Commands>(
     core: Core,
 ) -> Outcome<'r>
     ensures ends { Ends core (run (L.live commands.now) handler.entry args
-        handler.entry.signature.budget 0 [] (first_world core)) result result.finish }
+        handler.entry.signature.budget outset (first_world core)) result result.finish }
     ensures bound { result.spent ≤ handler.entry.signature.budget }
 {
     let begun = handler.handler();
@@ -111,7 +112,7 @@ fn start_begun<'r, L: Commands>(
 ) -> Outcome<'r>
     requires { is_ok (fetched_at (slice_get handler.code 0) handler.signature.budget) ≡ true }
     ensures ends { Ends core (run (L.live commands.now) handler.entry args
-        handler.entry.signature.budget 0 [] (first_world core)) result result.finish }
+        handler.entry.signature.budget outset (first_world core)) result result.finish }
     ensures bound { result.spent ≤ handler.entry.signature.budget }
 {
     let arena = Arena::new(alloc);

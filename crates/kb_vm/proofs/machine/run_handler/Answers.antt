@@ -1,5 +1,6 @@
-use Rattle.std.proofs.Common.{inl, inr, refl, sym, subst, []}
+use Rattle.std.proofs.Common.{inl, inr, refl, sym, subst}
 use Rattle.kb_vm.specs.Meaning.{run, first_world}
+use Rattle.kb_vm.specs.Position.{outset}
 use Rattle.kb_vm.specs.Outcome.{Ends, Precedes, world_of}
 use Rattle.kb_vm.proofs.Frames.{run_keeps}
 use Rattle.kb_vm.proofs.Begun.{first_begun}
@@ -13,7 +14,7 @@ returns-in-Err-clause-ends g c =
     let w = first_world c.args.core in (
       w,
       unspent_shows c.args.core _ _ 0 c.in-Err.ensures.err c.new.ensures refl,
-      run_keeps (g.L.Commands.live c.args.commands.now) h c.args.args h.signature.budget 0 [] w,
+      run_keeps (g.L.Commands.live c.args.commands.now) h c.args.args h.signature.budget outset w,
       inl (refl, first_begun (g.L.Commands.live c.args.commands.now) h c.args.args w c.requires),
     )
 
@@ -34,7 +35,7 @@ loop-next-init g c =
 pub returns-in-NoMemory-clause-ends : goal.returns-in-NoMemory-clause-ends
 returns-in-NoMemory-clause-ends g c =
     let h = c.args.handler in
-    let a = run (g.L.Commands.live c.args.commands.now) h c.args.args h.signature.budget 0 [] (first_world c.args.core) in
+    let a = run (g.L.Commands.live c.args.commands.now) h c.args.args h.signature.budget outset (first_world c.args.core) in
     let f = c.loop-next.invariant.follows in
     let o = c.ended_with-in-NoMemory in
     let n = c.in-NoMemory.last in

@@ -1,6 +1,7 @@
-use Rattle.std.proofs.Common.{◌≡◌, ◌∙◌, ap, sym, subst, [], rules}
+use Rattle.std.proofs.Common.{◌≡◌, ◌∙◌, ap, sym, subst, rules}
 use Rattle.std.specs.Prelude.{is_ok, slice_get}
 use Rattle.kb_vm.specs.Meaning.{Stuck, first_world, run}
+use Rattle.kb_vm.specs.Position.{outset}
 use Rattle.kb_vm.specs.Outcome.{Ends}
 use Rattle.kb_vm.specs.State.{fetched_at}
 use Rattle.kb_vm.proofs.Begun.{first_stuck}
@@ -21,7 +22,7 @@ returns-in-Err-clause-ends g c =
     let t = g.L.Commands.live c.args.commands.now in
     let h = c.args.handler in
     let w = first_world c.args.core in
-    let a = run t h c.args.args h.signature.budget 0 [] w in
+    let a = run t h c.args.args h.signature.budget outset w in
     let o = c.unspent in
     let left : c.budget.result ≡ h.signature.budget = search rules in
     let named : c.as_str-command.result.now ≡ h.command = search rules in

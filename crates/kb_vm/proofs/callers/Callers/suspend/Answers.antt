@@ -13,7 +13,7 @@ invariant_of-self-2 c =
     let f = c.args.frame in
     let ws = c.self.inside.waiting.items in
     let vs = map arg_of c.self.inside.values.items in
-    let w : Waiting = record { handler = f.handler; place = f.place; left = f.left; args = length c.as_slice-2.result.now; operands = c.len-2.result } in
+    let w : Waiting = record { handler = f.handler; place = f.place; turns = f.turns; left = f.left; args = length c.as_slice-2.result.now; operands = c.len-2.result } in
     let more = c.push_reserved.ensures.items ∙ ap (λ us. us ++ w ∷ []) c.make_room.ensures.waiting in
     let behind = c.save.ensures ∙ ap (λ xs. map arg_of xs ++ (f.args ++ reverse f.operands)) c.make_room.ensures.values in
     let args = sym (length-map c.as_slice-2.result.now arg_of) ∙ ap length c.as_slice-2.ensures.items in
@@ -27,7 +27,7 @@ returns c =
     let f = c.args.frame in
     let ws = c.self.inside.waiting.items in
     let vs = map arg_of c.self.inside.values.items in
-    let w : Waiting = record { handler = f.handler; place = f.place; left = f.left; args = length c.as_slice-2.result.now; operands = c.len-2.result } in
+    let w : Waiting = record { handler = f.handler; place = f.place; turns = f.turns; left = f.left; args = length c.as_slice-2.result.now; operands = c.len-2.result } in
     let more = c.push_reserved.ensures.items ∙ ap (λ us. us ++ w ∷ []) c.make_room.ensures.waiting in
     let behind = c.save.ensures ∙ ap (λ xs. map arg_of xs ++ (f.args ++ reverse f.operands)) c.make_room.ensures.values in
     let args = sym (length-map c.as_slice-2.result.now arg_of) ∙ ap length c.as_slice-2.ensures.items in (
