@@ -1,5 +1,5 @@
 -- What is had of the files in extensions' directories.
-use Rattle.std.specs.Prelude.{◌≡◌, ◌⊎◌, ⊤, ℕ, List, [], ◌∷◌, Option, Ok, Err, option_map}
+use Rattle.std.specs.Prelude.{◌⊎◌, ⊤, ℕ, List, [], ◌∷◌, Option, Ok, Err, option_map}
 use Rattle.std.specs.Borrow.{Bor}
 use Rattle.kb_bindings.specs.Load.{ExtensionBytes}
 use Rattle.kb_ending.specs.Files.{Held, HasHandlers, HasManifest}

@@ -26,7 +26,7 @@ use Rattle.kb_rules.specs.declared.origin.Origin.TheVariants.{User}
 use Rattle.kb_session.specs.Press.{press_started, rule_started}
 use Rattle.kb_session.specs.State.{State, Told, Stepped, happens, reload, register, dispose, stops}
 use Rattle.kb_session.specs.State.{taken_unless, refusal_of, reloaded, registering, disposing, disposing_unless}
-use Rattle.kb_session.specs.State.{step, step_on, step_unless, RunsOn}
+use Rattle.kb_session.specs.State.{step_on, step_unless, RunsOn}
 use Rattle.kb_sound.specs.Sound.{IsDone}
 use Rattle.kb_sound.specs.Stays.{IsSound}
 use Rattle.kb_sound.proofs.NeverStuck.{starts_never_stuck}

@@ -1,5 +1,5 @@
 -- What the calls of a session do to it.
-use Rattle.std.specs.Prelude.{◌≡◌, ◌⊎◌, ◌||◌, ℕ, Bool, true, false, List, [], ◌∷◌}
+use Rattle.std.specs.Prelude.{◌≡◌, ◌⊎◌, ◌||◌, Bool, true, false, List, [], ◌∷◌}
 use Rattle.std.specs.Prelude.{Result, Ok, Err}
 use Rattle.kb_context.specs.Failure.{Fails}
 use Rattle.kb_context.specs.Reading.{◌>>=◌, seen}

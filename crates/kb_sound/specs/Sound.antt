@@ -1,5 +1,5 @@
 -- Verified handlers never get stuck.
-use Rattle.std.specs.Prelude.{◌≡◌, ℕ, true, List, [], Option, Some, IfSome}
+use Rattle.std.specs.Prelude.{◌≡◌, ℕ, true, List, Option, Some, IfSome}
 use Rattle.std.specs.Prelude.{option_map, option_and_then, slice_get}
 use Rattle.kb_core.specs.declared.arg.Arg.{Arg}
 use Rattle.kb_core.specs.declared.run.Core.{Core}
