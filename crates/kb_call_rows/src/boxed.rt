@@ -77,26 +77,61 @@ fn start<C: HostCommand>(
     }
 }
 
-// What each step answers, where three registrations may be made: `+` registers, `t` starts `type`, and a
-// digit disposes of its ticket.
-fn told<C: HostCommand>(alloc: Global, mut shelf: Vec<C>, steps: &str) -> Result<String, NoMemory> {
-    let mut core = window(alloc)?;
-    let mut registry = Registry::new(alloc, 3)?;
-    let mut said = String::new(alloc);
+/// What steps are tried on.
+#[derive(Drop)]
+struct Bench<C: HostCommand> {
+    core: HeldCore,
+    registry: Registry<C>,
+    shelf: Vec<C>,
+}
+
+// A bench with these closures on its shelf, where three registrations may be made.
+fn bench_with<C: HostCommand>(alloc: Global, shelf: Vec<C>) -> Result<Bench<C>, NoMemory> {
+    let registry = Registry::new(alloc, 3)?;
+    let core = window(alloc)?;
+    Ok(Bench {
+        core,
+        registry,
+        shelf,
+    })
+}
+
+// What a step answers: `+` registers, `t` starts `type`, and a digit disposes of its ticket.
+fn answer<C: HostCommand>(alloc: Global, bench: &mut Bench<C>, step: u8) -> Result<u64, NoMemory> {
+    match step {
+        b'+' => register(&mut bench.registry, &mut bench.shelf),
+        b't' => start(alloc, &bench.registry, &mut bench.core),
+        b'1' => dispose(&mut bench.registry, &mut bench.shelf, 1),
+        b'2' => dispose(&mut bench.registry, &mut bench.shelf, 2),
+        _ => dispose(&mut bench.registry, &mut bench.shelf, 3),
+    }
+}
+
+fn add_answers<C: HostCommand>(
+    alloc: Global,
+    bench: &mut Bench<C>,
+    steps: &str,
+    said: &mut String,
+) -> Result<(), NoMemory> {
     for step in steps.bytes() {
-        let answer = match step {
-            b'+' => register(&mut registry, &mut shelf)?,
-            b't' => start(alloc, &registry, &mut core)?,
-            b'1' => dispose(&mut registry, &mut shelf, 1)?,
-            b'2' => dispose(&mut registry, &mut shelf, 2)?,
-            _ => dispose(&mut registry, &mut shelf, 3)?,
-        };
         if !said.is_empty() {
             said.push(' ')?;
         }
+        let answer = answer(alloc, bench, step)?;
         write!(said, "{answer}")?;
     }
-    Ok(said)
+    Ok(())
+}
+
+// Adds what each step answers over a shelf.
+fn add_told<C: HostCommand>(
+    alloc: Global,
+    shelf: Vec<C>,
+    steps: &str,
+    said: &mut String,
+) -> Result<(), NoMemory> {
+    let mut bench = bench_with(alloc, shelf)?;
+    add_answers(alloc, &mut bench, steps, said)
 }
 
 /// What `type` does, at its whole budget.
@@ -145,5 +180,7 @@ pub(crate) fn steps(alloc: Global, steps: &str) -> Result<String, NoMemory> {
     let mut shelf = Vec::new(alloc);
     shelf.push(NativeCommand::new(Native::TypeText, dear))?;
     shelf.push(NativeCommand::new(Native::TypeText, refused))?;
-    told(alloc, shelf, steps)
+    let mut said = String::new(alloc);
+    add_told(alloc, shelf, steps, &mut said)?;
+    Ok(said)
 }

@@ -97,19 +97,42 @@ pub(crate) fn unread(alloc: Global, text: &str) -> Result<String, NoMemory> {
     }
 }
 
-/// The number of a text's fault, and those of the text with each of some tokens behind it.
-pub(crate) fn behind(alloc: Global, tokens: &str, text: &str) -> Result<String, NoMemory> {
-    let mut said = String::new(alloc);
-    let text = format!(in alloc; "{text} ")?;
-    let text = text.as_str();
-    add_fault_of(alloc, text, &mut said)?;
+fn add_fault_with(
+    alloc: Global,
+    text: &str,
+    token: &str,
+    said: &mut String,
+) -> Result<(), NoMemory> {
+    let longer = format!(in alloc; "{text}{token} ")?;
+    said.push(' ')?;
+    add_fault_of(alloc, longer.as_str(), said)
+}
+
+fn add_faults_with(
+    alloc: Global,
+    text: &str,
+    tokens: &str,
+    said: &mut String,
+) -> Result<(), NoMemory> {
     said.push(':')?;
     for token in tokens.split(' ') {
-        said.push(' ')?;
-        let longer = format!(in alloc; "{text}{token} ")?;
-        add_fault_of(alloc, longer.as_str(), &mut said)?;
+        add_fault_with(alloc, text, token, said)?;
     }
+    Ok(())
+}
+
+// Of a text that ends in a blank.
+fn faults_with(alloc: Global, tokens: &str, text: &str) -> Result<String, NoMemory> {
+    let mut said = String::new(alloc);
+    add_fault_of(alloc, text, &mut said)?;
+    add_faults_with(alloc, text, tokens, &mut said)?;
     Ok(said)
+}
+
+/// The number of a text's fault, and those of the text with each of some tokens behind it.
+pub(crate) fn behind(alloc: Global, tokens: &str, text: &str) -> Result<String, NoMemory> {
+    let text = format!(in alloc; "{text} ")?;
+    faults_with(alloc, tokens, text.as_str())
 }
 
 // It doesn't matter which of the two is compared with the other.

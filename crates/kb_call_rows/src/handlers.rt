@@ -117,19 +117,27 @@ fn code_fault(alloc: Global, failure: Failure<CodeFault>) -> Result<String, NoMe
     Ok(said)
 }
 
-// Each instruction, and the bytes that they are written as.
-fn spelled(alloc: Global, code: &[Instr]) -> Result<String, NoMemory> {
-    let mut said = String::new(alloc);
-    if code.is_empty() {
-        said.push_str("no instructions")?;
-        return Ok(said);
-    }
+fn add_instrs(said: &mut String, code: &[Instr]) -> Result<(), NoMemory> {
     for instr in code {
         write!(said, "{instr:?} ")?;
     }
+    Ok(())
+}
+
+fn add_spelled(alloc: Global, said: &mut String, code: &[Instr]) -> Result<(), NoMemory> {
+    add_instrs(said, code)?;
     let digits = digits_of(alloc, code)?;
     let digits = digits.as_str();
-    write!(said, "= {digits}")?;
+    write!(said, "= {digits}")
+}
+
+// Each instruction, and the bytes that they are written as.
+fn spelled(alloc: Global, code: &[Instr]) -> Result<String, NoMemory> {
+    if code.is_empty() {
+        return String::from_str(alloc, "no instructions");
+    }
+    let mut said = String::new(alloc);
+    add_spelled(alloc, &mut said, code)?;
     Ok(said)
 }
 
@@ -155,18 +163,23 @@ fn handler_of(alloc: Global, calls: usize, code: Seq<Instr>) -> Result<Handler, 
     Ok(Handler::new(command, signature, Seq::new(alloc), names, code))
 }
 
-fn called(alloc: Global, handler: &Handler) -> Result<String, NoMemory> {
-    let callees = handler.callees(alloc)?;
-    let mut said = String::new(alloc);
-    for index in callees.as_slice() {
+fn add_indices(said: &mut String, indices: &[u16]) -> Result<(), NoMemory> {
+    for index in indices {
         if !said.is_empty() {
             said.push(' ')?;
         }
         write!(said, "{index}")?;
     }
-    if said.is_empty() {
-        said.push_str("none")?;
+    Ok(())
+}
+
+fn called(alloc: Global, handler: &Handler) -> Result<String, NoMemory> {
+    let callees = handler.callees(alloc)?;
+    if callees.as_slice().is_empty() {
+        return String::from_str(alloc, "none");
     }
+    let mut said = String::new(alloc);
+    add_indices(&mut said, callees.as_slice())?;
     Ok(said)
 }
 

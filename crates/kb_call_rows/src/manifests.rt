@@ -1,6 +1,6 @@
 //! Manifests: what is read of an extension's `package.json`, in one line.
 use crate::answers::fault;
-use kb_context::{Failure, NoMemory};
+use kb_context::{Failure, NoMemory, Text};
 use kb_json::FileFault;
 use kb_jsonc::read;
 use kb_manifest::{Command, Manifest, Notes, PaletteItem};
@@ -92,19 +92,29 @@ fn add_unread(said: &mut String, notes: &Notes) -> Result<(), NoMemory> {
     Ok(())
 }
 
-fn said_of(alloc: Global, manifest: &Manifest) -> Result<String, NoMemory> {
-    let mut said = String::from_str(alloc, manifest.id.as_str())?;
-    for dependency in manifest.dependencies.as_slice() {
+fn add_head(said: &mut String, id: &str, dependencies: &[Text]) -> Result<(), NoMemory> {
+    said.push_str(id)?;
+    for dependency in dependencies {
         let dependency = dependency.as_str();
         write!(said, "; depends on {dependency}")?;
     }
-    add_commands(alloc, &mut said, manifest)?;
-    add_rules(alloc, &mut said, manifest.keybindings.as_slice())?;
-    add_items(alloc, &mut said, manifest.palette.as_slice())?;
-    add_warnings(&mut said, &manifest.command_notes)?;
-    add_warnings(&mut said, &manifest.palette_notes)?;
-    add_unread(&mut said, &manifest.command_notes)?;
-    add_unread(&mut said, &manifest.palette_notes)?;
+    Ok(())
+}
+
+fn add_all(alloc: Global, said: &mut String, manifest: &Manifest) -> Result<(), NoMemory> {
+    add_head(said, manifest.id.as_str(), manifest.dependencies.as_slice())?;
+    add_commands(alloc, said, manifest)?;
+    add_rules(alloc, said, manifest.keybindings.as_slice())?;
+    add_items(alloc, said, manifest.palette.as_slice())?;
+    add_warnings(said, &manifest.command_notes)?;
+    add_warnings(said, &manifest.palette_notes)?;
+    add_unread(said, &manifest.command_notes)?;
+    add_unread(said, &manifest.palette_notes)
+}
+
+fn said_of(alloc: Global, manifest: &Manifest) -> Result<String, NoMemory> {
+    let mut said = String::new(alloc);
+    add_all(alloc, &mut said, manifest)?;
     Ok(said)
 }
 

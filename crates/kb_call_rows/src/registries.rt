@@ -127,16 +127,35 @@ fn call(alloc: Global, registry: &mut Registry<Command>, text: &str) -> Result<S
     }
 }
 
-/// What calls answer, in order, of a registry that begins empty and takes so many registrations.
-pub(crate) fn calls(alloc: Global, limit: &str, text: &str) -> Result<String, NoMemory> {
-    let mut registry = Registry::new(alloc, limit.parse::<u64>().unwrap_or(0))?;
-    let mut said = String::new(alloc);
+fn add_answer(
+    alloc: Global,
+    registry: &mut Registry<Command>,
+    text: &str,
+    said: &mut String,
+) -> Result<(), NoMemory> {
+    let answer = call(alloc, registry, text)?;
+    said.push_str(answer.as_str())
+}
+
+fn add_answers(
+    alloc: Global,
+    registry: &mut Registry<Command>,
+    text: &str,
+    said: &mut String,
+) -> Result<(), NoMemory> {
     for one in text.split(", ") {
         if !said.is_empty() {
             said.push_str(", ")?;
         }
-        let answer = call(alloc, &mut registry, one)?;
-        said.push_str(answer.as_str())?;
+        add_answer(alloc, registry, one, said)?;
     }
+    Ok(())
+}
+
+/// What calls answer, in order, of a registry that begins empty and takes so many registrations.
+pub(crate) fn calls(alloc: Global, limit: &str, text: &str) -> Result<String, NoMemory> {
+    let mut registry = Registry::new(alloc, limit.parse::<u64>().unwrap_or(0))?;
+    let mut said = String::new(alloc);
+    add_answers(alloc, &mut registry, text, &mut said)?;
     Ok(said)
 }

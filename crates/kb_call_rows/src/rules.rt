@@ -114,18 +114,26 @@ fn lent_lists(alloc: Global, lists: &[RuleList]) -> Result<Vec<&RuleList>, NoMem
     Ok(lent)
 }
 
-fn said_of(alloc: Global, lists: &Lists, enabled: &[bool]) -> Result<String, NoMemory> {
-    let mut said = String::new(alloc);
+fn add_rules(alloc: Global, rules: &RuleSet, said: &mut String) -> Result<(), NoMemory> {
+    for rule in rules.rules() {
+        add_rule(alloc, rule, said)?;
+    }
+    Ok(())
+}
+
+fn add_rules_of(
+    alloc: Global,
+    lists: &Lists,
+    enabled: &[bool],
+    said: &mut String,
+) -> Result<(), NoMemory> {
     let extensions = lent_lists(alloc, lists.extensions.as_slice())?;
     let extensions = extensions.as_slice();
     if enabled.len() != extensions.len() {
-        return String::from_str(alloc, "one truth value for each extension");
+        return said.push_str("one truth value for each extension");
     }
     let rules = RuleSet::assemble(alloc, &lists.defaults, extensions, enabled, &lists.user)?;
-    for rule in rules.rules() {
-        add_rule(alloc, rule, &mut said)?;
-    }
-    Ok(said)
+    add_rules(alloc, &rules, said)
 }
 
 fn add_all_warnings(lists: &Lists, said: &mut String) -> Result<(), NoMemory> {
@@ -143,12 +151,12 @@ fn said_of_members(
 ) -> Result<String, NoMemory> {
     let enabled = truths_of(alloc, elements_at(alloc, members, "enabled").as_slice())?;
     let lists = lists_of(alloc, members, platform)?;
-    let said = said_of(alloc, &lists, enabled.as_slice());
-    with_warnings(&lists, said)
+    said_of(alloc, &lists, enabled.as_slice())
 }
 
-fn with_warnings(lists: &Lists, said: Result<String, NoMemory>) -> Result<String, NoMemory> {
-    let mut said = said?;
+fn said_of(alloc: Global, lists: &Lists, enabled: &[bool]) -> Result<String, NoMemory> {
+    let mut said = String::new(alloc);
+    add_rules_of(alloc, lists, enabled, &mut said)?;
     add_all_warnings(lists, &mut said)?;
     Ok(said)
 }

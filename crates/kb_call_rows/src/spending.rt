@@ -11,7 +11,7 @@ use kb_core::{Args, Core, Native, Ran, plain};
 use kb_handlers::HandlerFile;
 use kb_jsonc::read;
 use kb_registry::{HostCommand, NativeCommand, Registry, Run};
-use kb_start::Ended;
+use kb_start::{Ended, HeldCore};
 use kb_vm::End;
 use std::alloc::Global;
 
@@ -36,13 +36,21 @@ fn said_of(alloc: Global, ended: &Ended<'_>) -> Result<String, NoMemory> {
     }
 }
 
-// What a start of `x.a` spends, where this is the closure of `type`.
-fn spent_with<C: HostCommand>(
+fn spent_on<C: HostCommand>(
     alloc: Global,
+    registry: &Registry<C>,
+    core: &mut HeldCore,
+) -> Result<String, NoMemory> {
+    let ended = core.start(alloc, registry, "x.a", Args::new(alloc));
+    said_of(alloc, &ended)
+}
+
+fn spent_in<C: HostCommand>(
+    alloc: Global,
+    registry: &mut Registry<C>,
     command: C,
     handlers: Seq<Handler>,
 ) -> Result<String, NoMemory> {
-    let mut registry = Registry::new(alloc, 1)?;
     if registry.register(command).is_err() {
         return String::from_str(alloc, "no closure");
     }
@@ -50,8 +58,28 @@ fn spent_with<C: HostCommand>(
         return String::from_str(alloc, "no handlers");
     }
     let mut core = window(alloc)?;
-    let ended = core.start(alloc, &registry, "x.a", Args::new(alloc));
-    said_of(alloc, &ended)
+    spent_on(alloc, registry, &mut core)
+}
+
+// What a start of `x.a` spends, where this is the closure of `type`.
+fn spent_with<C: HostCommand>(
+    alloc: Global,
+    command: C,
+    handlers: Seq<Handler>,
+) -> Result<String, NoMemory> {
+    let mut registry = Registry::new(alloc, 1)?;
+    spent_in(alloc, &mut registry, command, handlers)
+}
+
+fn add_spent<C: HostCommand>(
+    alloc: Global,
+    command: C,
+    bytes: &[u8],
+    said: &mut String,
+) -> Result<(), NoMemory> {
+    let spent = spent_with(alloc, command, handlers_in(alloc, bytes))?;
+    let spent = spent.as_str();
+    write!(said, ", {spent}")
 }
 
 /// What a start of the handler `x.a` of a file spends, with a closure of `type` that costs 1, and with one
@@ -73,9 +101,7 @@ pub(crate) fn spent(alloc: Global, bytes: &[u8]) -> Result<String, NoMemory> {
     )?;
     let cheap = NativeCommand::new(Native::TypeText, cheap);
     let dear = NativeCommand::new(Native::TypeText, dear);
-    let cheap = spent_with(alloc, cheap, handlers_in(alloc, bytes))?;
-    let dear = spent_with(alloc, dear, handlers_in(alloc, bytes))?;
-    let cheap = cheap.as_str();
-    let dear = dear.as_str();
-    format!(in alloc; "{cheap}, {dear}")
+    let mut said = spent_with(alloc, cheap, handlers_in(alloc, bytes))?;
+    add_spent(alloc, dear, bytes, &mut said)?;
+    Ok(said)
 }

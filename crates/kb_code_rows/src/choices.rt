@@ -60,8 +60,8 @@ fn keys(alloc: Global, choice: u16) -> Result<TextMap<ContextValue>, NoMemory> {
     Ok(keys)
 }
 
-/// A core whose keys have the values of a choice.
-pub(crate) fn core(alloc: Global, choice: u16) -> Result<Core, NoMemory> {
+// A layout of one scope, whose keys have the values of a choice.
+fn layout(alloc: Global, choice: u16) -> Result<Layout, NoMemory> {
     let mut scopes = Seq::new(alloc);
     scopes.push(LayoutScope {
         name: Text::from_str(alloc, "window")?,
@@ -69,7 +69,12 @@ pub(crate) fn core(alloc: Global, choice: u16) -> Result<Core, NoMemory> {
         keys: keys(alloc, choice)?,
     })?;
     let focus = Text::from_str(alloc, "window")?;
-    match Scopes::new(alloc, Layout { scopes, focus }) {
+    Ok(Layout { scopes, focus })
+}
+
+/// A core whose keys have the values of a choice.
+pub(crate) fn core(alloc: Global, choice: u16) -> Result<Core, NoMemory> {
+    match Scopes::new(alloc, layout(alloc, choice)?) {
         Ok(scopes) => Ok(Core::new(alloc, scopes)),
         Err(_) => Err(AllocError),
     }

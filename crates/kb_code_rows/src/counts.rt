@@ -6,7 +6,7 @@ use std::alloc::Global;
 const FIRST: u32 = 60;
 
 /// What is counted.
-#[derive(Clone, Copy, Debug)]
+#[derive(Clone, Copy)]
 pub(crate) struct Counts {
     pub accepted: u32,
     // By fault, from 60 on.
@@ -34,18 +34,28 @@ impl Counts {
         }
     }
 
-    /// All counts.
-    pub(crate) fn said(&self, alloc: Global) -> Result<String, NoMemory> {
-        let accepted = self.accepted;
-        let starts = self.starts;
-        let dearest = self.dearest;
-        let mut said = format!(in alloc; "{accepted} accepted,")?;
+    fn add_refused(&self, said: &mut String) -> Result<(), NoMemory> {
         let mut number = FIRST;
         for refused in self.refused.as_slice() {
             write!(said, " {refused} by {number},")?;
             number = number.wrapping_add(1);
         }
-        write!(said, " {starts} starts, {dearest} as dear as can be")?;
+        Ok(())
+    }
+
+    fn add_all(&self, said: &mut String) -> Result<(), NoMemory> {
+        let accepted = self.accepted;
+        let starts = self.starts;
+        let dearest = self.dearest;
+        write!(said, "{accepted} accepted,")?;
+        self.add_refused(said)?;
+        write!(said, " {starts} starts, {dearest} as dear as can be")
+    }
+
+    /// All counts.
+    pub(crate) fn said(&self, alloc: Global) -> Result<String, NoMemory> {
+        let mut said = String::new(alloc);
+        self.add_all(&mut said)?;
         Ok(said)
     }
 }

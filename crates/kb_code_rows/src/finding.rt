@@ -1,7 +1,7 @@
 //! What is found wrong of the verifier or the machine.
 
 /// What may not be, of a handler under a budget. A choice is what decides its forks.
-#[derive(Clone, Copy, Debug, PartialEq, Eq)]
+#[derive(Clone, Copy, Debug)]
 pub(crate) enum Finding {
     /// The file with the handler isn't read.
     NotRead,

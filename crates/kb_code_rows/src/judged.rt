@@ -18,16 +18,30 @@ pub(crate) fn handlers_in(alloc: Global, bytes: &[u8]) -> Seq<Handler> {
     }
 }
 
-/// The natives, and behind them the handlers.
-pub(crate) fn callable_with(alloc: Global, handlers: &[Handler]) -> Result<Callable, NoMemory> {
-    let mut callable = Callable::new(alloc);
+fn add_natives(alloc: Global, callable: &mut Callable) -> Result<(), NoMemory> {
     for native in NATIVES {
         let signature = native.signature(alloc)?;
         callable.add(alloc, native.name(), &signature)?;
     }
+    Ok(())
+}
+
+fn add_handlers(
+    alloc: Global,
+    callable: &mut Callable,
+    handlers: &[Handler],
+) -> Result<(), NoMemory> {
     for handler in handlers {
         callable.add(alloc, handler.command().as_str(), handler.signature())?;
     }
+    Ok(())
+}
+
+/// The natives, and behind them the handlers.
+pub(crate) fn callable_with(alloc: Global, handlers: &[Handler]) -> Result<Callable, NoMemory> {
+    let mut callable = Callable::new(alloc);
+    add_natives(alloc, &mut callable)?;
+    add_handlers(alloc, &mut callable, handlers)?;
     Ok(callable)
 }
 
@@ -63,8 +77,7 @@ fn refused_for(alloc: Global, failure: &Failure<VerifyFault>) -> Result<String, 
     }
 }
 
-fn accepted(alloc: Global, verified: &Verified) -> Result<String, NoMemory> {
-    let mut said = String::from_str(alloc, "accepted")?;
+fn add_callees(said: &mut String, verified: &Verified) -> Result<(), NoMemory> {
     let calls = verified.handler().calls();
     for callee in verified.callees() {
         if let Some(name) = calls.get(usize::from(callee.index)) {
@@ -72,6 +85,12 @@ fn accepted(alloc: Global, verified: &Verified) -> Result<String, NoMemory> {
             write!(said, " {name}")?;
         }
     }
+    Ok(())
+}
+
+fn accepted(alloc: Global, verified: &Verified) -> Result<String, NoMemory> {
+    let mut said = String::from_str(alloc, "accepted")?;
+    add_callees(&mut said, verified)?;
     Ok(said)
 }
 

@@ -13,14 +13,14 @@ const SIZE: u16 = 3;
 const NATIVES: u16 = 3;
 
 /// What code may name: so many parameters, and so many handlers of its file.
-#[derive(Clone, Copy, Debug)]
+#[derive(Clone, Copy)]
 pub(crate) struct Given {
     pub params: u16,
     pub handlers: u16,
 }
 
 /// What is on top of the operands, where no jump led elsewhere.
-#[derive(Clone, Copy, Debug)]
+#[derive(Clone, Copy)]
 pub(crate) enum Top {
     Nothing,
     Number,
@@ -30,7 +30,7 @@ pub(crate) enum Top {
 }
 
 /// A phrase, and what is on top behind it.
-#[derive(Clone, Copy, Debug)]
+#[derive(Clone, Copy)]
 pub(crate) struct Phrase {
     pub code: [Instr; 3],
     pub top: Top,
@@ -45,7 +45,7 @@ impl Phrase {
 }
 
 /// What a phrase may have behind its instructions.
-#[derive(Clone, Copy, Debug)]
+#[derive(Clone, Copy)]
 struct Parts {
     key: u16,
     text: u16,

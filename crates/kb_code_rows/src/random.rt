@@ -7,7 +7,7 @@ use kb_verify::Callable;
 use std::alloc::Global;
 
 /// Numbers that follow from a seed.
-#[derive(Clone, Copy, Debug)]
+#[derive(Clone, Copy)]
 pub(crate) struct Random {
     state: u64,
 }

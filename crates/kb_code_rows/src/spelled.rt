@@ -1,7 +1,7 @@
 //! Handlers made at random as a file says them, so that a row can be made of one.
 use crate::names::{CALLS, TEXTS};
 use crate::random::Draft;
-use kb_code::encode;
+use kb_code::{Instr, encode};
 use kb_context::NoMemory;
 use kb_core::Kind;
 use std::alloc::Global;
@@ -33,6 +33,35 @@ fn add_names(text: &mut String, names: &[&str]) -> Result<(), NoMemory> {
     Ok(())
 }
 
+// The digits of code.
+fn digits(alloc: Global, code: &[Instr]) -> Result<String, NoMemory> {
+    let bytes = encode(alloc, code)?;
+    hex::encode(alloc, bytes.as_slice())
+}
+
+fn add_code(alloc: Global, text: &mut String, code: &[Instr]) -> Result<(), NoMemory> {
+    let digits = digits(alloc, code)?;
+    let digits = digits.as_str();
+    write!(text, "],\"code\":\"{digits}\"}}")
+}
+
+fn add_object(
+    alloc: Global,
+    text: &mut String,
+    name: &str,
+    draft: &Draft,
+    budget: u64,
+) -> Result<(), NoMemory> {
+    let depth = draft.depth;
+    write!(text, "{{\"command\":\"{name}\",\"params\":[")?;
+    add_params(text, draft.params.as_slice())?;
+    write!(text, "],\"budget\":{budget},\"depth\":{depth},\"texts\":[")?;
+    add_names(text, TEXTS.as_slice())?;
+    text.push_str("],\"calls\":[")?;
+    add_names(text, CALLS.as_slice())?;
+    add_code(alloc, text, draft.code.as_slice())
+}
+
 /// The handler of a name and a budget that is made of a draft, as an object of a file.
 pub(crate) fn object(
     alloc: Global,
@@ -40,17 +69,8 @@ pub(crate) fn object(
     draft: &Draft,
     budget: u64,
 ) -> Result<String, NoMemory> {
-    let depth = draft.depth;
-    let code = encode(alloc, draft.code.as_slice())?;
-    let code = hex::encode(alloc, code.as_slice())?;
-    let code = code.as_str();
-    let mut text = format!(in alloc; "{{\"command\":\"{name}\",\"params\":[")?;
-    add_params(&mut text, draft.params.as_slice())?;
-    write!(text, "],\"budget\":{budget},\"depth\":{depth},\"texts\":[")?;
-    add_names(&mut text, TEXTS.as_slice())?;
-    text.push_str("],\"calls\":[")?;
-    add_names(&mut text, CALLS.as_slice())?;
-    write!(text, "],\"code\":\"{code}\"}}")?;
+    let mut text = String::new(alloc);
+    add_object(alloc, &mut text, name, draft, budget)?;
     Ok(text)
 }
 

@@ -126,6 +126,24 @@ fn try_handler(
     }
 }
 
+fn try_handlers(
+    alloc: Global,
+    random: &mut Random,
+    callable: &mut Callable,
+    registry: &mut Registry<Dear>,
+    live: &mut String,
+    counts: &mut Counts,
+) -> Result<Option<String>, NoMemory> {
+    for place in 0..HANDLERS {
+        let trial = drawn_trial(alloc, random, callable, place)?;
+        let found = try_handler(alloc, callable, registry, trial, live, counts)?;
+        if found.is_some() {
+            return Ok(found);
+        }
+    }
+    Ok(None)
+}
+
 fn try_file(
     alloc: Global,
     random: &mut Random,
@@ -135,11 +153,19 @@ fn try_file(
     clear(registry, u32::from(HANDLERS));
     let mut callable = callable_with(alloc, &[])?;
     let mut live = String::new(alloc);
-    for place in 0..HANDLERS {
-        let trial = drawn_trial(alloc, random, &callable, place)?;
-        let found = try_handler(alloc, &mut callable, registry, trial, &mut live, counts)?;
-        if found.is_some() {
-            return Ok(found);
+    try_handlers(alloc, random, &mut callable, registry, &mut live, counts)
+}
+
+fn try_files(
+    alloc: Global,
+    random: &mut Random,
+    registry: &mut Registry<Dear>,
+    counts: &mut Counts,
+    files: u32,
+) -> Result<Option<String>, NoMemory> {
+    for nth in 0..files {
+        if let Some(found) = try_file(alloc, random, registry, counts)? {
+            return Ok(Some(format!(in alloc; "file {nth}: {found}")?));
         }
     }
     Ok(None)
@@ -150,10 +176,8 @@ pub(crate) fn tried(alloc: Global, seed: u64, files: u32) -> Result<String, NoMe
     let mut random = Random::new(seed);
     let mut registry = natives(alloc)?;
     let mut counts = Counts::new();
-    for nth in 0..files {
-        if let Some(found) = try_file(alloc, &mut random, &mut registry, &mut counts)? {
-            return format!(in alloc; "file {nth}: {found}");
-        }
+    match try_files(alloc, &mut random, &mut registry, &mut counts, files)? {
+        Some(found) => Ok(found),
+        None => counts.said(alloc),
     }
-    counts.said(alloc)
 }

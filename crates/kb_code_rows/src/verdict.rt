@@ -11,7 +11,7 @@ use kb_verify::{Callable, Step, VerifyFault, verify};
 use std::alloc::Global;
 
 /// What the verifier says of a handler.
-#[derive(Clone, Copy, Debug)]
+#[derive(Clone, Copy)]
 pub(crate) enum Verdict {
     /// It is accepted, and of its starts the dearest spends so much.
     Accepted(u64),

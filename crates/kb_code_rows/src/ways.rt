@@ -4,7 +4,7 @@ use kb_code::Instr;
 use kb_verify::{Callable, Step};
 
 /// A way through code that ends at a return.
-#[derive(Clone, Copy, Debug)]
+#[derive(Clone, Copy)]
 pub(crate) struct Way {
     pub cost: u64,
     pub forks: usize,

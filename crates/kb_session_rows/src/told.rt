@@ -3,9 +3,11 @@
 //! Its lines are those of the files (`inputs`), then those of the script, and below each what it writes,
 //! behind `> `. A line that begins with `? ` is none of the script's: it asks something else of the session.
 use crate::host::Command;
-use crate::inputs::{all_handlers, commands_in, extensions_of, files_in, is_of_file, manifests_in};
+use crate::inputs::{
+    Files, all_handlers, commands_in, extensions_of, files_in, is_of_file, manifests_in,
+};
 use crate::streams::{Broken, Narrow};
-use kb_bindings::{Inputs, LoadFault, UnreadIn};
+use kb_bindings::{ExtensionFiles, Inputs, LoadFault, UnreadIn};
 use kb_context::{Failure, NoMemory, fault_name};
 use kb_core::Native;
 use kb_ending::{Stop, WarningLine, lent, script_stop};
@@ -395,6 +397,30 @@ fn tell_loaded(
     }
 }
 
+fn inputs_of<'a>(files: &'a Files, extensions: &'a [ExtensionFiles<'a>]) -> Inputs<'a> {
+    Inputs {
+        layout: lent(&files.layout),
+        defaults: lent(&files.defaults).unwrap_or(&[]),
+        user: lent(&files.user).unwrap_or(&[]),
+        platform: files.platform,
+        extensions,
+    }
+}
+
+fn tell_files(
+    alloc: Global,
+    files: &Files,
+    is_raw: bool,
+    lines: &str,
+    told: &mut String,
+) -> Result<(), NoMemory> {
+    let manifests = manifests_in(alloc, lent(&files.extensions).unwrap_or(&[]))?;
+    let handlers = all_handlers(alloc, lines, manifests.len())?;
+    let extensions = extensions_of(alloc, manifests.as_slice(), handlers.as_slice())?;
+    let inputs = inputs_of(files, extensions.as_slice());
+    tell_loaded(alloc, inputs, is_raw, lines, told)
+}
+
 /// Tells a session, or a raw one, which has the handlers of its extensions. The load is answered below the
 /// lines of the files.
 pub(crate) fn tell(
@@ -405,16 +431,5 @@ pub(crate) fn tell(
 ) -> Result<(), NoMemory> {
     add_file_lines(lines, told)?;
     let files = files_in(alloc, lines)?;
-    let manifests = manifests_in(alloc, lent(&files.extensions).unwrap_or(&[]))?;
-    let handlers = all_handlers(alloc, lines, manifests.len())?;
-    let extensions = extensions_of(alloc, manifests.as_slice(), handlers.as_slice())?;
-    let layout = lent(&files.layout);
-    let inputs = Inputs {
-        layout,
-        defaults: lent(&files.defaults).unwrap_or(&[]),
-        user: lent(&files.user).unwrap_or(&[]),
-        platform: files.platform,
-        extensions: extensions.as_slice(),
-    };
-    tell_loaded(alloc, inputs, is_raw, lines, told)
+    tell_files(alloc, &files, is_raw, lines, told)
 }
