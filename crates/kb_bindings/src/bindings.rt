@@ -83,19 +83,27 @@ impl Bindings {
         ensures { IfOk result (λ made.
             made ≡ record { defaults = defaults; extensions = extensions; user = user }) }
     {
-        let Derived {
-            resolver,
-            enablements,
-            warnings,
-        } = derive_all(alloc, &defaults, extensions.as_slice(), &user)?;
-        Ok(Bindings {
-            defaults,
-            extensions,
-            user,
-            resolver,
-            enablements,
-            warnings,
-        })
+        match derive_all(alloc, &defaults, extensions.as_slice(), &user) {
+            Ok(
+                Derived {
+                    resolver,
+                    enablements,
+                    warnings,
+                },
+            ) => Ok(Bindings {
+                defaults,
+                extensions,
+                user,
+                resolver,
+                enablements,
+                warnings,
+            }),
+            Err(refused) => {
+                drop(defaults);
+                drop(user);
+                Err(refused)
+            }
+        }
     }
 
     /// Presses a key, over what the focus of the scopes sees.

@@ -130,8 +130,13 @@ impl<C: HostCommand> Session<C> {
             bindings,
             handlers,
         } = load_files(alloc, inputs)?;
-        let registry = checked_commands(alloc, natives, bindings.extensions(), handlers)?;
-        Session::begun(alloc, scopes, bindings, registry)
+        match checked_commands(alloc, natives, bindings.extensions(), handlers) {
+            Ok(registry) => Session::begun(alloc, scopes, bindings, registry),
+            Err(failure) => {
+                drop(bindings);
+                Err(failure)
+            }
+        }
     }
 
     /// The same, but that nobody verifies the handlers. One that can't go on stops the session.
@@ -151,8 +156,13 @@ impl<C: HostCommand> Session<C> {
             bindings,
             handlers,
         } = load_files(alloc, inputs)?;
-        let registry = raw_commands(alloc, natives, handlers)?;
-        Session::begun(alloc, scopes, bindings, registry)
+        match raw_commands(alloc, natives, handlers) {
+            Ok(registry) => Session::begun(alloc, scopes, bindings, registry),
+            Err(failure) => {
+                drop(bindings);
+                Err(failure)
+            }
+        }
     }
 
     /// A session with these scopes, bindings and commands, without text and trace.
@@ -165,7 +175,10 @@ impl<C: HostCommand> Session<C> {
         ensures ok { IfOk result (λ session. session ≡ loaded_session scopes bindings registry) }
         ensures err { IfErr result (λ why. why ≡ failure.NoMemory) }
     {
-        let unread = first_list(alloc, &bindings)?;
+        let Ok(unread) = first_list(alloc, &bindings) else {
+            drop(bindings);
+            return Err(Failure::NoMemory);
+        };
         Ok(Session {
             core: HeldCore::new(Core::new(alloc, scopes)),
             bindings,
@@ -183,7 +196,12 @@ impl<C: HostCommand> Session<C> {
     pub fn into_trace(self) -> Lines
         ensures { result ≡ self.trace }
     {
-        let Session { trace, .. } = self;
+        let Session {
+            trace,
+            bindings,
+            ..
+        } = self;
+        drop(bindings);
         trace
     }
 

@@ -38,14 +38,13 @@ pub(crate) fn is_of_file(line: &str) -> bool {
     }
 }
 
-// The text of a file, if it has a line.
-fn file_in(
-    alloc: Global,
+// Adds the lines of a file, and says whether it has one.
+fn add_lines_of(
     lines: &str,
     file: &str,
     between: &str,
-) -> Result<Option<Vec<u8>>, NoMemory> {
-    let mut text = String::new(alloc);
+    text: &mut String,
+) -> Result<bool, NoMemory> {
     let mut is_there = false;
     for line in lines.lines() {
         if let Some(more) = text_of(line, file) {
@@ -56,7 +55,18 @@ fn file_in(
             is_there = true;
         }
     }
-    if is_there {
+    Ok(is_there)
+}
+
+// The text of a file, if it has a line.
+fn file_in(
+    alloc: Global,
+    lines: &str,
+    file: &str,
+    between: &str,
+) -> Result<Option<Vec<u8>>, NoMemory> {
+    let mut text = String::new(alloc);
+    if add_lines_of(lines, file, between, &mut text)? {
         Ok(Some(bytes_of(alloc, &[], text.as_str())?))
     } else {
         Ok(None)
@@ -104,9 +114,8 @@ pub(crate) fn files_in(alloc: Global, lines: &str) -> Result<Files, NoMemory> {
     })
 }
 
-// The file of handlers of an extension, by its number, if it has a line.
-fn handlers_in(alloc: Global, lines: &str, number: usize) -> Result<Option<Vec<u8>>, NoMemory> {
-    let mut text = String::new(alloc);
+// Adds the lines of the file of handlers of an extension, by its number, and says whether it has one.
+fn add_handlers_of(lines: &str, number: usize, text: &mut String) -> Result<bool, NoMemory> {
     let mut is_there = false;
     let mut extensions = 0usize;
     for line in lines.lines() {
@@ -121,7 +130,13 @@ fn handlers_in(alloc: Global, lines: &str, number: usize) -> Result<Option<Vec<u
             is_there = true;
         }
     }
-    if is_there {
+    Ok(is_there)
+}
+
+// The file of handlers of an extension, by its number, if it has a line.
+fn handlers_in(alloc: Global, lines: &str, number: usize) -> Result<Option<Vec<u8>>, NoMemory> {
+    let mut text = String::new(alloc);
+    if add_handlers_of(lines, number, &mut text)? {
         Ok(Some(bytes_of(alloc, &[], text.as_str())?))
     } else {
         Ok(None)

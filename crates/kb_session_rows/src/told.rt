@@ -329,6 +329,24 @@ fn add_file_lines(lines: &str, told: &mut String) -> Result<(), NoMemory> {
     Ok(())
 }
 
+// Plays a line of a script behind as many blank ones as were run, or asks what it asks for.
+fn play_line(
+    alloc: Global,
+    session: &mut Session<Command>,
+    shelf: &mut Vec<Command>,
+    feeds: &mut Vec<u8>,
+    line: &str,
+    told: &mut String,
+) -> Result<(), NoMemory> {
+    write!(told, "{line}\n")?;
+    if let Some(question) = line.strip_prefix("? ") {
+        return ask(alloc, session, shelf, question, told);
+    }
+    let script = bytes_of(alloc, feeds.as_slice(), line)?;
+    run_line(alloc, session, shelf, script.as_slice(), told)?;
+    feeds.push(b'\n').map_err(NoMemory::from)
+}
+
 // Plays the lines of a script one by one. Before each stand as many blank ones as were run, so that it
 // has its number.
 fn play(
@@ -340,16 +358,8 @@ fn play(
 ) -> Result<(), NoMemory> {
     let mut feeds = Vec::new(alloc);
     for line in lines.lines() {
-        if is_of_file(line) || line.starts_with("> ") {
-            continue;
-        }
-        write!(told, "{line}\n")?;
-        if let Some(question) = line.strip_prefix("? ") {
-            ask(alloc, session, shelf, question, told)?;
-        } else {
-            let script = bytes_of(alloc, feeds.as_slice(), line)?;
-            run_line(alloc, session, shelf, script.as_slice(), told)?;
-            feeds.push(b'\n').map_err(NoMemory::from)?;
+        if !is_of_file(line) && !line.starts_with("> ") {
+            play_line(alloc, session, shelf, &mut feeds, line, told)?;
         }
     }
     Ok(())

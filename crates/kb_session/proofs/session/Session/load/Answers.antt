@@ -10,17 +10,17 @@ use Rattle.kb_session.proofs.session.Session.load.Goals as goal
 pub checked_commands-requires : goal.checked_commands-requires
 checked_commands-requires g c = few_handlers _ _ c.in_ok-scopes.field-0 c.in_ok-scopes.ensures.read
 
-pub returns-clause-read : goal.returns-clause-read
-returns-clause-read g c =
+pub returns-in-Ok-clause-read : goal.returns-in-Ok-clause-read
+returns-in-Ok-clause-read g c =
     let natives = map g.C.HostCommand.stands_for c.args.natives.items in
     let l = c.in_ok-scopes.field-0 in
-    let live = c.in_ok-registry.registry in
+    let live = c.in-Ok.registry in
     let checked = subst (λ es. LiveChecked natives es l.handlers (Ok live)) c.extensions.ensures
-    c.in_ok-registry.ensures in
+    c.in-Ok.ensures in
     begun_loads (files_of c.args.inputs) natives l live c.begun.result c.in_ok-scopes.ensures.read checked
     c.begun.ensures.ok c.begun.ensures.err
 
-pub returns-clause-sound : goal.returns-clause-sound
-returns-clause-sound g c =
+pub returns-in-Ok-clause-sound : goal.returns-in-Ok-clause-sound
+returns-in-Ok-clause-sound g c =
     let natives = map g.C.HostCommand.stands_for c.args.natives.items in
-    all_loads_sound (files_of c.args.inputs) natives c.begun.result (returns-clause-read g c)
+    all_loads_sound (files_of c.args.inputs) natives c.begun.result (returns-in-Ok-clause-read g c)
