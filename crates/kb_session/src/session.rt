@@ -133,6 +133,7 @@ impl<C: HostCommand> Session<C> {
         match checked_commands(alloc, natives, bindings.extensions(), handlers) {
             Ok(registry) => Session::begun(alloc, scopes, bindings, registry),
             Err(failure) => {
+                // (written down, since it is dropped by a call then, and not part by part in each proof)
                 drop(bindings);
                 Err(failure)
             }
