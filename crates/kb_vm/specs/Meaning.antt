@@ -78,7 +78,8 @@ follow run h args left at w (Stop trap) = Stuck trap h.command at.place w
 follow run h args left at w Leave = Done w
 follow run h args left at w (Next operands) = run h args left (passed at operands) w
 follow run h args left at w (Goto to operands) =
-    if nat_lt at.place to then run h args left (moved at to operands) w else Stuck BadCode h.command at.place w
+    if nat_lt at.place to then run h args left (moved at to operands) w
+    else Stuck BadCode h.command at.place w
 follow run h args left at w (Enter name callee given operands) =
     if nat_le (declared_by callee).budget left
     then and_then (run_callee run callee given (with_line name given w))

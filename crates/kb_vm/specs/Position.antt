@@ -2,8 +2,8 @@
 use Rattle.std.specs.Prelude.{ℕ, ◌+◌, List, []}
 use Rattle.kb_core.specs.declared.arg.Arg.{Arg}
 
--- the place of its instruction, the turns that are left of each block that is open, the innermost first, and the
--- operands, the topmost first
+-- the place of its instruction, the turns that are left of each block that is open, the innermost first, and
+-- the operands, the topmost first
 pub record Position : Type 0 where
   pub place : ℕ
   pub turns : List ℕ

@@ -144,7 +144,8 @@ PausesAt h args core at left after p =
 -- the same from a place with operands, whatever blocks are open: no instruction opens or closes one
 abbrev pub Pauses : HandlerData → List Arg → Core → List Arg → ℕ → ℕ → List Arg → Paused → Type 0
 Pauses h args core operands place left after p =
-    (turns : List ℕ) → PausesAt h args core (record { place = place; turns = turns; operands = operands }) left after p
+    (turns : List ℕ)
+    → PausesAt h args core (record { place = place; turns = turns; operands = operands }) left after p
 
 -- where there is an instruction at which a frame pauses, it was paid for
 abbrev pub IsPaid : ℕ → ℕ → ℕ → Pause → Type 0
