@@ -19,7 +19,8 @@ use std::process::ExitCode;
 fn rawrun<'a>() -> Program<'a> {
     Program {
         name: "rawrun",
-        about: "Runs a script of events against the user's keybindings, with unverified handlers.",
+        about: "Runs a script of events against the user's keybindings, with unverified handlers, \
+            for tests and for authors who want to see a trap.",
     }
 }
 
