@@ -10,8 +10,8 @@ from gate.twins import folder_of
 ANSWERS = """\
 use Rattle.{crate}.proofs.{path}.Goals as goal
 
-pub prove-unreachable-requires : goal.prove-unreachable-requires
-prove-unreachable-requires c = ?
+pub unreachable-requires : goal.unreachable-requires
+unreachable-requires = ?
 """
 
 
