@@ -238,6 +238,7 @@ class Trying(unittest.TestCase):
                 with self.subTest(it.edit.name, lines="\n".join(lines)):
                     how = ("in a batch" if it.batch else "alone") if it.is_refused else "not refused"
                     self.assertEqual(how, EDITS[it.edit.name.removesuffix(".edit")][2])
+            self.assertFalse([it for it in lines if "over stand-ins" in it and "not judged" in it])
             # Twins of one function stand in one batch; what changes a trait's function does not stand with another such edit.
             batch_of = {it.edit.name.removesuffix(".edit"): it.batch for it in trial.results.values()}
             self.assertEqual(batch_of["callee_adds_two"], batch_of["callee_adds_none"])

@@ -239,6 +239,7 @@ class Crate:
         ran, functions = self.checked(texts, [it.plain_name() for it in controls] + [name for it in batch for name in it.plain_names()])
         said = Said(ran.stdout, self.crate, functions)
         trouble = trouble_in(ran, said, {it.unit for it in [*controls, *stand_ins]} | {unit for it in batch for unit in it.units})
+        trouble = trouble or next((f"the hole of `{it.unit}` is not taken" for it in stand_ins if said.found[it.unit].is_broken), "")
         took = f"took {time.time() - begun:.0f} s{trouble and f', not judged: {trouble}'}"
         self.say(f"{self.crate.name}: batch {number} of {len(batch)} edits over stand-ins {took}")
         if trouble:
