@@ -1,4 +1,4 @@
-use Rattle.std.proofs.Common.{◌≡◌, ◌<◌, ◌≤◌, ◌||◌, nat_lt, true, length, Some, slice_get, slice_set, sym}
+use Rattle.std.proofs.Common.{◌≡◌, ◌<◌, ◌≤◌, ◌||◌, nat_lt, true, length, Some, slice_get, sym}
 use Rattle.std.proofs.Common.{subst, ap, ◌∙◌, refl}
 use Rattle.std.specs.FinMap.{insert, contains_key, len}
 use Rattle.std.proofs.lemmas.Option.{slice_get_read}
