@@ -165,7 +165,6 @@ impl CodeTable {
 
     /// Takes the code of an extension away and gives it back, or `None` where the extension holds no group.
     /// It takes no memory.
-    #[tactic(auto, using(crate::proofs::Apart::without_stays))]
     pub fn dispose(&mut self, extension: u32) -> Option<Codes>
         ensures codes { result ≡ group_of extension self.old }
         ensures table { self.new ≡ without_group extension self.old }

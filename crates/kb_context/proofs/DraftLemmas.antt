@@ -17,8 +17,9 @@ use Rattle.kb_context.specs.declared.scopes.Scope.{Scope}
 use Rattle.kb_context.specs.Scopes.{Places, scope_names, parents, place_in, place_of, key_count, IsRootedList}
 use Rattle.kb_context.specs.Scopes.{IsRooted, IsPlaced}
 use Rattle.kb_context.specs.Layout.{layout_key_count}
-use Rattle.kb_context.specs.Draft.{parent_in, after_scope, built}
+use Rattle.kb_context.specs.Draft.{parent_in, parent_behind, under, after_scope, built}
 use Rattle.kb_context.proofs.OutwardLemmas.{or_else}
+use Rattle.kb_context.proofs.ScopesLemmas.{place_of_within}
 
 -- ---- places
 
@@ -102,23 +103,39 @@ IsPlaced-push : (ss : List Scope) (places : Places) (s : Scope) → IsPlaced ss 
 IsPlaced-push ss places s h new below =
     record { rooted = rooted_push ss s h.rooted below; placed = placed_push ss places s h.placed new }
 
+fits_by : (b : Bool) (o : Option ℕ) (p : Option (Option ℕ)) (u : Option ℕ) → is_some o ≡ b
+    → cond b None p ≡ Some u → (o ≡ None) × (p ≡ Some u)
+fits_by true o p u e h = absurd (let no : Bool = true in cc)
+fits_by false o p u e h = (not_there o e, h)
+
+mapped_below : (o : Option ℕ) (n : ℕ) (u : Option ℕ) → ((i : ℕ) → o ≡ Some i → i < n)
+    → option_map (λ i. Some i) o ≡ Some u → IfSome u (λ i. i < n)
+mapped_below None n u h e = absurd (let no : Bool = true in cc)
+mapped_below (Some i) n u h e = let same : Some i ≡ u = cc in subst (λ (v : Option ℕ). IfSome v (λ i. i < n)) same (h i refl)
+
+parent_in_below : (o : Option (List ℕ)) (ss : List Scope) (u : Option ℕ) → parent_in o ss ≡ Some u
+    → IfSome u (λ i. i < length ss)
+parent_in_below (Some name) ss u e = mapped_below (place_of name ss) (length ss) u (λ i h. place_of_within name ss i h) e
+parent_in_below None [] u e = let same : None ≡ u = cc in subst (λ (v : Option ℕ). IfSome v (λ i. i < 0)) same tt
+parent_in_below None (s ∷ ss) u e = absurd (let no : Bool = true in cc)
+
+IsPlaced-fitting : (ss : List Scope) (places : Places) (l : LayoutScope) (u : Option ℕ) → IsPlaced ss places
+    → parent_behind ss l ≡ Some u → IsPlaced (ss ++ under l u ∷ []) (insert places l.name (length ss))
+IsPlaced-fitting ss places l u h e =
+    let fits = fits_by (is_some (place_of l.name ss)) (place_of l.name ss) (parent_in l.parent ss) u refl e in
+    IsPlaced-push ss places (under l u) h (ap is_some (h.placed l.name ∙ fits.0))
+    (parent_in_below l.parent ss u fits.1)
+
 -- the table has the places with one more scope, as the code has it
-pub IsPlaced-after : (ss : List Scope) (places : Places) (s : Scope) (k : List ℕ) (n : ℕ)
-    (more : List Scope) (table : Places) → IsPlaced ss places → contains_key places s.name ≡ false
-    → IfSome s.parent (λ p. p < length ss) → k ≡ s.name → n ≡ length ss → more ≡ ss ++ s ∷ []
-    → table ≡ insert places k n → IsPlaced more table
-IsPlaced-after ss places s k n more table h new below named counted pushed added =
-    subst (λ (us : List Scope). IsPlaced us table) (sym pushed)
-    (subst (λ (t : Places). IsPlaced (ss ++ s ∷ []) t)
-    (sym (added ∙ ap (λ k'. insert places k' n) named ∙ ap (λ n'. insert places s.name n') counted))
-    (IsPlaced-push ss places s h new below))
-
-pub parent_below : (ss : List Scope) (o : Option ℕ) (p : ℕ) → o ≡ Some p → p < length ss
-    → IfSome o (λ q. q < length ss)
-parent_below ss o p e h = subst (λ (u : Option ℕ). IfSome u (λ q. q < length ss)) (sym e) h
-
-pub parent_none : (ss : List Scope) (o : Option ℕ) → o ≡ None → IfSome o (λ q. q < length ss)
-parent_none ss o e = subst (λ (u : Option ℕ). IfSome u (λ q. q < length ss)) (sym e) tt
+pub IsPlaced-after : (ss : List Scope) (places : Places) (l : LayoutScope) (u : Option ℕ) (s : Scope)
+    (more : List Scope) (table : Places) → IsPlaced ss places → parent_behind ss l ≡ Some u → s ≡ under l u
+    → more ≡ ss ++ s ∷ [] → table ≡ insert places s.name (length ss) → IsPlaced more table
+IsPlaced-after ss places l u s more table h e same pushed added =
+    subst (λ (us : List Scope). IsPlaced us table)
+    (sym (pushed ∙ ap (λ (t : Scope). ss ++ t ∷ []) same))
+    (subst (λ (t : Places). IsPlaced (ss ++ under l u ∷ []) t)
+    (sym (added ∙ ap (λ (t : Scope). insert places t.name (length ss)) same))
+    (IsPlaced-fitting ss places l u h e))
 
 none_placed : (places : Places) → places ≡ empty → (n : List ℕ) → get places n ≡ None
 none_placed places e n = ap (λ (m : Places). get m n) e ∙ get-empty (slice_cmp nat_cmp) n
@@ -146,9 +163,8 @@ pub record Follows (done : List Scope) (s : LayoutScope) (more : List Scope) : T
 
 follows_by : (b : Bool) (done : List Scope) (s : LayoutScope) (o : Option (Option ℕ)) (more : List Scope)
     → parent_in s.parent done ≡ o
-    → cond b None (option_map
-    (λ parent. done ++ record { name = s.name; parent = parent; keys = s.keys } ∷ [])
-    o) ≡ Some more → Follows done s more
+    → option_map (λ parent. done ++ record { name = s.name; parent = parent; keys = s.keys } ∷ [])
+    (cond b None o) ≡ Some more → Follows done s more
 follows_by true done s o more p e = absurd (let no : Bool = true in cc)
 follows_by false done s None more p e = absurd (let no : Bool = true in cc)
 follows_by false done s (Some u) more p e =

@@ -18,7 +18,7 @@ use Rattle.kb_context.specs.Failure.{IsRefusal}
 use Rattle.kb_context.specs.Scopes.{ScopesData, scope_names, place_in, place_of}
 use Rattle.kb_context.specs.Layout.{is_among, layout_names, parent_fits, fit, is_good, layout_key_count}
 use Rattle.kb_context.specs.Layout.{layout_fault, scope_of, scopes_of}
-use Rattle.kb_context.specs.Draft.{parent_in, after_scope, built, IsBadList}
+use Rattle.kb_context.specs.Draft.{parent_in, parent_behind, after_scope, built, IsBadList}
 use Rattle.kb_context.proofs.DraftLemmas.{Follows, follows, scope_names-append}
 
 -- ---- scopes are built where names and parents fit
@@ -52,9 +52,9 @@ is_some-after_scope : (p : LayoutScope) (ss : List Scope)
     → is_some (after_scope ss p)
     ≡ (not (is_among (scope_names ss) p.name) && parent_fits (scope_names ss) p.parent)
 is_some-after_scope p ss =
-    chosen (is_some (place_of p.name ss)) _
-    ∙ ap (λ b. not (is_some (place_of p.name ss)) && b)
-    (some_mapped _ (parent_in p.parent ss) ∙ is_some-parent_in p.parent ss)
+    some_mapped _ (parent_behind ss p)
+    ∙ chosen (is_some (place_of p.name ss)) (parent_in p.parent ss)
+    ∙ ap (λ b. not (is_some (place_of p.name ss)) && b) (is_some-parent_in p.parent ss)
     ∙ ap (λ b. not b && parent_fits (scope_names ss) p.parent) (is_some-place_in p.name (scope_names ss))
 
 names_after : (ss : List Scope) (p : LayoutScope) (more : List Scope) → Follows ss p more

@@ -1,6 +1,6 @@
 -- Places of scopes, and the scopes after the keys of one are changed.
 use Rattle.std.proofs.Common.{◌≡◌, ◌≢◌, ℕ, zero, suc, ◌+◌, ◌-◌, ◌<◌, ◌≤◌, Bool, true, false, cond, ◌||◌}
-use Rattle.std.proofs.Common.{nat_lt, List, [], ◌∷◌, length, Option, Some, None, option_map, option_and_then}
+use Rattle.std.proofs.Common.{nat_lt, List, [], ◌∷◌, length, Option, Some, None, option_map, option_and_then, is_some}
 use Rattle.std.proofs.Common.{slice_get, slice_set, get_or, refl, sym, subst, ap, ◌∙◌, arith}
 use Rattle.std.specs.Str.{bytes_eq}
 use Rattle.std.specs.FinMap.{get, insert, remove, len, contains_key, len-insert, len-remove, get-insert}
@@ -15,7 +15,7 @@ use Rattle.kb_context.specs.declared.scopes.Scope.{Scope}
 use Rattle.kb_context.specs.Scopes.{key_limit}
 use Rattle.kb_context.specs.declared.value.ContextValue.{ContextValue}
 use Rattle.kb_context.specs.Scopes.{Keys, Places, ScopesData, scope_names, parents, place_in, place_of}
-use Rattle.kb_context.specs.Scopes.{changed, key_count, set_fault_at, IsRooted, IsRootedList, IsWellFormed}
+use Rattle.kb_context.specs.Scopes.{changed, key_count, has_room, IsRooted, IsRootedList, IsWellFormed}
 use Rattle.kb_context.specs.Scopes.{with_value_at, without_value_at, ChangesOnly, ChangesOnlyIn}
 
 -- ---- places
@@ -147,11 +147,14 @@ pub few-remove : (m : Keys) (k : List ℕ) (limit count : ℕ) → count ≤ lim
 few-remove m k limit count c l =
     rw (len-remove nat_list_cmp_total m k) (less_by (contains_key m k) limit count (len m) c l)
 
--- where there is room or the key stands, nothing is refused
-pub no_fault : (s : ScopesData) (i : ℕ) (k : List ℕ) (scope : Scope) (count : ℕ)
+-- there is room where the code finds it
+pub room_at : (s : ScopesData) (i : ℕ) (k : List ℕ) (scope : Scope) (count : ℕ)
     → count ≡ key_count s.scopes → slice_get s.scopes i ≡ Some scope
-    → (nat_lt count key_limit || contains_key scope.keys k) ≡ true → set_fault_at s i k ≡ None
-no_fault s i k scope count e is h = rw (← e, is, h) refl
+    → (nat_lt count key_limit || contains_key scope.keys k) ≡ has_room s i k
+room_at s i k scope count e is =
+    ap (λ n. nat_lt n key_limit || contains_key scope.keys k) e
+    ∙ ap (λ (o : Option Scope). nat_lt (key_count s.scopes) key_limit
+    || is_some (option_and_then (λ scope. get scope.keys k) o)) (sym is)
 
 -- ---- the scopes after a write, as the code has it
 

@@ -16,12 +16,17 @@ parent_in (Some name) scopes = option_map (λ i. Some i) (place_of name scopes)
 parent_in None [] = Some None
 parent_in None (s ∷ scopes) = None
 
+-- the same for a scope to come behind these, if its name is new too
+abbrev pub parent_behind : List Scope → LayoutScope → Option (Option ℕ)
+parent_behind done s = if is_some (place_of s.name done) then None else parent_in s.parent done
+
+-- a scope of a layout with the place of its parent
+abbrev pub under : LayoutScope → Option ℕ → Scope
+under s parent = record { name = s.name; parent = parent; keys = s.keys }
+
 -- the scopes with one more behind them, if its name is new and its parent fits
 abbrev pub after_scope : List Scope → LayoutScope → Option (List Scope)
-after_scope done s =
-    if is_some (place_of s.name done) then None
-    else option_map (λ parent. done ++ record { name = s.name; parent = parent; keys = s.keys } ∷ [])
-    (parent_in s.parent done)
+after_scope done s = option_map (λ parent. done ++ under s parent ∷ []) (parent_behind done s)
 
 -- the scopes with all of these behind them, if each fits
 abbrev pub built : List Scope → List LayoutScope → Option (List Scope)

@@ -1,5 +1,5 @@
 -- Scopes as contracts see them, the keys that the focus sees, and what the calls change and refuse.
-use Rattle.std.specs.Prelude.{◌≡◌, ◌≢◌, ℕ, zero, suc, ◌+◌, ◌<◌, ◌≤◌, if◌then◌else◌, ◌||◌, nat_lt, List, []}
+use Rattle.std.specs.Prelude.{◌≡◌, ◌≢◌, ℕ, Bool, zero, suc, ◌+◌, ◌<◌, ◌≤◌, if◌then◌else◌, ◌||◌, nat_lt, List, []}
 use Rattle.std.specs.Prelude.{◌∷◌, ◌++◌, Option, Some, None, option_map, option_and_then, is_some, slice_get}
 use Rattle.std.specs.Prelude.{length, map, refl, IsSomeAnd}
 use Rattle.std.specs.Coded.{Coded, code_by, coded×, coded_ℕ, coded_list}
@@ -139,10 +139,13 @@ abbrev pub key_count : List Scope → ℕ
 key_count [] = 0
 key_count (s ∷ scopes) = len s.keys + key_count scopes
 
--- a key is set where there is room for one more, or the scope has it already
+-- there is room for one key more, or the scope at a place has the key already
+abbrev pub has_room : ScopesData → ℕ → List ℕ → Bool
+has_room s at key = nat_lt (key_count s.scopes) key_limit || is_some (value_at s at key)
+
+-- a key is set where there is room for it
 abbrev pub set_fault_at : ScopesData → ℕ → List ℕ → Option ScopeFault
-set_fault_at s at key =
-    if nat_lt (key_count s.scopes) key_limit || is_some (value_at s at key) then None else Some TooManyKeys
+set_fault_at s at key = if has_room s at key then None else Some TooManyKeys
 
 -- the same in the scope of a name, if there is one
 abbrev pub set_fault : ScopesData → List ℕ → List ℕ → Option ScopeFault

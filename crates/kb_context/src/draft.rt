@@ -1,10 +1,12 @@
 //! Scopes while a layout is read.
-ghost use Rattle.std.specs.Prelude.{◌≡◌, IfOk, IfErr, [], Some};
-ghost use Rattle.kb_context.specs.Draft.{after_scope, built, IsBadScope, IsBadList};
+ghost use Rattle.std.specs.Prelude.{◌≡◌, IfOk, IfErr, OnOk, OnErr, [], ◌∷◌, ◌++◌, length, Some};
+ghost use Rattle.std.specs.FinMap as map;
+ghost use Rattle.kb_context.specs.Draft.{under, parent_behind, after_scope, built, IsBadScope, IsBadList};
 
 use crate::failure::Failure;
 use crate::fault::ScopeFault;
 use crate::layout::LayoutScope;
+use crate::memory::NoMemory;
 use crate::scopes::Scope;
 use crate::text_map::TextMap;
 use std::alloc::Global;
@@ -34,30 +36,42 @@ impl Model for Draft {
 }
 
 impl Draft {
-    /// The draft with one more scope. It is taken by value, so nothing is owed on a refusal.
-    fn with_scope(self, scope: LayoutScope) -> Result<Draft, Failure<ScopeFault>>
-        ensures ok { IfOk result (λ draft. after_scope self scope ≡ Some draft) }
-        ensures err { IfErr result (IsBadScope self scope) }
+    /// The place of the parent that a scope behind these would have, if its name is new and its parent fits.
+    fn parent_of(&self, scope: &LayoutScope) -> Option<Option<usize>>
+        ensures { result ≡ parent_behind self.now scope.now }
     {
-        let Draft {
-            mut scopes,
-            mut places,
-        } = self;
-        let LayoutScope { name, parent, keys } = scope;
-        if places.contains_key(name.as_str()) {
-            return Err(Failure::Fault(ScopeFault::BadLayout));
+        if self.places.contains_key(scope.name.as_str()) {
+            return None;
         }
-        let parent = match parent {
-            Some(parent) => match places.get(parent.as_str()) {
-                Some(&at) => Some(at),
-                None => return Err(Failure::Fault(ScopeFault::BadLayout)),
+        match &scope.parent {
+            Some(parent) => match self.places.get(parent.as_str()) {
+                Some(&at) => Some(Some(at)),
+                None => None,
             },
-            None if scopes.is_empty() => None,
-            None => return Err(Failure::Fault(ScopeFault::BadLayout)),
+            None if self.scopes.is_empty() => Some(None),
+            None => None,
+        }
+    }
+
+    /// Puts a scope that fits behind the others. Without memory the draft stays.
+    fn push_fitting(&mut self, scope: LayoutScope, parent: Option<usize>) -> Result<(), NoMemory>
+        requires { parent_behind self.old scope ≡ Some parent }
+        ensures { OnOk result (self.new ≡ self.old ++ under scope parent ∷ []) }
+    {
+        push_scope(&mut self.scopes, &mut self.places, placed(scope, parent))?;
+        Ok(())
+    }
+
+    /// Puts one more scope behind the others.
+    fn push(&mut self, scope: LayoutScope) -> Result<(), Failure<ScopeFault>>
+        ensures ok { OnOk result (after_scope self.old scope ≡ Some self.new) }
+        ensures err { IfErr result (IsBadScope self.old scope) }
+    {
+        let Some(parent) = self.parent_of(&scope) else {
+            return Err(Failure::Fault(ScopeFault::BadLayout));
         };
-        places.insert(name.copied()?, scopes.len())?;
-        scopes.push(Scope { name, parent, keys })?;
-        Ok(Draft { scopes, places })
+        self.push_fitting(scope, parent)?;
+        Ok(())
     }
 
     /// The scopes of a layout, each behind those before it.
@@ -70,8 +84,33 @@ impl Draft {
             places: TextMap::new(alloc),
         };
         for scope in scopes {
-            draft = draft.with_scope(scope)?;
+            draft.push(scope)?;
         }
         Ok(draft)
     }
+}
+
+/// The scope of a layout with the place of its parent.
+fn placed(scope: LayoutScope, parent: Option<usize>) -> Scope
+    ensures { result ≡ under scope parent }
+{
+    let LayoutScope { name, keys, .. } = scope;
+    Scope { name, parent, keys }
+}
+
+/// Puts a scope behind the others, and its place under its name. Without memory both stay.
+fn push_scope(
+    scopes: &mut Vec<Scope>,
+    places: &mut TextMap<usize>,
+    scope: Scope,
+) -> Result<(), NoMemory>
+    ensures scopes { OnOk result (scopes.new.items ≡ scopes.old.items ++ scope ∷ []) }
+    ensures places { OnOk result (places.new ≡ map.insert places.old scope.name (length scopes.old.items)) }
+    ensures same_scopes { OnErr result (scopes.new.items ≡ scopes.old.items) }
+    ensures same_places { OnErr result (places.new ≡ places.old) }
+{
+    scopes.reserve(1)?;
+    places.insert(scope.name.copied()?, scopes.len())?;
+    scopes.push(scope).unwrap();
+    Ok(())
 }

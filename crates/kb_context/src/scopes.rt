@@ -1,6 +1,6 @@
 //! Scopes of context keys, and which of them has the focus.
 ghost use Rattle.std.specs.Prelude.{◌≡◌, ◌<◌, None, Some, length, option_copied, IfOk, IfErr, IsSome, OnOk};
-ghost use Rattle.std.specs.Prelude.{OnErr};
+ghost use Rattle.std.specs.Prelude.{OnErr, IsTrue};
 ghost use Rattle.std.specs.FinMap as map;
 ghost use Rattle.kb_context.specs.Scopes.{IsRooted, seen_from};
 
@@ -8,6 +8,7 @@ use crate::draft::Draft;
 use crate::failure::Failure;
 use crate::fault::{ScopeFault, UnknownScope};
 use crate::layout::{Layout, SCOPE_LIMIT, count_keys};
+use crate::memory::NoMemory;
 use crate::text::Text;
 use crate::text_map::TextMap;
 use crate::value::ContextValue;
@@ -72,7 +73,7 @@ impl Model for Scopes {
 impl Scopes {
     ghost use Rattle.kb_context.specs.Failure.{IsRefusal, IsRefusalOrMemory};
     ghost use Rattle.kb_context.specs.Layout.{layout_fault, scopes_of};
-    ghost use Rattle.kb_context.specs.Scopes.{context, place_of, value_in, value_at, set_fault_at, set_fault};
+    ghost use Rattle.kb_context.specs.Scopes.{context, place_of, value_in, value_at, has_room, set_fault_at, set_fault};
     ghost use Rattle.kb_context.specs.Scopes.{with_value_at, with_value, without_value, with_focus};
     ghost use Rattle.kb_context.specs.Scopes.{ReachesRoot, ChangesOnly, ChangesOnlyIn};
 
@@ -119,6 +120,30 @@ impl Scopes {
         look(&self.scopes, self.focus, key)
     }
 
+    /// Whether a key can be set in the scope at a place: it stands there, or there is room for one more.
+    fn has_room(&self, at: usize, key: &str) -> bool
+        requires { at < length self.now.scopes }
+        ensures { result ≡ has_room self.now at key.now }
+    {
+        self.keys < KEY_LIMIT || self.scopes[at].keys.contains_key(key)
+    }
+
+    /// Gives a key, for which there is room, a value in the scope at a place.
+    fn put_at(&mut self, at: usize, key: &str, value: ContextValue) -> Result<(), NoMemory>
+        requires inside { at < length self.old.scopes }
+        requires room { IsTrue (has_room self.old at key.now) }
+        ensures ok { OnOk result (self.new ≡ with_value_at self.old at key.now value) }
+        ensures unchanged { OnErr result (self.new ≡ self.old) }
+        ensures absent { OnErr result (value_at self.old at key.now ≡ None) }
+    {
+        let alloc = *self.scopes.allocator();
+        let scope = &mut self.scopes[at];
+        let before = scope.keys.len();
+        scope.keys.set(alloc, key, value)?;
+        self.keys = self.keys - before + scope.keys.len();
+        Ok(())
+    }
+
     /// Gives a key a value in the scope at a place.
     fn set_at(
         &mut self,
@@ -134,14 +159,10 @@ impl Scopes {
         ensures absent { OnErr result (value_at self.old at key.now ≡ None) }
         ensures change { OnOk result (ChangesOnly self.old self.new at key.now (Some value)) }
     {
-        let alloc = *self.scopes.allocator();
-        let scope = &mut self.scopes[at];
-        if self.keys >= KEY_LIMIT && !scope.keys.contains_key(key) {
+        if !self.has_room(at, key) {
             return Err(Failure::Fault(ScopeFault::TooManyKeys));
         }
-        let before = scope.keys.len();
-        scope.keys.set(alloc, key, value)?;
-        self.keys = self.keys - before + scope.keys.len();
+        self.put_at(at, key, value)?;
         Ok(())
     }
 

@@ -89,6 +89,18 @@ buffer_after BufferTop args b = at_top b
 buffer_after BufferBottom args b = at_bottom b
 buffer_after SetContext args b = b
 
+-- a text may grow by a native command
+abbrev pub MayGrow : Native → Type 0
+MayGrow TypeText = Unit {0}
+MayGrow DeleteLeft = ⊥
+MayGrow DeleteRight = ⊥
+MayGrow CursorLeft = Unit {0}
+MayGrow CursorRight = Unit {0}
+MayGrow BufferClear = ⊥
+MayGrow BufferTop = Unit {0}
+MayGrow BufferBottom = Unit {0}
+MayGrow SetContext = ⊥
+
 -- the value that the second argument is
 abbrev pub value_of : List Arg → ContextValue
 value_of [] = value.Truth false

@@ -3,7 +3,7 @@ ghost use Rattle.std.specs.Prelude.{◌≡◌, ◌≤◌, IfOk, [], ◌∷◌, l
 ghost use Rattle.serde_json.specs.View.{view};
 ghost use Rattle.kb_core.specs.Arg.{empty_of};
 ghost use Rattle.kb_core.specs.Declaration.{parameter_limit};
-ghost use Rattle.kb_core.specs.Reading.{plain_of, arg_of, member_arg, object_args, arguments_for};
+ghost use Rattle.kb_core.specs.Reading.{plain_of, arg_of, member_arg, object_args, lone_arg, arguments_for};
 ghost use Rattle.kb_core.specs.Signature.{fits};
 
 use crate::arg::{Arg, Kind};
@@ -92,8 +92,8 @@ fn empty_args<P: Parameter>(alloc: Global, params: &[P]) -> Result<Args, NoMemor
     Ok(args)
 }
 
-/// A lone value for a lone parameter.
-fn lone_arg(alloc: Global, kind: Kind, value: &Value) -> Result<Option<Args>, NoMemory>
+/// The value as the only argument, if it is of the kind.
+fn only_arg(alloc: Global, kind: Kind, value: &Value) -> Result<Option<Args>, NoMemory>
     ensures { IfOk result (λ args. args ≡ option_map (λ a. a ∷ []) (arg_of kind (view value.now))) }
 {
     let Some(arg) = arg_of(alloc, kind, value)? else {
@@ -102,6 +102,20 @@ fn lone_arg(alloc: Global, kind: Kind, value: &Value) -> Result<Option<Args>, No
     let mut args = Args::new(alloc);
     args.push(arg)?;
     Ok(Some(args))
+}
+
+/// A lone value, for a lone parameter.
+fn lone_arg<P: Parameter>(
+    alloc: Global,
+    params: &[P],
+    value: &Value,
+) -> Result<Option<Args>, NoMemory>
+    ensures { IfOk result (λ args. args ≡ lone_arg (map P.declares params.now) (view value.now)) }
+{
+    match params {
+        [param] => only_arg(alloc, param.kind(), value),
+        _ => Ok(None),
+    }
 }
 
 /// The arguments that the value gives the parameters.
@@ -123,10 +137,7 @@ pub(crate) fn arguments_for<P: Parameter>(
             if value.is_object() {
                 return object_args(alloc, params, value);
             }
-            match params {
-                [param] => lone_arg(alloc, param.kind(), value),
-                _ => Ok(None),
-            }
+            lone_arg(alloc, params, value)
         }
     }
 }

@@ -3,6 +3,7 @@ ghost use Rattle.std.specs.Prelude.{◌≡◌, IsTrue, OnOk, OnErr, IfOk, None};
 ghost use Rattle.kb_core.specs.Core.{new_core, core_after};
 ghost use Rattle.kb_context.specs.Scopes.{set_fault_at, value_at};
 ghost use Rattle.kb_core.specs.Native.{text_of, value_of, with_root_key, parameters_of, MayLackMemory};
+ghost use Rattle.kb_core.specs.Native.{buffer_after, MayGrow};
 ghost use Rattle.kb_core.specs.Ran.{Does};
 ghost use Rattle.kb_core.specs.Signature.{fits};
 ghost use Rattle.kb_core.specs.declared.native.Native.TheVariants.{SetContext};
@@ -67,12 +68,23 @@ fn edit(native: Native, core: &mut Core, args: Args) -> Result<(), NoMemory>
 {
     let Core { buffer, scopes } = core;
     match native {
-        Native::TypeText => buffer.insert(text_of(args.as_slice())),
+        Native::SetContext => set_context(scopes, args),
+        _ => edit_text(native, buffer, args.as_slice()),
+    }
+}
+
+/// Changes the text as the command does, or not at all. A command that sets a context key leaves it.
+fn edit_text(native: Native, buffer: &mut Buffer, args: &[Arg]) -> Result<(), NoMemory>
+    ensures ok { OnOk result (buffer.new ≡ buffer_after native args.now buffer.old) }
+    ensures err { OnErr result (buffer.new ≡ buffer.old) }
+    ensures refused { OnErr result (MayGrow native) }
+{
+    match native {
+        Native::TypeText => buffer.insert(text_of(args)),
         Native::CursorLeft => buffer.move_left(),
         Native::CursorRight => buffer.move_right(),
         Native::BufferTop => buffer.move_to_top(),
         Native::BufferBottom => buffer.move_to_bottom(),
-        Native::SetContext => set_context(scopes, args),
         Native::DeleteLeft => {
             buffer.delete_left();
             Ok(())
@@ -85,12 +97,11 @@ fn edit(native: Native, core: &mut Core, args: Args) -> Result<(), NoMemory>
             buffer.clear();
             Ok(())
         }
+        Native::SetContext => Ok(()),
     }
 }
 
-/// Gives the key that the first argument is the value that the second one is, in the outermost
-/// scope. Where the key is new there while as many keys stand as may, the scopes stay, and that is
-/// no refusal (our decision). Where memory is refused, which only a new key wants, the scopes stay too.
+/// Gives the key that the first argument is the value that the second one is.
 fn set_context(scopes: &mut Scopes, args: Args) -> Result<(), NoMemory>
     requires { IsTrue (fits (parameters_of SetContext) args) }
     ensures ok { OnOk result (scopes.new ≡ with_root_key (text_of args) (value_of args) scopes.old) }
@@ -100,7 +111,19 @@ fn set_context(scopes: &mut Scopes, args: Args) -> Result<(), NoMemory>
 {
     let mut args = args;
     let value = args.pop().unwrap();
-    match scopes.set_root(text_of(args.as_slice()), ContextValue::from(value)) {
+    set_root_key(scopes, text_of(args.as_slice()), ContextValue::from(value))
+}
+
+/// Gives a key a value in the outermost scope. Where the key is new there while as many keys stand as
+/// may, the scopes stay, and that is no refusal (our decision). Where memory is refused, which only a
+/// new key wants, the scopes stay too.
+fn set_root_key(scopes: &mut Scopes, key: &str, value: ContextValue) -> Result<(), NoMemory>
+    ensures ok { OnOk result (scopes.new ≡ with_root_key key.now value scopes.old) }
+    ensures err { OnErr result (scopes.new ≡ scopes.old) }
+    ensures allowed { OnErr result (set_fault_at scopes.old 0 key.now ≡ None) }
+    ensures absent { OnErr result (value_at scopes.old 0 key.now ≡ None) }
+{
+    match scopes.set_root(key, value) {
         Ok(()) | Err(Failure::Fault(_)) => Ok(()),
         Err(Failure::NoMemory) => Err(AllocError),
     }
