@@ -5,19 +5,7 @@ use Rattle.std.proofs.Common.{Bool, true, false, ◌||◌, not, cond, bytes_eq, 
 use Rattle.std.proofs.Common.{refl, sym, ap, ◌∙◌, true≢false}
 use Rattle.std.specs.List.{list_any}
 use Rattle.indexmap.specs.IndexSet.{insert_key}
-use Rattle.kb_handlers.specs.Names.{repeats}
-use denote.Ref.{Bor}
-
-abbrev pub Name : Type 0
-Name = Bor (List ℕ)
-
--- a name is one of those that were seen
-abbrev pub is_seen : List Name → List ℕ → Bool
-is_seen names name = list_any (λ k. bytes_eq name k.now) names
-
--- one of the names that are left was seen, or stands twice among them
-abbrev pub repeats_behind : List Name → List (List ℕ) → Bool
-repeats_behind above names = list_any (is_seen above) names || repeats names
+use Rattle.kb_handlers.specs.Names.{Name, is_seen, repeats, repeats_behind}
 
 -- ---- tests
 

@@ -1,12 +1,14 @@
 -- What a handler of a file says, member by member, or its first fault.
 use Rattle.std.specs.Prelude.{ℤ, List, [], codes, Option, Some, None, option_and_then, Result, Ok, Err}
-use Rattle.serde_json.specs.Data.{Data}
-use Rattle.serde_json.specs.Find.{get, as_i64, as_number, as_object, as_str}
+use Rattle.serde_json.specs.Data.{Data, Members}
+use Rattle.serde_json.specs.Find.{get_member, as_i64, as_number, as_object, as_str}
 use Rattle.kb_context.specs.Reading.{◌>>=◌, or_fault}
 use Rattle.kb_json.specs.declared.fault.FileFault.{FileFault}
 use Rattle.kb_json.specs.declared.fault.FileFault.TheVariants.{MissingMember, WrongShape}
 use Rattle.kb_json.specs.Parts.{optional, texts_of, word_of}
+use Rattle.kb_handlers.specs.declared.entry.Declared.{Declared}
 use Rattle.kb_handlers.specs.declared.entry.Entry.{Entry}
+use Rattle.kb_handlers.specs.declared.entry.Written.{Written}
 use Rattle.kb_handlers.specs.Parameters.{params_of}
 
 -- a member that must be there: 40 where it is absent, 41 where it is something else
@@ -22,23 +24,31 @@ or_empty read member = or_fault WrongShape (optional [] read member)
 abbrev pub whole_of : Data → Option ℤ
 whole_of d = option_and_then as_i64 (as_number d)
 
--- what an element says, or its first fault in the order of these members
+-- what the first members say, or their first fault in this order
+abbrev pub declared_of : Members → Result Declared FileFault
+declared_of ms = do
+  command ← required word_of (get_member (codes "command") ms)
+  params ← or_empty params_of (get_member (codes "params") ms)
+  budget ← required whole_of (get_member (codes "budget") ms)
+  depth ← required whole_of (get_member (codes "depth") ms)
+  Ok (record { command = command; params = params; budget = budget; depth = depth })
+
+-- what the last members say, or their first fault in this order
+abbrev pub written_of : Option Data → Option Data → Option Data → Result Written FileFault
+written_of texts calls code = do
+  texts ← or_empty texts_of texts
+  calls ← or_empty texts_of calls
+  code ← required as_str code
+  Ok (record { texts = texts; calls = calls; code = code })
+
+-- what the members of an element say, or their first fault
+abbrev pub members_of : Members → Result Entry FileFault
+members_of ms = do
+  declared ← declared_of ms
+  written ← written_of (get_member (codes "texts") ms) (get_member (codes "calls") ms)
+      (get_member (codes "code") ms)
+  Ok (record { declared = declared; written = written })
+
+-- what an element says, or its first fault
 unfoldable pub entry_of : Data → Result Entry FileFault
-entry_of d = do
-  members ← or_fault WrongShape (as_object d)
-  command ← required word_of (get (codes "command") d)
-  params ← or_empty params_of (get (codes "params") d)
-  budget ← required whole_of (get (codes "budget") d)
-  depth ← required whole_of (get (codes "depth") d)
-  texts ← or_empty texts_of (get (codes "texts") d)
-  calls ← or_empty texts_of (get (codes "calls") d)
-  code ← required as_str (get (codes "code") d)
-  Ok (record {
-    command = command;
-    params = params;
-    budget = budget;
-    depth = depth;
-    texts = texts;
-    calls = calls;
-    code = code;
-  })
+entry_of d = or_fault WrongShape (as_object d) >>= members_of

@@ -1,20 +1,23 @@
 -- The handlers that a file says, as JSON data, or its first fault.
-use Rattle.std.specs.Prelude.{ℤ, pos, negsuc, ◌==◌, Bool, false, List, [], ◌∷◌, map, codes}
+use Rattle.std.specs.Prelude.{ℕ, ℤ, pos, negsuc, ◌==◌, Bool, false, List, [], ◌∷◌, map, codes}
 use Rattle.std.specs.Prelude.{Result, Ok, Err, if◌then◌else◌}
-use Rattle.serde_json.specs.Data.{Data}
-use Rattle.serde_json.specs.Find.{get, as_object}
+use Rattle.serde_json.specs.Data.{Data, Members}
+use Rattle.serde_json.specs.Find.{get_member, as_object}
 use Rattle.kb_code.specs.Handler.{HandlerData}
+use Rattle.kb_code.specs.declared.instr.Instr.{Instr}
+use Rattle.kb_core.specs.Declaration.{Declaration}
 use Rattle.kb_context.specs.Reading.{◌>>=◌, guard, or_fault, seen}
 use Rattle.kb_json.specs.declared.fault.FileFault.{FileFault}
 use Rattle.kb_json.specs.declared.fault.FileFault.TheVariants.{WrongShape}
 use Rattle.kb_json.specs.Parts.{elements_of}
 use Rattle.kb_handlers.specs.declared.entry.Entry.{Entry}
+use Rattle.kb_handlers.specs.declared.entry.Written.{Written}
 use Rattle.kb_handlers.specs.declared.fault.HandlersFault.{HandlersFault}
 use Rattle.kb_handlers.specs.declared.fault.HandlersFault.TheVariants.{DuplicateHandler, TooLarge}
 use Rattle.kb_handlers.specs.Code.{code_in}
 use Rattle.kb_handlers.specs.Entry.{entry_of, required, whole_of}
 use Rattle.kb_handlers.specs.Fault.{shaped}
-use Rattle.kb_handlers.specs.Limits.{at_most, signature_of}
+use Rattle.kb_handlers.specs.Limits.{are_few, at_most, signature_of}
 use Rattle.kb_handlers.specs.Names.{repeats}
 
 -- the number is 1
@@ -22,32 +25,44 @@ abbrev pub is_one : ℤ → Bool
 is_one (pos n) = n == 1
 is_one (negsuc n) = false
 
--- the elements of the list of handlers of an object whose version is 1
-unfoldable pub list_of : Data → Result (List Data) FileFault
-list_of d = do
-  members ← or_fault WrongShape (as_object d)
-  version ← required whole_of (get (codes "version") d)
+-- the elements of the list of handlers of members whose version is 1
+abbrev pub list_in : Members → Result (List Data) FileFault
+list_in ms = do
+  version ← required whole_of (get_member (codes "version") ms)
   checked ← guard WrongShape (is_one version)
-  required elements_of (get (codes "handlers") d)
+  required elements_of (get_member (codes "handlers") ms)
+
+-- the same of an object
+unfoldable pub list_of : Data → Result (List Data) FileFault
+list_of d = or_fault WrongShape (as_object d) >>= list_in
 
 -- the same, if there aren't too many
 abbrev pub head_of : Data → Result (List Data) HandlersFault
 head_of d = shaped (list_of d) >>= λ elements. or_fault TooLarge (at_most 1000 elements)
 
+-- the code of what an element says: its texts and calls are few
+abbrev pub code_within : Written → Result (List Instr) HandlersFault
+code_within written = do
+  texts ← guard TooLarge (are_few 1000 written.texts)
+  calls ← guard TooLarge (are_few 1000 written.calls)
+  code_in written.code
+
+-- the handler of a command that declares this
+abbrev pub handler_by : List ℕ → Declaration → Written → Result HandlerData HandlersFault
+handler_by command declaration written = code_within written >>= λ code. Ok (record {
+  command = command;
+  signature = declaration;
+  texts = written.texts;
+  calls = written.calls;
+  code = code;
+})
+
 -- the handler of what an element says: its limits come before its code
 unfoldable pub handler_in : Entry → Result HandlerData HandlersFault
 handler_in entry = do
-  signature ← or_fault TooLarge (signature_of entry.params entry.budget entry.depth)
-  texts ← or_fault TooLarge (at_most 1000 entry.texts)
-  calls ← or_fault TooLarge (at_most 1000 entry.calls)
-  code ← code_in entry.code
-  Ok (record {
-    command = entry.command;
-    signature = signature;
-    texts = texts;
-    calls = calls;
-    code = code;
-  })
+  declaration ← or_fault TooLarge
+      (signature_of entry.declared.params entry.declared.budget entry.declared.depth)
+  handler_by entry.declared.command declaration entry.written
 
 -- the handler that an element is, or its first fault
 abbrev pub handler_of : Data → Result HandlerData HandlersFault

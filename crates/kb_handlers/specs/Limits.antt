@@ -1,13 +1,17 @@
 -- What a handler may have at most.
-use Rattle.std.specs.Prelude.{ℕ, ℤ, pos, negsuc, ◌&&◌, nat_le, List, length}
+use Rattle.std.specs.Prelude.{ℕ, ℤ, pos, negsuc, Bool, ◌&&◌, nat_le, List, length}
 use Rattle.std.specs.Prelude.{Option, Some, None, if◌then◌else◌}
 use Rattle.kb_core.specs.declared.parameter.Param.{Param}
 use Rattle.kb_core.specs.Declaration.{Declaration}
 use Rattle.kb_json.specs.Parts.{◌>>=◌}
 
+-- a list isn't longer than that
+abbrev pub are_few : {A : Type 0} → ℕ → List A → Bool
+are_few limit xs = nat_le (length xs) limit
+
 -- a list, if it isn't longer than that
 abbrev pub at_most : {A : Type 0} → ℕ → List A → Option (List A)
-at_most limit xs = if nat_le (length xs) limit then Some xs else None
+at_most limit xs = if are_few limit xs then Some xs else None
 
 -- a whole number from 1 to a limit
 abbrev pub within : ℕ → ℤ → Option ℕ

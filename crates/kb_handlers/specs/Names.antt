@@ -1,8 +1,21 @@
 -- Names that stand twice.
 use Rattle.std.specs.Prelude.{ℕ, List, [], ◌∷◌, Bool, false, ◌||◌, bytes_eq}
 use Rattle.std.specs.List.{list_any}
+use denote.Ref.{Bor}
 
 -- a name stands once more behind itself
 abbrev pub repeats : List (List ℕ) → Bool
 repeats [] = false
 repeats (name ∷ names) = list_any (λ other. bytes_eq other name) names || repeats names
+
+-- a name that is lent
+abbrev pub Name : Type 0
+Name = Bor (List ℕ)
+
+-- a name is one of those that were seen
+abbrev pub is_seen : List Name → List ℕ → Bool
+is_seen names name = list_any (λ k. bytes_eq name k.now) names
+
+-- one of the names that are left was seen, or stands twice among them
+abbrev pub repeats_behind : List Name → List (List ℕ) → Bool
+repeats_behind above names = list_any (is_seen above) names || repeats names

@@ -1,7 +1,7 @@
 -- The parameters of a handler that a JSON value names.
 use Rattle.std.specs.Prelude.{ℕ, List, map, codes, bytes_eq, Option, Some, None, if◌then◌else◌}
-use Rattle.serde_json.specs.Data.{Data}
-use Rattle.serde_json.specs.Find.{get, as_str}
+use Rattle.serde_json.specs.Data.{Data, Members}
+use Rattle.serde_json.specs.Find.{get_member, as_object, as_str}
 use Rattle.kb_core.specs.declared.arg.Kind.{Kind}
 use Rattle.kb_core.specs.declared.arg.Kind.TheVariants as kind
 use Rattle.kb_core.specs.declared.parameter.Param.{Param}
@@ -17,13 +17,20 @@ kind_named name =
     else if bytes_eq name (codes "any") then Some kind.Any
     else None
 
--- the parameter that an element is: an object with a name that isn't empty, and the name of a kind
-unfoldable pub param_of : Data → Option Param
-param_of d = do
-  name ← get (codes "name") d >>= word_of
-  kind ← get (codes "kind") d >>= as_str
-  kind ← kind_named kind
+-- the kind that a member names
+abbrev pub kind_of : Option Data → Option Kind
+kind_of member = member >>= as_str >>= kind_named
+
+-- the parameter that members are: a name that isn't empty, and the name of a kind
+abbrev pub param_in : Members → Option Param
+param_in ms = do
+  name ← get_member (codes "name") ms >>= word_of
+  kind ← kind_of (get_member (codes "kind") ms)
   Some (record { name = name; kind = kind })
+
+-- the parameter that an element is, if it is an object
+unfoldable pub param_of : Data → Option Param
+param_of d = as_object d >>= param_in
 
 -- the same, if no name stands twice
 abbrev pub distinct : List Param → Option (List Param)

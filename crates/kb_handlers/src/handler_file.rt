@@ -1,22 +1,23 @@
 //! A file of handlers.
-ghost use Rattle.std.specs.Prelude.{◌≡◌, IfErr, IsOk};
-ghost use Rattle.serde_json.specs.View.{view, items_view};
+ghost use Rattle.std.specs.Prelude.{◌≡◌, ◌≤◌, IfErr, IsOk};
+ghost use Rattle.serde_json.specs.View.{view, items_view, members_view};
 ghost use Rattle.kb_context.specs.declared.failure.Failure.TheVariants.{NoMemory};
 ghost use Rattle.kb_context.specs.Failure.{Gives};
 ghost use Rattle.kb_context.specs.Reading.{seen};
 ghost use Rattle.kb_json.specs.Parts.{listed};
-ghost use Rattle.kb_handlers.specs.HandlerFile.{head_of, list_of, handlers_of};
-ghost use Rattle.kb_handlers.specs.HandlerFile.{each_read, handler_in, handler_of};
+ghost use Rattle.kb_handlers.specs.HandlerFile.{head_of, list_in, list_of, handlers_of};
+ghost use Rattle.kb_handlers.specs.HandlerFile.{each_read, code_within, handler_by, handler_in, handler_of};
 
 use crate::code::read_code;
-use crate::entry::{Entry, read_entry, required_whole};
+use crate::entry::{Declared, Entry, Written, read_entry, required_whole};
 use crate::fault::HandlersFault;
-use crate::limits::{signature_of, some_texts};
+use crate::limits::{few_texts, signature_of};
 use crate::names::repeats;
-use kb_code::Handler;
-use kb_context::{Failure, Seq};
+use kb_code::{Handler, Instr};
+use kb_context::{Failure, Seq, Text};
+use kb_core::Signature;
 use kb_json::{FileFault, elements_in, members_in, take_member};
-use serde_json::Value;
+use serde_json::{Map, Value};
 use std::alloc::Global;
 
 /// How many handlers a file may have.
@@ -71,11 +72,19 @@ fn read_list(value: Value) -> Result<Vec<Value>, FileFault>
     ensures { seen (λ elements. listed (items_view elements.items)) result ≡ list_of (view value) }
 {
     let mut members = members_in(value).ok_or(FileFault::WrongShape)?;
-    let version = required_whole(take_member(&mut members, "version"))?;
+    list_in(&mut members)
+}
+
+/// The elements of the list of handlers, taken out of the members of a file.
+fn list_in(members: &mut Map<String, Value>) -> Result<Vec<Value>, FileFault>
+    ensures { seen (λ elements. listed (items_view elements.items)) result
+        ≡ list_in (members_view members.old.entries) }
+{
+    let version = required_whole(take_member(members, "version"))?;
     if version != 1 {
         return Err(FileFault::WrongShape);
     }
-    let handlers = take_member(&mut members, "handlers").ok_or(FileFault::MissingMember)?;
+    let handlers = take_member(members, "handlers").ok_or(FileFault::MissingMember)?;
     elements_in(handlers).ok_or(FileFault::WrongShape)
 }
 
@@ -110,18 +119,36 @@ fn read_handler(alloc: Global, element: Value) -> Result<Handler, Failure<Handle
 fn handler_in(alloc: Global, entry: Entry) -> Result<Handler, Failure<HandlersFault>>
     ensures { Gives (λ handler. handler) result (handler_in entry) }
 {
-    let Entry {
+    let Entry { declared, written } = entry;
+    let Declared {
         command,
         params,
         budget,
         depth,
-        texts,
-        calls,
-        code,
-    } = entry;
+    } = declared;
     let signature = signature_of(params, budget, depth).ok_or(HandlersFault::TooLarge)?;
-    let texts = some_texts(texts)?;
-    let calls = some_texts(calls)?;
-    let code = read_code(alloc, code.as_str())?;
-    Ok(Handler::new(command, signature, texts, calls, code))
+    handler_by(alloc, command, signature, written)
+}
+
+/// The handler of a command with this signature.
+fn handler_by(
+    alloc: Global,
+    command: Text,
+    signature: Signature,
+    written: Written,
+) -> Result<Handler, Failure<HandlersFault>>
+    requires depth { 1 ≤ signature.depth }
+    ensures { Gives (λ handler. handler) result (handler_by command signature written) }
+{
+    let code = code_within(alloc, &written)?;
+    Ok(Handler::new(command, signature, written.texts, written.calls, code))
+}
+
+/// The code of a handler whose texts and calls aren't too many.
+fn code_within(alloc: Global, written: &Written) -> Result<Seq<Instr>, Failure<HandlersFault>>
+    ensures { Gives (λ code. code) result (code_within written.now) }
+{
+    few_texts(&written.texts)?;
+    few_texts(&written.calls)?;
+    read_code(alloc, written.code.as_str())
 }

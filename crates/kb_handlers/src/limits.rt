@@ -1,8 +1,8 @@
 //! What a handler may have at most.
 ghost use Rattle.std.specs.Prelude.{◌≡◌, ◌≤◌, IfSome};
-ghost use Rattle.kb_context.specs.Reading.{or_fault};
+ghost use Rattle.kb_context.specs.Reading.{guard};
 ghost use Rattle.kb_handlers.specs.declared.fault.HandlersFault.TheVariants.{TooLarge};
-ghost use Rattle.kb_handlers.specs.Limits.{at_most, within, signature_of};
+ghost use Rattle.kb_handlers.specs.Limits.{are_few, within, signature_of};
 
 use crate::fault::HandlersFault;
 use kb_context::{Seq, Text};
@@ -20,14 +20,14 @@ const BUDGET_LIMIT: u32 = 1_000_000_000;
 /// How deep the calls of a handler may nest.
 const DEPTH_LIMIT: u32 = 64;
 
-/// Texts, if there aren't too many. It takes no memory.
-pub(crate) fn some_texts(texts: Seq<Text>) -> Result<Seq<Text>, HandlersFault>
-    ensures { result ≡ or_fault TooLarge (at_most 1000 texts) }
+/// Looks whether texts are too many. It takes no memory.
+pub(crate) fn few_texts(texts: &Seq<Text>) -> Result<(), HandlersFault>
+    ensures { result ≡ guard TooLarge (are_few 1000 texts.now) }
 {
     if texts.len() > TEXT_LIMIT {
         return Err(HandlersFault::TooLarge);
     }
-    Ok(texts)
+    Ok(())
 }
 
 /// A whole number from 1 to a limit.

@@ -1,6 +1,6 @@
 //! Names that stand twice.
 ghost use Rattle.std.specs.Prelude.{◌≡◌, map, IfOk};
-ghost use Rattle.kb_handlers.specs.Names.{repeats};
+ghost use Rattle.kb_handlers.specs.Names.{repeats, repeats_behind};
 
 use indexmap::IndexSet;
 use kb_code::Handler;
@@ -36,10 +36,21 @@ impl Named for Handler {
 }
 
 /// Whether a name stands twice.
+#[tactic(auto, using(crate::proofs::NamesLemmas::none_seen))]
 pub(crate) fn repeats<T: Named>(alloc: Global, items: &[T]) -> Result<bool, NoMemory>
     ensures { IfOk result (λ found. found ≡ repeats (map T.named items.now)) }
 {
     let mut seen: IndexSet<&str> = IndexSet::new(alloc);
+    repeats_behind(&mut seen, items)
+}
+
+/// Whether a name was seen, or stands twice.
+fn repeats_behind<'a, T: Named>(
+    seen: &mut IndexSet<&'a str>,
+    items: &'a [T],
+) -> Result<bool, NoMemory>
+    ensures { IfOk result (λ found. found ≡ repeats_behind seen.old.keys (map T.named items.now)) }
+{
     for item in items {
         if !seen.insert(item.name())? {
             return Ok(true);

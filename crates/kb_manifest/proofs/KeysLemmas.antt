@@ -1,6 +1,7 @@
 -- Keys that are put in a map one by one, in the order of an object's members.
 use Rattle.std.proofs.Common.{◌≡◌, ℕ, List, [], ◌∷◌, map, Bool, true, false, Option, Some, None, option_map}
 use Rattle.std.proofs.Common.{IfSome, Less, cond, is_eq, string_bytes, refl, sym, ap, subst, ◌∙◌, true≢false}
+use Rattle.std.specs.Prelude.{Ok, Err}
 use Rattle.std.specs.Ordering.{nat_cmp, eq_by_cmp}
 use Rattle.std.specs.Cmp.{eq_by_cmp_equiv}
 use Rattle.std.specs.Cmp.Lexicographic.{slice_cmp}
@@ -15,7 +16,10 @@ use Rattle.serde_json.proofs.Views.{Entry}
 use Rattle.serde_json.specs.Data.{Data}
 use Rattle.serde_json.specs.View.{members_view}
 use Rattle.kb_context.specs.declared.value.ContextValue.{ContextValue}
+use Rattle.kb_context.specs.Reading.{or_fault}
 use Rattle.kb_context.specs.Scopes.{Keys}
+use Rattle.kb_json.specs.declared.fault.FileFault.{FileFault}
+use Rattle.kb_json.specs.declared.fault.FileFault.TheVariants.{WrongShape}
 use Rattle.kb_manifest.specs.Context.{value_of}
 use Rattle.kb_json.specs.Parts.{◌>>=◌, each, pairs_of}
 use Rattle.kb_manifest.specs.Layout.{key_of}
@@ -116,8 +120,19 @@ keys_in_order es ordered =
     whole (each key_of ps) (names ps) (members_apart es ordered) (names_read ps)
 
 -- one more key, and then those that are left
-pub key_put : (keys : Keys) (e : Pair) (rest : Option (List Pair))
-    → option_map (inserted keys) (option_map (λ es. e ∷ es) rest)
-    ≡ option_map (inserted (insert keys e.0 e.1)) rest
-key_put keys e None = refl
-key_put keys e (Some es) = refl
+pub key_put : (keys new : Keys) (name : List ℕ) (value : Option ContextValue) (rest : Option (List Pair))
+    → or_fault WrongShape (option_map (insert keys name) value) ≡ Ok new
+    → option_map (inserted new) rest
+    ≡ option_map (inserted keys) (option_map (λ v. (name, v)) value >>= λ e. option_map (λ es. e ∷ es) rest)
+key_put keys new name None rest is = cc
+key_put keys new name (Some v) None is = refl
+key_put keys new name (Some v) (Some es) is = let same : insert keys name v ≡ new = cc in
+    ap (λ m. Some (inserted m es)) (sym same)
+
+-- a key whose value can't be read
+pub key_fails : (keys : Keys) (name : List ℕ) (value : Option ContextValue) (rest : Option (List Pair))
+    (fault : FileFault) → or_fault WrongShape (option_map (insert keys name) value) ≡ Err fault
+    → or_fault WrongShape (option_map (inserted keys)
+    (option_map (λ v. (name, v)) value >>= λ e. option_map (λ es. e ∷ es) rest)) ≡ Err fault
+key_fails keys name None rest fault is = is
+key_fails keys name (Some v) rest fault is = cc

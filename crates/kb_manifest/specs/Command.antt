@@ -1,7 +1,7 @@
 -- The commands that a manifest contributes.
-use Rattle.std.specs.Prelude.{ℕ, List, [], Some, None, Result, Ok, Err, codes}
-use Rattle.serde_json.specs.Data.{Data}
-use Rattle.serde_json.specs.Find.{as_object, get}
+use Rattle.std.specs.Prelude.{ℕ, List, [], Option, Some, None, Result, Ok, Err, codes}
+use Rattle.serde_json.specs.Data.{Data, Members}
+use Rattle.serde_json.specs.Find.{as_object, get_member}
 use Rattle.kb_context.specs.Reading.{◌>>=◌, or_fault}
 use Rattle.kb_json.specs.declared.fault.FileFault.{FileFault}
 use Rattle.kb_json.specs.declared.fault.FileFault.TheVariants.{WrongShape}
@@ -17,15 +17,24 @@ use Rattle.kb_manifest.specs.Condition.{optional_condition, IsOptionalRight}
 use Rattle.kb_manifest.specs.CommandTable.{firsts_behind}
 use Rattle.kb_manifest.specs.Judged.{kept_from, notes_of}
 
--- the texts of an entry; the faults come in this order
+-- the category and the enablement of an entry, each of which may be absent
+abbrev pub extras_of : Option Data → Option Data → Result (Option (List ℕ) × Option (List ℕ)) FileFault
+extras_of category enablement = do
+  category ← optional_text category
+  enablement ← optional_text enablement
+  Ok (category, enablement)
+
+-- the texts of the members of an entry; the faults come in this order
+abbrev pub texts_in : Members → Result Texts FileFault
+texts_in ms = do
+  name ← required_text (get_member (codes "command") ms)
+  title ← required_text (get_member (codes "title") ms)
+  extras ← extras_of (get_member (codes "category") ms) (get_member (codes "enablement") ms)
+  Ok (record { name = name; title = title; category = extras.0; enablement = extras.1 })
+
+-- the texts of an entry, which is an object
 unfoldable pub texts_of : Data → Result Texts FileFault
-texts_of d = do
-  members ← or_fault WrongShape (as_object d)
-  name ← required_text (get (codes "command") d)
-  title ← required_text (get (codes "title") d)
-  category ← optional_text (get (codes "category") d)
-  enablement ← optional_text (get (codes "enablement") d)
-  Ok (record { name = name; title = title; category = category; enablement = enablement })
+texts_of d = or_fault WrongShape (as_object d) >>= texts_in
 
 -- the command of these texts, and what is said of its clause
 abbrev pub command_of : List UnreadPattern → ℕ → Texts → Judged Named

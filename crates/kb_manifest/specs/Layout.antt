@@ -3,8 +3,8 @@ use Rattle.std.specs.Prelude.{ℕ, ◌&&◌, ◌||◌, Bool, List, [], ◌∷◌
 use Rattle.std.specs.Prelude.{unwrap_or, is_some, is_none, Result, Err, codes, if◌then◌else◌}
 use Rattle.std.specs.List.{list_any}
 use Rattle.std.specs.FinMap.{empty, from_entries}
-use Rattle.serde_json.specs.Data.{Data}
-use Rattle.serde_json.specs.Find.{get, as_str, as_object}
+use Rattle.serde_json.specs.Data.{Data, Members}
+use Rattle.serde_json.specs.Find.{get, get_member, as_str, as_object}
 use Rattle.kb_context.specs.declared.layout.Layout.{Layout}
 use Rattle.kb_context.specs.declared.layout.LayoutScope.{LayoutScope}
 use Rattle.kb_context.specs.declared.value.ContextValue.{ContextValue}
@@ -16,8 +16,12 @@ use Rattle.kb_manifest.specs.Context.{value_of}
 use Rattle.kb_json.specs.Parts.{◌>>=◌, each, optional, elements_of, pairs_of}
 
 -- the elements of the list that a member is
+abbrev pub list_of : Option Data → Option (List Data)
+list_of member = member >>= elements_of
+
+-- the same by the member's name
 abbrev pub list_at : List ℕ → Data → Option (List Data)
-list_at name d = get name d >>= elements_of
+list_at name d = list_of (get name d)
 
 -- an object without a member; what is no object lacks none
 abbrev pub lacks : List ℕ → Data → Bool
@@ -40,26 +44,40 @@ keys_of d = as_object d >>= λ ms. option_map from_entries (each key_of (pairs_o
 abbrev pub some_text : Data → Option (Option (List ℕ))
 some_text d = option_map Some (as_str d)
 
+-- the names of a scope and of the one around it, which may be absent
+abbrev pub names_of : Option Data → Option Data → Option (List ℕ × Option (List ℕ))
+names_of name parent = do
+  name ← name >>= as_str
+  parent ← optional None some_text parent
+  Some (name, parent)
+
+-- the scope that members are
+abbrev pub scope_in : Members → Option LayoutScope
+scope_in ms = do
+  names ← names_of (get_member (codes "name") ms) (get_member (codes "parent") ms)
+  keys ← optional empty keys_of (get_member (codes "keys") ms)
+  Some (record { name = names.0; parent = names.1; keys = keys })
+
 -- the scope that an element is
 unfoldable pub scope_of : Data → Option LayoutScope
-scope_of d = do
-  name ← get (codes "name") d >>= as_str
-  parent ← optional None some_text (get (codes "parent") d)
-  keys ← optional empty keys_of (get (codes "keys") d)
-  Some (record { name = name; parent = parent; keys = keys })
+scope_of d = as_object d >>= scope_in
 
 -- the name of the first scope, or the empty text where there is none
 abbrev pub first_name : List LayoutScope → List ℕ
 first_name [] = []
 first_name (s ∷ scopes) = s.name
 
+-- the layout that members are, where each part has its shape
+abbrev pub record_in : Members → Option Layout
+record_in ms = do
+  elements ← list_of (get_member (codes "scopes") ms)
+  scopes ← each scope_of elements
+  focus ← optional (first_name scopes) as_str (get_member (codes "focus") ms)
+  Some (record { scopes = scopes; focus = focus })
+
 -- the layout that a value is, where each part has its shape
 unfoldable pub record_of : Data → Option Layout
-record_of d = do
-  elements ← list_at (codes "scopes") d
-  scopes ← each scope_of elements
-  focus ← optional (first_name scopes) as_str (get (codes "focus") d)
-  Some (record { scopes = scopes; focus = focus })
+record_of d = as_object d >>= record_in
 
 -- a member that is absent is the first fault, wherever it stands, and then any wrong shape
 abbrev pub layout_of : Data → Result Layout FileFault

@@ -1,9 +1,9 @@
 -- The manifest that a JSON value is (`package.json`), or its first fault.
-use Rattle.std.specs.Prelude.{ℕ, List, [], ◌∷◌, ◌++◌, Option, Some, None, Result, Ok, Err, codes}
+use Rattle.std.specs.Prelude.{ℕ, List, [], ◌++◌, Option, Some, Result, Ok, Err, codes}
 use Rattle.std.specs.Prelude.{◌≡◌}
 use Rattle.std.specs.Prelude.{if◌then◌else◌}
-use Rattle.serde_json.specs.Data.{Data}
-use Rattle.serde_json.specs.Find.{get, as_str, as_object}
+use Rattle.serde_json.specs.Data.{Data, Members}
+use Rattle.serde_json.specs.Find.{get_member, as_object}
 use Rattle.serde_json.specs.View.{items_view}
 use Rattle.kb_context.specs.Reading.{or_fault, seen}
 use Rattle.kb_manifest.specs.declared.command_table.Named.{Named}
@@ -55,14 +55,17 @@ id_of name publisher = do
   publisher ← publisher_of publisher
   Some ((publisher ++ codes ".") ++ extension)
 
+-- what members say, where each part has its shape
+abbrev pub head_in : Members → Option Outline
+head_in ms = do
+  id ← id_of (get_member (codes "name") ms) (get_member (codes "publisher") ms)
+  dependencies ← optional [] texts_of (get_member (codes "extensionDependencies") ms)
+  points ← optional no_points points_in (get_member (codes "contributes") ms)
+  Some (record { id = id; dependencies = dependencies; points = points })
+
 -- what an object says, where each part has its shape
 unfoldable pub head_of : Data → Option Outline
-head_of d = do
-  members ← as_object d
-  id ← id_of (get (codes "name") d) (get (codes "publisher") d)
-  dependencies ← optional [] texts_of (get (codes "extensionDependencies") d)
-  points ← optional no_points points_in (get (codes "contributes") d)
-  Some (record { id = id; dependencies = dependencies; points = points })
+head_of d = as_object d >>= head_in
 
 -- a name that is absent is the first fault, and then any wrong shape of the file itself
 unfoldable pub outline_of : Data → Result Outline FileFault

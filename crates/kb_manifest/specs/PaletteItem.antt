@@ -1,8 +1,8 @@
 -- The entries of a manifest that say where the palette shows a command.
 use Rattle.std.specs.Prelude.{ℕ, List, [], Option, Some, None, Result, Ok, Err, if◌then◌else◌, codes}
 use Rattle.std.specs.List.{list_all}
-use Rattle.serde_json.specs.Data.{Data}
-use Rattle.serde_json.specs.Find.{as_object, get}
+use Rattle.serde_json.specs.Data.{Data, Members}
+use Rattle.serde_json.specs.Find.{as_object, get_member}
 use Rattle.kb_context.specs.Blank.{is_blank}
 use Rattle.kb_context.specs.Reading.{◌>>=◌, or_fault}
 use Rattle.kb_json.specs.declared.fault.FileFault.{FileFault}
@@ -23,13 +23,16 @@ abbrev pub said : Option (List ℕ) → Option (List ℕ)
 said None = None
 said (Some text) = if list_all is_blank text then None else Some text
 
--- the texts of an entry; the faults come in this order
-unfoldable pub texts_of : Data → Result ItemTexts FileFault
-texts_of d = do
-  members ← or_fault WrongShape (as_object d)
-  command ← required_text (get (codes "command") d)
-  when ← optional_text (get (codes "when") d)
+-- the texts of the members of an entry; the faults come in this order
+abbrev pub texts_in : Members → Result ItemTexts FileFault
+texts_in ms = do
+  command ← required_text (get_member (codes "command") ms)
+  when ← optional_text (get_member (codes "when") ms)
   Ok (record { command = command; when = said when })
+
+-- the texts of an entry, which is an object
+unfoldable pub texts_of : Data → Result ItemTexts FileFault
+texts_of d = or_fault WrongShape (as_object d) >>= texts_in
 
 -- the item of these texts, and what is said of its clause
 abbrev pub item_of : List UnreadPattern → ℕ → ItemTexts → Judged PaletteItem

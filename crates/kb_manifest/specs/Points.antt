@@ -1,7 +1,7 @@
 -- What the contribution points of a manifest hold, entry by entry.
 use Rattle.std.specs.Prelude.{List, [], ◌∷◌, Option, Some, None, codes}
-use Rattle.serde_json.specs.Data.{Data, null, boolean, number, string, array, object}
-use Rattle.serde_json.specs.Find.{get, as_object}
+use Rattle.serde_json.specs.Data.{Data, Members, null, boolean, number, string, array, object}
+use Rattle.serde_json.specs.Find.{get, get_member, as_object}
 use Rattle.serde_json.specs.View.{items_view}
 use Rattle.kb_manifest.specs.declared.points.Points.{Points}
 use Rattle.kb_json.specs.Parts.{◌>>=◌, optional, listed}
@@ -29,14 +29,17 @@ palette_of menus = do
   members ← as_object menus
   optional [] entries_of (get (codes "commandPalette") menus)
 
--- what the contributions of a manifest hold; a point that is absent has no entry
-unfoldable pub points_in : Data → Option Held
-points_in d = do
-  members ← as_object d
-  commands ← optional [] entries_of (get (codes "commands") d)
-  keybindings ← optional [] entries_of (get (codes "keybindings") d)
-  palette ← optional [] palette_of (get (codes "menus") d)
+-- what the contributions of a manifest hold, by their members; a point that is absent has no entry
+abbrev pub points_by : Members → Option Held
+points_by ms = do
+  commands ← optional [] entries_of (get_member (codes "commands") ms)
+  keybindings ← optional [] entries_of (get_member (codes "keybindings") ms)
+  palette ← optional [] palette_of (get_member (codes "menus") ms)
   Some (record { commands = commands; keybindings = keybindings; palette = palette })
+
+-- what the contributions of a manifest hold
+unfoldable pub points_in : Data → Option Held
+points_in d = as_object d >>= points_by
 
 -- the same of points that were taken out of a manifest
 abbrev pub seen_points : Points → Held

@@ -1,11 +1,13 @@
 //! The commands that a manifest contributes.
-ghost use Rattle.std.specs.Prelude.{◌≡◌, ◌++◌, [], IfOk, OnOk};
-ghost use Rattle.serde_json.specs.View.{view, items_view};
+ghost use Rattle.std.specs.Prelude.{◌≡◌, ◌++◌, [], IfOk, OnOk, codes};
+ghost use Rattle.serde_json.specs.Find.{get_member};
+ghost use Rattle.serde_json.specs.View.{view, items_view, members_view};
 ghost use Rattle.kb_json.specs.Parts.{listed};
-ghost use Rattle.kb_manifest.specs.Command.{texts_of, command_of, judged_at, commands_by, IsRightAt};
+ghost use Rattle.kb_manifest.specs.Command.{texts_of, texts_in, extras_of, command_of, judged_at};
+ghost use Rattle.kb_manifest.specs.Command.{commands_by, IsRightAt};
 ghost use Rattle.kb_manifest.specs.Condition.{IsOptionalRight};
 ghost use Rattle.kb_manifest.specs.Judged.{AllRight};
-ghost use Rattle.kb_manifest.specs.Warning.{patterns_at};
+ghost use Rattle.kb_manifest.specs.Warning.{no_notes, patterns_at};
 
 use crate::command_table::{CommandTable, Named};
 use crate::condition::optional_condition;
@@ -14,7 +16,7 @@ use crate::warning::{Notes, Part};
 use kb_context::{NoMemory, Seq, Text};
 use kb_json::{FileFault, members_in, optional_text, required_text, take_member};
 use kb_when::SharedClause;
-use serde_json::Value;
+use serde_json::{Map, Value};
 use std::alloc::Global;
 
 /// A command that an extension contributes. The members are those of VS Code's documentation of
@@ -48,20 +50,32 @@ fn texts_of(entry: Value) -> Result<Texts, FileFault>
     ensures { result ≡ texts_of (view entry) }
 {
     let mut members = members_in(entry).ok_or(FileFault::WrongShape)?;
-    let name = take_member(&mut members, "command");
-    let title = take_member(&mut members, "title");
-    let category = take_member(&mut members, "category");
-    let enablement = take_member(&mut members, "enablement");
-    let name = required_text(name)?;
-    let title = required_text(title)?;
-    let category = optional_text(category)?;
-    let enablement = optional_text(enablement)?;
+    texts_in(&mut members)
+}
+
+/// The texts of the members of an entry, moved out of them.
+fn texts_in(members: &mut Map<String, Value>) -> Result<Texts, FileFault>
+    ensures { result ≡ texts_in (members_view members.old.entries) }
+{
+    let name = required_text(take_member(members, "command"))?;
+    let title = required_text(take_member(members, "title"))?;
+    let (category, enablement) = extras_in(members)?;
     Ok(Texts {
         name,
         title,
         category,
         enablement,
     })
+}
+
+/// The category and the enablement of an entry, moved out of its members.
+fn extras_in(members: &mut Map<String, Value>) -> Result<(Option<Text>, Option<Text>), FileFault>
+    ensures { result ≡ extras_of (get_member (codes "category") (members_view members.old.entries))
+        (get_member (codes "enablement") (members_view members.old.entries)) }
+{
+    let category = optional_text(take_member(members, "category"))?;
+    let enablement = optional_text(take_member(members, "enablement"))?;
+    Ok((category, enablement))
 }
 
 /// The command of these texts, and what is said of its clause.
@@ -116,13 +130,30 @@ pub(crate) fn read_commands(
 {
     let mut commands = CommandTable::new(alloc);
     let mut notes = Notes::new(alloc);
+    read_each(alloc, entries, &mut commands, &mut notes)?;
+    Ok((commands, notes))
+}
+
+/// Adds the commands of entries to none, and what is said of these to nothing.
+fn read_each(
+    alloc: Global,
+    entries: Vec<Value>,
+    commands: &mut CommandTable,
+    notes: &mut Notes,
+) -> Result<(), NoMemory>
+    requires commands { commands.old ≡ [] }
+    requires notes { notes.old ≡ no_notes }
+    ensures read { OnOk result ((commands.new, notes.new)
+        ≡ commands_by (patterns_at notes.new.unread) (listed (items_view entries.items))) }
+    ensures right { OnOk result
+        (AllRight IsRightAt (patterns_at notes.new.unread) 0 (listed (items_view entries.items))) }
+{
     let mut place = 0;
     for entry in entries {
         let judged = read_command(alloc, entry, place)?;
         commands.keep(judged.kept)?;
-        notes.warn(Part::Commands, place, judged.number)?;
-        notes.mark(Part::Commands, place, judged.unread)?;
+        notes.add(Part::Commands, place, judged.number, judged.unread)?;
         place += 1;
     }
-    Ok((commands, notes))
+    Ok(())
 }

@@ -78,6 +78,7 @@ impl CommandTable {
         ensures { OnOk result (self.new ≡ with_first named self.old) }
     {
         if self.table.contains_key(named.name.as_str()) {
+            drop(named);
             return Ok(());
         }
         let Named { name, command } = named;

@@ -2,7 +2,9 @@
 ghost use Rattle.std.specs.Prelude.{◌≡◌, ◌++◌, Ok, IfOk, option_map};
 ghost use Rattle.kb_context.specs.Failure.{Gives};
 ghost use Rattle.kb_when.specs.ClauseText.{clause_in};
-ghost use Rattle.kb_when.specs.Unread.{unread_of};
+ghost use Rattle.kb_pattern.specs.Pattern.{AreRight};
+ghost use Rattle.kb_when.specs.Clause.{patterns_of};
+ghost use Rattle.kb_when.specs.Unread.{unread_of, marked_by};
 ghost use Rattle.kb_manifest.specs.Condition.{number_by, never_holds, condition_by, condition_of};
 ghost use Rattle.kb_manifest.specs.Condition.{optional_condition, IsRightBy, IsRightOf, IsOptionalRight};
 
@@ -41,13 +43,25 @@ fn number_by(unread: &[UnreadPattern]) -> Option<u32>
     }
 }
 
+/// A copy of a clause's patterns that aren't read.
+fn told_of(alloc: Global, clause: &Clause) -> Result<Seq<UnreadPattern>, NoMemory>
+    ensures told { IfOk result (λ told. told ≡ unread_of clause.now) }
+    ensures whole { marked_by (unread_of clause.now) clause.now.tree ≡ clause.now }
+    ensures right { AreRight (patterns_of clause.now.tree) clause.now.marks }
+{
+    copied(alloc, clause.unread())
+}
+
 /// A clause that was read, and what is said of it.
 fn marked_condition(alloc: Global, clause: Clause) -> Result<Condition, NoMemory>
     ensures read { IfOk result (λ condition.
         condition ≡ condition_by condition.unread (Ok clause.tree)) }
     ensures right { IfOk result (λ condition. IsRightBy condition.unread (Ok clause.tree)) }
 {
-    let unread = copied(alloc, clause.unread())?;
+    let Ok(unread) = told_of(alloc, &clause) else {
+        drop(clause);
+        return Err(AllocError);
+    };
     let number = number_by(unread.as_slice());
     let clause = SharedClause::new(alloc, clause)?;
     Ok(Condition {

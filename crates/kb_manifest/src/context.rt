@@ -1,13 +1,14 @@
 //! Context values, read from JSON.
 ghost use Rattle.std.specs.Prelude.{◌≡◌, IfOk, IfErr};
-ghost use Rattle.serde_json.specs.View.{view, members_view};
+ghost use Rattle.serde_json.specs.Data.{array, number as json_number};
+ghost use Rattle.serde_json.specs.View.{view, items_view, members_view, number_view};
 ghost use Rattle.kb_context.specs.Failure.{Gives};
 ghost use Rattle.kb_json.specs.Parts.{names_of};
 ghost use Rattle.kb_manifest.specs.Context.{context_of, MayFail};
 
 use kb_context::{ContextValue, Failure, NoMemory, Seq, Text};
 use kb_json::{FileFault, read_texts};
-use serde_json::{Map, Value};
+use serde_json::{Map, Number, Value};
 use std::alloc::Global;
 
 /// The context value that a JSON value is: a boolean, a whole number within i64, a text, a list of
@@ -23,14 +24,26 @@ pub fn read_context(alloc: Global, value: Value) -> Result<ContextValue, Failure
     match value {
         Value::Null => Err(Failure::Fault(FileFault::WrongShape)),
         Value::Bool(truth) => Ok(ContextValue::Truth(truth)),
-        Value::Number(number) => {
-            let number = number.as_i64().ok_or(FileFault::WrongShape)?;
-            Ok(ContextValue::Number(number))
-        }
+        Value::Number(number) => Ok(read_number(number)?),
         Value::String(text) => Ok(ContextValue::Text(Text::from_string(text))),
-        Value::Array(elements) => Ok(ContextValue::Texts(read_texts(alloc, elements)?)),
+        Value::Array(elements) => read_list(alloc, elements),
         Value::Object(members) => Ok(ContextValue::Names(names_in(alloc, members)?)),
     }
+}
+
+/// The context value of a number. It takes no memory.
+fn read_number(number: Number) -> Result<ContextValue, FileFault>
+    ensures { result ≡ context_of (json_number (number_view number)) }
+{
+    let number = number.as_i64().ok_or(FileFault::WrongShape)?;
+    Ok(ContextValue::Number(number))
+}
+
+/// The context value of a list.
+fn read_list(alloc: Global, elements: Vec<Value>) -> Result<ContextValue, Failure<FileFault>>
+    ensures { Gives (λ value. value) result (context_of (array (items_view elements.items))) }
+{
+    Ok(ContextValue::Texts(read_texts(alloc, elements)?))
 }
 
 /// The names of an object's members, in order.

@@ -1,15 +1,18 @@
 //! Layouts, read from JSON.
 ghost use Rattle.std.specs.Prelude.{◌≡◌, IfOk, None, option_map, codes};
 ghost use Rattle.std.specs.List.{list_any};
-ghost use Rattle.std.specs.FinMap.{empty};
+ghost use Rattle.std.specs.FinMap.{empty, insert};
 ghost use Rattle.serde_json.specs.Data.{object};
+ghost use Rattle.serde_json.specs.Find.{as_str, get_member};
 ghost use Rattle.serde_json.specs.View.{view, items_view, members_view};
 ghost use Rattle.kb_context.specs.Failure.{Gives};
-ghost use Rattle.kb_context.specs.Reading.{or_fault};
+ghost use Rattle.kb_context.specs.Reading.{or_fault, seen};
 ghost use Rattle.kb_json.specs.declared.fault.FileFault.TheVariants.{WrongShape};
 ghost use Rattle.kb_json.specs.Parts.{each, optional, listed};
-ghost use Rattle.kb_manifest.specs.Layout.{lacks, lacks_member, some_text, keys_of, scope_of};
-ghost use Rattle.kb_manifest.specs.Layout.{first_name, record_of, layout_of};
+ghost use Rattle.kb_manifest.specs.Context.{value_of};
+ghost use Rattle.kb_manifest.specs.Layout.{lacks, lacks_member, some_text, keys_of, list_of};
+ghost use Rattle.kb_manifest.specs.Layout.{names_of, scope_in, scope_of};
+ghost use Rattle.kb_manifest.specs.Layout.{first_name, record_in, record_of, layout_of};
 
 use crate::context::read_context;
 use kb_context::{ContextValue, Failure, Layout, LayoutScope, NoMemory, Seq, Text, TextMap};
@@ -76,15 +79,44 @@ fn read_record(alloc: Global, value: Value) -> Result<Layout, Failure<FileFault>
     ensures { Gives (λ layout. layout) result (or_fault WrongShape (record_of (view value))) }
 {
     let mut members = members_in(value).ok_or(FileFault::WrongShape)?;
-    let scopes = take_member(&mut members, "scopes").ok_or(FileFault::WrongShape)?;
-    let focus = take_member(&mut members, "focus");
-    let elements = elements_in(scopes).ok_or(FileFault::WrongShape)?;
+    record_in(alloc, &mut members)
+}
+
+/// The layout that members are, taken out of them.
+fn record_in(alloc: Global, members: &mut Map<String, Value>) -> Result<Layout, Failure<FileFault>>
+    ensures { Gives (λ layout. layout) result
+        (or_fault WrongShape (record_in (members_view members.old.entries))) }
+{
+    let elements = read_list(take_member(members, "scopes"))?;
     let scopes = read_scopes(alloc, elements)?;
-    let focus = match focus {
-        Some(focus) => text_in(focus).ok_or(FileFault::WrongShape)?,
-        None => first_name(alloc, scopes.as_slice())?,
-    };
+    let focus = read_focus(alloc, take_member(members, "focus"), scopes.as_slice())?;
     Ok(Layout { scopes, focus })
+}
+
+/// The elements of the list that a member is. It takes no memory.
+fn read_list(member: Option<Value>) -> Result<Vec<Value>, FileFault>
+    ensures { seen (λ elements. listed (items_view elements.items)) result
+        ≡ or_fault WrongShape (list_of (option_map view member)) }
+{
+    match member {
+        Some(list) => elements_in(list).ok_or(FileFault::WrongShape),
+        None => Err(FileFault::WrongShape),
+    }
+}
+
+/// The name of the scope that has the focus, that of the first one where the member is absent.
+fn read_focus(
+    alloc: Global,
+    focus: Option<Value>,
+    scopes: &[LayoutScope],
+) -> Result<Text, Failure<FileFault>>
+    ensures { Gives (λ name. name) result
+        (or_fault WrongShape (optional (first_name scopes.now) as_str (option_map view focus))) }
+{
+    match focus {
+        Some(focus) => Ok(text_in(focus).ok_or(FileFault::WrongShape)?),
+        None => Ok(first_name(alloc, scopes)?),
+    }
 }
 
 /// The name of the first scope, or the empty text where there is none.
@@ -115,13 +147,35 @@ fn read_scope(alloc: Global, element: Value) -> Result<LayoutScope, Failure<File
     ensures { Gives (λ scope. scope) result (or_fault WrongShape (scope_of (view element))) }
 {
     let mut members = members_in(element).ok_or(FileFault::WrongShape)?;
-    let name = take_member(&mut members, "name").ok_or(FileFault::WrongShape)?;
-    let parent = take_member(&mut members, "parent");
-    let keys = take_member(&mut members, "keys");
-    let name = text_in(name).ok_or(FileFault::WrongShape)?;
-    let parent = read_parent(parent)?;
-    let keys = read_keys(alloc, keys)?;
+    scope_in(alloc, &mut members)
+}
+
+/// The scope that members are, taken out of them.
+fn scope_in(
+    alloc: Global,
+    members: &mut Map<String, Value>,
+) -> Result<LayoutScope, Failure<FileFault>>
+    ensures { Gives (λ scope. scope) result
+        (or_fault WrongShape (scope_in (members_view members.old.entries))) }
+{
+    let (name, parent) = names_in(members)?;
+    let keys = read_keys(alloc, take_member(members, "keys"))?;
     Ok(LayoutScope { name, parent, keys })
+}
+
+/// The names of a scope and of the one around it, taken out of its members. The keys stay.
+fn names_in(members: &mut Map<String, Value>) -> Result<(Text, Option<Text>), FileFault>
+    ensures names { result ≡ or_fault WrongShape (names_of
+        (get_member (codes "name") (members_view members.old.entries))
+        (get_member (codes "parent") (members_view members.old.entries))) }
+    ensures keys { get_member (codes "keys") (members_view members.new.entries)
+        ≡ get_member (codes "keys") (members_view members.old.entries) }
+{
+    let name = take_member(members, "name")
+        .and_then(text_in)
+        .ok_or(FileFault::WrongShape)?;
+    let parent = read_parent(take_member(members, "parent"))?;
+    Ok((name, parent))
 }
 
 /// The name of the scope around a scope, if its member is there.
@@ -158,7 +212,22 @@ fn read_object(alloc: Global, object: Value) -> Result<TextMap<ContextValue>, Fa
     }
 }
 
+/// Puts a key in a map, with the value that a member is.
+fn put_key(
+    alloc: Global,
+    keys: &mut TextMap<ContextValue>,
+    name: Text,
+    member: Value,
+) -> Result<(), Failure<FileFault>>
+    ensures { Gives (λ done. keys.new) result
+        (or_fault WrongShape (option_map (insert keys.old name) (value_of (view member)))) }
+{
+    keys.insert(name, read_context(alloc, member)?)?;
+    Ok(())
+}
+
 /// The keys that members are, put in a map one by one.
+#[tactic(auto, using(crate::proofs::KeysLemmas::key_put, crate::proofs::KeysLemmas::key_fails))]
 fn read_members(
     alloc: Global,
     members: Map<String, Value>,
@@ -168,7 +237,7 @@ fn read_members(
 {
     let mut keys = TextMap::new(alloc);
     for (name, member) in members {
-        keys.insert(Text::from_string(name), read_context(alloc, member)?)?;
+        put_key(alloc, &mut keys, Text::from_string(name), member)?;
     }
     Ok(keys)
 }

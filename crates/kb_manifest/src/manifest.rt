@@ -1,11 +1,12 @@
 //! The manifest of an extension, read from JSON.
-ghost use Rattle.std.specs.Prelude.{◌≡◌, ◌++◌, [], IfOk, option_map, codes};
+ghost use Rattle.std.specs.Prelude.{◌≡◌, ◌++◌, [], IfOk, OnOk, option_map, codes};
+ghost use Rattle.serde_json.specs.Find.{get_member};
 ghost use Rattle.serde_json.specs.View.{view, items_view, members_view};
 ghost use Rattle.kb_context.specs.Failure.{Gives};
 ghost use Rattle.kb_context.specs.Reading.{or_fault};
 ghost use Rattle.kb_json.specs.declared.fault.FileFault.TheVariants.{WrongShape};
 ghost use Rattle.kb_json.specs.Parts.{optional, texts_of};
-ghost use Rattle.kb_manifest.specs.Manifest.{publisher_of, id_of, seen_head, head_of};
+ghost use Rattle.kb_manifest.specs.Manifest.{publisher_of, id_of, seen_head, head_in, head_of};
 ghost use Rattle.kb_manifest.specs.Manifest.{seen_manifest, told_by, contributed, manifest_of, IsRead};
 ghost use Rattle.kb_manifest.specs.Manifest.{outline_of, IsRightIn, IsRightBy};
 
@@ -17,7 +18,7 @@ use crate::points::{Points, read_points};
 use crate::warning::Notes;
 use kb_context::{Failure, NoMemory, Seq, Text};
 use kb_json::{FileFault, elements_in, members_in, read_texts, take_member, word_in};
-use serde_json::Value;
+use serde_json::{Map, Value};
 use std::alloc::Global;
 
 /// What an extension's `package.json` says, as far as this engine reads it.
@@ -92,6 +93,14 @@ fn read_publisher(alloc: Global, publisher: Option<Value>) -> Result<Text, Failu
     }
 }
 
+/// Adds a dot and a name.
+fn push_name(id: &mut Text, name: &str) -> Result<(), NoMemory>
+    ensures { OnOk result (id.new ≡ (id.old ++ codes ".") ++ name.now) }
+{
+    id.push_str(".")?;
+    id.push_str(name)
+}
+
 /// The identifier of an extension.
 #[tactic(auto, unfolding(crate::specs::Manifest::id_of))]
 fn read_id(
@@ -104,20 +113,22 @@ fn read_id(
 {
     let name = name.and_then(word_in).ok_or(FileFault::WrongShape)?;
     let mut id = read_publisher(alloc, publisher)?;
-    id.push_str(".")?;
-    id.push_str(name.as_str())?;
+    push_name(&mut id, name.as_str())?;
     Ok(id)
 }
 
-/// The identifiers of the extensions that one depends on, none where the member is absent.
+/// The identifiers of the extensions that one depends on, taken out of its members, none where theirs is
+/// absent. The contributions stay.
 fn read_dependencies(
     alloc: Global,
-    dependencies: Option<Value>,
+    members: &mut Map<String, Value>,
 ) -> Result<Seq<Text>, Failure<FileFault>>
-    ensures { Gives (λ texts. texts) result
-        (or_fault WrongShape (optional [] texts_of (option_map view dependencies))) }
+    ensures texts { Gives (λ texts. texts) result (or_fault WrongShape (optional [] texts_of
+        (get_member (codes "extensionDependencies") (members_view members.old.entries)))) }
+    ensures contributes { get_member (codes "contributes") (members_view members.new.entries)
+        ≡ get_member (codes "contributes") (members_view members.old.entries) }
 {
-    match dependencies {
+    match take_member(members, "extensionDependencies") {
         Some(dependencies) => {
             let elements = elements_in(dependencies).ok_or(FileFault::WrongShape)?;
             read_texts(alloc, elements)
@@ -132,13 +143,17 @@ fn read_head(alloc: Global, value: Value) -> Result<Head, Failure<FileFault>>
     ensures { Gives seen_head result (or_fault WrongShape (head_of (view value))) }
 {
     let mut members = members_in(value).ok_or(FileFault::WrongShape)?;
-    let name = take_member(&mut members, "name");
-    let publisher = take_member(&mut members, "publisher");
-    let dependencies = take_member(&mut members, "extensionDependencies");
-    let contributes = take_member(&mut members, "contributes");
-    let id = read_id(alloc, name, publisher)?;
-    let dependencies = read_dependencies(alloc, dependencies)?;
-    let points = read_points(alloc, contributes)?;
+    head_in(alloc, &mut members)
+}
+
+/// What the members of a manifest say before its entries are read, taken out of them.
+fn head_in(alloc: Global, members: &mut Map<String, Value>) -> Result<Head, Failure<FileFault>>
+    ensures { Gives seen_head result (or_fault WrongShape (head_in (members_view members.old.entries))) }
+{
+    let name = take_member(members, "name");
+    let id = read_id(alloc, name, take_member(members, "publisher"))?;
+    let dependencies = read_dependencies(alloc, members)?;
+    let points = read_points(alloc, take_member(members, "contributes"))?;
     Ok(Head {
         id,
         dependencies,
@@ -157,15 +172,38 @@ fn contribute(alloc: Global, head: Head) -> Result<Manifest, NoMemory>
         dependencies,
         points,
     } = head;
-    let (commands, command_notes) = read_commands(alloc, points.commands)?;
-    let (palette, palette_notes) = read_items(alloc, points.palette)?;
-    Ok(Manifest {
+    let commands = read_commands(alloc, points.commands)?;
+    let palette = read_items(alloc, points.palette)?;
+    Ok(joined(id, dependencies, commands, points.keybindings, palette))
+}
+
+/// The manifest of these parts, of which commands and palette come with their notes.
+fn joined(
+    id: Text,
+    dependencies: Seq<Text>,
+    commands: (CommandTable, Notes),
+    keybindings: Vec<Value>,
+    palette: (Seq<PaletteItem>, Notes),
+) -> Manifest
+    ensures { result ≡ record {
+      id = id;
+      dependencies = dependencies;
+      commands = commands.0;
+      keybindings = keybindings;
+      palette = palette.0;
+      command_notes = commands.1;
+      palette_notes = palette.1;
+    } }
+{
+    let (commands, command_notes) = commands;
+    let (palette, palette_notes) = palette;
+    Manifest {
         id,
         dependencies,
         commands,
-        keybindings: points.keybindings,
+        keybindings,
         palette,
         command_notes,
         palette_notes,
-    })
+    }
 }

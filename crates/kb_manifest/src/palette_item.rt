@@ -1,12 +1,12 @@
 //! The entries of a manifest that say where the palette shows a command.
-ghost use Rattle.std.specs.Prelude.{◌≡◌, ◌++◌, IfOk, OnOk};
-ghost use Rattle.serde_json.specs.View.{view, items_view};
+ghost use Rattle.std.specs.Prelude.{◌≡◌, ◌++◌, [], IfOk, OnOk};
+ghost use Rattle.serde_json.specs.View.{view, items_view, members_view};
 ghost use Rattle.kb_manifest.specs.Judged.{kept_in, AllRight};
 ghost use Rattle.kb_json.specs.Parts.{listed};
-ghost use Rattle.kb_manifest.specs.PaletteItem.{texts_of, said, item_of, judged_at, items_by};
+ghost use Rattle.kb_manifest.specs.PaletteItem.{texts_of, texts_in, said, item_of, judged_at, items_by};
 ghost use Rattle.kb_manifest.specs.PaletteItem.{IsRightAt};
 ghost use Rattle.kb_manifest.specs.Condition.{IsOptionalRight};
-ghost use Rattle.kb_manifest.specs.Warning.{patterns_at};
+ghost use Rattle.kb_manifest.specs.Warning.{no_notes, patterns_at};
 
 use crate::condition::optional_condition;
 use crate::judged::Judged;
@@ -14,7 +14,7 @@ use crate::warning::{Notes, Part};
 use kb_context::{NoMemory, Seq, Text, is_blank_text};
 use kb_json::{FileFault, members_in, optional_text, required_text, take_member};
 use kb_when::SharedClause;
-use serde_json::Value;
+use serde_json::{Map, Value};
 use std::alloc::Global;
 
 /// An entry of `contributes.menus.commandPalette`. The members are those of VS Code's documentation
@@ -58,10 +58,15 @@ fn texts_of(entry: Value) -> Result<ItemTexts, FileFault>
     ensures { result ≡ texts_of (view entry) }
 {
     let mut members = members_in(entry).ok_or(FileFault::WrongShape)?;
-    let command = take_member(&mut members, "command");
-    let when = take_member(&mut members, "when");
-    let command = required_text(command)?;
-    let when = optional_text(when)?;
+    texts_in(&mut members)
+}
+
+/// The texts of the members of an entry, moved out of them.
+fn texts_in(members: &mut Map<String, Value>) -> Result<ItemTexts, FileFault>
+    ensures { result ≡ texts_in (members_view members.old.entries) }
+{
+    let command = required_text(take_member(members, "command"))?;
+    let when = optional_text(take_member(members, "when"))?;
     Ok(ItemTexts {
         command,
         when: said(when),
@@ -124,13 +129,30 @@ pub(crate) fn read_items(
 {
     let mut items = Seq::new(alloc);
     let mut notes = Notes::new(alloc);
+    read_each(alloc, entries, &mut items, &mut notes)?;
+    Ok((items, notes))
+}
+
+/// Adds the items of entries to none, and what is said of these to nothing.
+fn read_each(
+    alloc: Global,
+    entries: Vec<Value>,
+    items: &mut Seq<PaletteItem>,
+    notes: &mut Notes,
+) -> Result<(), NoMemory>
+    requires items { items.old ≡ [] }
+    requires notes { notes.old ≡ no_notes }
+    ensures read { OnOk result ((items.new, notes.new)
+        ≡ items_by (patterns_at notes.new.unread) (listed (items_view entries.items))) }
+    ensures right { OnOk result
+        (AllRight IsRightAt (patterns_at notes.new.unread) 0 (listed (items_view entries.items))) }
+{
     let mut place = 0;
     for entry in entries {
         let judged = read_item(alloc, entry, place)?;
-        keep(&mut items, judged.kept)?;
-        notes.warn(Part::Palette, place, judged.number)?;
-        notes.mark(Part::Palette, place, judged.unread)?;
+        keep(items, judged.kept)?;
+        notes.add(Part::Palette, place, judged.number, judged.unread)?;
         place += 1;
     }
-    Ok((items, notes))
+    Ok(())
 }

@@ -1,15 +1,16 @@
 //! What the contribution points of a manifest hold.
 ghost use Rattle.std.specs.Prelude.{[], option_map, IfOk, ◌≡◌, ◌∷◌};
-ghost use Rattle.serde_json.specs.View.{view, items_view};
+ghost use Rattle.serde_json.specs.View.{view, items_view, members_view};
 ghost use Rattle.kb_context.specs.Failure.{Gives};
 ghost use Rattle.kb_context.specs.Reading.{or_fault};
 ghost use Rattle.kb_json.specs.declared.fault.FileFault.TheVariants.{WrongShape};
 ghost use Rattle.kb_json.specs.Parts.{optional, listed};
-ghost use Rattle.kb_manifest.specs.Points.{entries_of, palette_of, no_points, points_in, seen_points};
+ghost use Rattle.kb_manifest.specs.Points.{entries_of, palette_of, no_points, points_by, points_in};
+ghost use Rattle.kb_manifest.specs.Points.{seen_points};
 
 use kb_context::{Failure, NoMemory};
 use kb_json::{FileFault, members_in, take_member};
-use serde_json::Value;
+use serde_json::{Map, Value};
 use std::alloc::Global;
 
 /// What the three contribution points hold that this engine reads, entry by entry.
@@ -97,12 +98,17 @@ fn points_in(alloc: Global, contributes: Value) -> Result<Points, Failure<FileFa
     ensures { Gives seen_points result (or_fault WrongShape (points_in (view contributes))) }
 {
     let mut members = members_in(contributes).ok_or(FileFault::WrongShape)?;
-    let commands = take_member(&mut members, "commands");
-    let keybindings = take_member(&mut members, "keybindings");
-    let menus = take_member(&mut members, "menus");
-    let commands = entries_at(alloc, commands)?;
-    let keybindings = entries_at(alloc, keybindings)?;
-    let palette = palette_at(alloc, menus)?;
+    points_by(alloc, &mut members)
+}
+
+/// What the points hold that members are, taken out of them.
+fn points_by(alloc: Global, members: &mut Map<String, Value>) -> Result<Points, Failure<FileFault>>
+    ensures { Gives seen_points result
+        (or_fault WrongShape (points_by (members_view members.old.entries))) }
+{
+    let commands = entries_at(alloc, take_member(members, "commands"))?;
+    let keybindings = entries_at(alloc, take_member(members, "keybindings"))?;
+    let palette = palette_at(alloc, take_member(members, "menus"))?;
     Ok(Points {
         commands,
         keybindings,

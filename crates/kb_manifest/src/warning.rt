@@ -75,13 +75,8 @@ impl Notes {
         }
     }
 
-    /// Adds what is said of an entry, if anything is.
-    pub(crate) fn warn(
-        &mut self,
-        part: Part,
-        place: usize,
-        number: Option<u32>,
-    ) -> Result<(), NoMemory>
+    /// Adds the warning of an entry, if it has one.
+    fn warn(&mut self, part: Part, place: usize, number: Option<u32>) -> Result<(), NoMemory>
         ensures { OnOk result (self.new ≡ with_warning part place number self.old) }
     {
         match number {
@@ -94,8 +89,23 @@ impl Notes {
         }
     }
 
+    /// Adds all that is said of an entry.
+    pub(crate) fn add(
+        &mut self,
+        part: Part,
+        place: usize,
+        number: Option<u32>,
+        patterns: Seq<UnreadPattern>,
+    ) -> Result<(), NoMemory>
+        ensures { OnOk result (self.new
+            ≡ with_unread part place patterns (with_warning part place number self.old)) }
+    {
+        self.warn(part, place, number)?;
+        self.mark(part, place, patterns)
+    }
+
     /// Adds the patterns of an entry that aren't read.
-    pub(crate) fn mark(
+    fn mark(
         &mut self,
         part: Part,
         place: usize,

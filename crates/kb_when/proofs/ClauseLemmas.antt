@@ -6,7 +6,7 @@ use Rattle.kb_when.specs.declared.token.Token.{Token}
 use Rattle.kb_when.specs.declared.fault.WhenFault.{WhenFault}
 use Rattle.kb_when.specs.declared.fault.WhenFault.TheVariants.{BadToken}
 use Rattle.kb_when.specs.Clause.{Clause}
-use Rattle.kb_when.specs.Tokenizer.{tokens_of, tokens_or_fault}
+use Rattle.kb_when.specs.Tokenizer.{tokens_of}
 use Rattle.kb_when.specs.Reading.{clause_of_tokens}
 use Rattle.kb_when.specs.ClauseText.{StandsFor, clause_in, ReadsByGrammar}
 use Rattle.kb_when.proofs.GrammarLemmas.{read_clause, found_clause, no_ok}
@@ -32,9 +32,3 @@ by_grammar text t = (is_read text t, stands text t)
 
 pub only : (text : List ℕ) (t u : Clause) → clause_in text ≡ Ok t → StandsFor text u → u ≡ t
 only text t u h s = let p = is_read text u s in cc
-
-pub reads : (text : List ℕ) (ts : List Token) (t : Clause) → tokens_or_fault text ≡ Ok ts
-    → clause_of_tokens ts ≡ Ok t
-    → clause_in text ≡ Ok t
-unfolding clause_in
-reads text ts t e h = ap (λ (r : Result (List Token) WhenFault). r >>= clause_of_tokens) e ∙ h

@@ -1,7 +1,9 @@
 //! Atoms: a key alone, or a key with what it is compared with, by the words of the tokens. What is
 //! read here takes no memory, so that each fault is the reading's.
 ghost use Rattle.std.specs.Prelude.{◌≡◌, ◌∷◌, [], IfOk, IfErr, MatchOption, if◌then◌else◌};
-ghost use Rattle.kb_when.specs.Clause.{not_of, equals, member};
+ghost use Rattle.kb_pattern.specs.Pattern.{flags_of};
+ghost use Rattle.kb_when.specs.Clause.{key as key_clause, not_of, equals, compare, matches, member};
+ghost use Rattle.kb_when.specs.Tree.{clause_of};
 ghost use Rattle.kb_when.specs.Words.{is_equal, is_unequal};
 ghost use Rattle.kb_when.specs.Reading.{behind_key, behind_not, at_value, at_other, at_number, at_pattern};
 ghost use Rattle.kb_when.specs.Parser.{clause_of_atom, clause_of_condition, ReadsAtom, FailsAt};
@@ -241,8 +243,54 @@ fn no_member<'t>(
     }
 }
 
+/// The tree of a key alone.
+fn key_tree(key: &Text) -> Result<Tree, NoMemory>
+    ensures { IfOk result (λ t. clause_of t ≡ key_clause key.now) }
+{
+    Ok(Tree::key(key.copied()?))
+}
+
+/// Copies of two texts.
+fn both(first: &Text, second: &Text) -> Result<(Text, Text), NoMemory>
+    ensures { IfOk result (λ texts. texts ≡ (first.now, second.now)) }
+{
+    let first = first.copied()?;
+    Ok((first, second.copied()?))
+}
+
+/// The tree of a key and the text that its value is to be.
+fn equal_tree(key: &Text, value: &Text) -> Result<Tree, NoMemory>
+    ensures { IfOk result (λ t. clause_of t ≡ equals key.now value.now) }
+{
+    let (key, value) = both(key, value)?;
+    Ok(Tree::equal(key, value))
+}
+
+/// The tree of a key and the number that its value is compared with.
+fn compare_tree(key: &Text, operator: Operator, number: i64) -> Result<Tree, NoMemory>
+    ensures { IfOk result (λ t. clause_of t ≡ compare key.now operator number) }
+{
+    Ok(Tree::compare(key.copied()?, operator, number))
+}
+
+/// The tree of a key and the pattern that its value is to match.
+fn matching_tree(alloc: Global, key: &Text, text: &Text, letters: &Text) -> Result<Tree, NoMemory>
+    ensures { IfOk result (λ t. clause_of t ≡ matches key.now text.now (flags_of letters.now)) }
+{
+    let (key, text) = both(key, text)?;
+    let pattern = Pattern::new(alloc, text, Flags::of(letters.as_str()))?;
+    Ok(Tree::matching(key, pattern))
+}
+
+/// The tree of a key, and the key of the list or object in which its value is to be.
+fn member_tree(key: &Text, other: &Text) -> Result<Tree, NoMemory>
+    ensures { IfOk result (λ t. clause_of t ≡ member key.now other.now) }
+{
+    let (key, other) = both(key, other)?;
+    Ok(Tree::member(key, other))
+}
+
 impl Atom<'_> {
-    ghost use Rattle.kb_when.specs.Tree.{clause_of};
     ghost use Rattle.kb_when.specs.Parser.{clause_of_atom};
 
     fn tree(self, alloc: Global) -> Result<Tree, NoMemory>
@@ -251,22 +299,16 @@ impl Atom<'_> {
         match self {
             Atom::True => Ok(Tree::always()),
             Atom::False => Ok(Tree::never()),
-            Atom::Key(key) => Ok(Tree::key(key.copied()?)),
-            Atom::Equals(key, value) => Ok(Tree::equal(key.copied()?, value.copied()?)),
-            Atom::Compare(key, operator, number) => {
-                Ok(Tree::compare(key.copied()?, operator, number))
-            }
-            Atom::Matches(key, text, letters) => Ok(Tree::matching(
-                key.copied()?,
-                Pattern::new(alloc, text.copied()?, Flags::of(letters.as_str()))?,
-            )),
-            Atom::Member(key, other) => Ok(Tree::member(key.copied()?, other.copied()?)),
+            Atom::Key(key) => key_tree(key),
+            Atom::Equals(key, value) => equal_tree(key, value),
+            Atom::Compare(key, operator, number) => compare_tree(key, operator, number),
+            Atom::Matches(key, text, letters) => matching_tree(alloc, key, text, letters),
+            Atom::Member(key, other) => member_tree(key, other),
         }
     }
 }
 
 impl Condition<'_> {
-    ghost use Rattle.kb_when.specs.Tree.{clause_of};
     ghost use Rattle.kb_when.specs.Parser.{clause_of_condition};
 
     /// The tree of the atom, which takes memory for its words.

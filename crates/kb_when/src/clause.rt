@@ -1,5 +1,8 @@
 //! Clauses.
 ghost use Rattle.std.specs.Prelude.{◌≡◌, ◌<◌, ◌↔◌, [], length, IsTrue, IfOk, IfErr};
+ghost use Rattle.kb_context.specs.Failure.{Gives};
+ghost use Rattle.kb_when.specs.ClauseText.{clause_in};
+ghost use Rattle.kb_when.specs.Tree.{clause_of};
 
 use crate::fault::WhenFault;
 use crate::parser::parse_tokens;
@@ -36,11 +39,19 @@ impl Model for Clause {
     ghost invariant = { λ c. IsKept (marked_of c.tree) c.unread };
 }
 
+/// The tree of a text, or the text's fault.
+#[tactic(auto, unfolding(crate::specs::ClauseText::clause_in))]
+fn read_tree(alloc: Global, text: &str) -> Result<Tree, Failure<WhenFault>>
+    ensures { Gives clause_of result (clause_in text.now) }
+{
+    let tokens = tokenize(alloc, text)?;
+    parse_tokens(alloc, &tokens)
+}
+
 impl Clause {
     ghost use Rattle.kb_context.specs.Scopes.{context};
-    ghost use Rattle.kb_context.specs.Failure.{Gives};
     ghost use Rattle.kb_when.specs.Tokenizer.{CountSuffices};
-    ghost use Rattle.kb_when.specs.ClauseText.{StandsFor, clause_in, ReadsByGrammar};
+    ghost use Rattle.kb_when.specs.ClauseText.{StandsFor, ReadsByGrammar};
     ghost use Rattle.kb_when.specs.Value.{value};
     ghost use Rattle.kb_when.specs.Clause.{never, patterns_of};
     ghost use Rattle.kb_pattern.specs.Pattern.{AreRight};
@@ -54,7 +65,6 @@ impl Clause {
     /// (31) for any other token or end. Or want of memory. A pattern that `regex` doesn't read is no
     /// fault: it is marked. The operators are those of VS Code's documentation of "when clause
     /// contexts"; tokens, precedence and faults are our decision.
-    #[tactic(auto, unfolding(crate::specs::ClauseText::clause_in))]
     pub fn parse(alloc: Global, text: &str) -> Result<Clause, Failure<WhenFault>>
         ensures read { Gives (λ clause. clause.tree) result (clause_in text.now) }
         ensures stands { IfOk result (λ clause. StandsFor text.now clause.tree) }
@@ -68,8 +78,7 @@ impl Clause {
         // The tokens of the text are found by counting, and the count suffices.
         ensures counted { CountSuffices text.now }
     {
-        let tokens = tokenize(alloc, text)?;
-        let tree = parse_tokens(alloc, &tokens)?;
+        let tree = read_tree(alloc, text)?;
         let unread = unread_patterns(alloc, &tree)?;
         Ok(Clause {
             tree,

@@ -128,8 +128,60 @@ fn same_trees(trees: &[Tree], others: &[Tree]) -> bool
 }
 
 impl Tree {
-    ghost use Rattle.kb_when.specs.Same.{same};
+    ghost use Rattle.kb_when.specs.Same.{same, is_key, is_equals, is_compare, is_matches, is_member};
     ghost use Rattle.kb_when.specs.Tree.{clause_of};
+
+    /// Whether it is the key alone.
+    fn is_key(&self, key: &Text) -> bool
+        ensures { result ≡ is_key key.now (clause_of self.now) }
+    {
+        match self {
+            Tree::Key(other) => same_text(key, other),
+            _ => false,
+        }
+    }
+
+    /// Whether it is the key with this text.
+    fn is_equals(&self, key: &Text, text: &Text) -> bool
+        ensures { result ≡ is_equals key.now text.now (clause_of self.now) }
+    {
+        match self {
+            Tree::Equals(other, value) => same_text(key, other) && same_text(text, value),
+            _ => false,
+        }
+    }
+
+    /// Whether it is the key, compared so with this number.
+    fn is_compare(&self, key: &Text, operator: Operator, number: i64) -> bool
+        ensures { result ≡ is_compare key.now operator number (clause_of self.now) }
+    {
+        match self {
+            Tree::Compare(other, by, with) => {
+                same_text(key, other) && operator.is(*by) && number == *with
+            }
+            _ => false,
+        }
+    }
+
+    /// Whether it is the key with this pattern.
+    fn is_matches(&self, key: &Text, pattern: &Pattern) -> bool
+        ensures { result ≡ is_matches key.now pattern.now.text pattern.now.flags (clause_of self.now) }
+    {
+        match self {
+            Tree::Matches(other, with) => same_text(key, other) && pattern.is(with),
+            _ => false,
+        }
+    }
+
+    /// Whether it is the key in this list or object.
+    fn is_member(&self, key: &Text, among: &Text) -> bool
+        ensures { result ≡ is_member key.now among.now (clause_of self.now) }
+    {
+        match self {
+            Tree::Member(other, list) => same_text(key, other) && same_text(among, list),
+            _ => false,
+        }
+    }
 
     /// Whether both are one clause. It takes no memory.
     #[cycle(same)]
@@ -140,28 +192,11 @@ impl Tree {
         match self {
             Tree::True => matches!(other, Tree::True),
             Tree::False => matches!(other, Tree::False),
-            Tree::Key(key) => match other {
-                Tree::Key(other) => same_text(key, other),
-                _ => false,
-            },
-            Tree::Equals(key, text) => match other {
-                Tree::Equals(other, value) => same_text(key, other) && same_text(text, value),
-                _ => false,
-            },
-            Tree::Compare(key, operator, number) => match other {
-                Tree::Compare(other, by, with) => {
-                    same_text(key, other) && operator.is(*by) && *number == *with
-                }
-                _ => false,
-            },
-            Tree::Matches(key, pattern) => match other {
-                Tree::Matches(other, with) => same_text(key, other) && pattern.is(with),
-                _ => false,
-            },
-            Tree::Member(key, among) => match other {
-                Tree::Member(other, list) => same_text(key, other) && same_text(among, list),
-                _ => false,
-            },
+            Tree::Key(key) => other.is_key(key),
+            Tree::Equals(key, text) => other.is_equals(key, text),
+            Tree::Compare(key, operator, number) => other.is_compare(key, *operator, *number),
+            Tree::Matches(key, pattern) => other.is_matches(key, pattern),
+            Tree::Member(key, among) => other.is_member(key, among),
             Tree::Not(tree) => match other {
                 Tree::Not(other) => tree.same(other),
                 _ => false,

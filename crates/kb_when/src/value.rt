@@ -1,7 +1,9 @@
 //! The values of clauses over the values of context keys.
 ghost use Rattle.std.specs.Prelude.{◌≡◌, IfOk, IfErr, map, option_copied};
+ghost use Rattle.std.specs.FinMap.{get};
 ghost use Rattle.std.specs.List.{list_any};
 ghost use Rattle.std.specs.Str.{bytes_eq};
+ghost use Rattle.kb_context.specs.Scopes.{context};
 ghost use Rattle.kb_when.specs.Value.{key_holds, equals_holds, compare_holds, match_holds, member_holds};
 
 use crate::number::{is_spelling, read_number};
@@ -99,8 +101,44 @@ fn member_of(value: Option<&ContextValue>, other: Option<&ContextValue>) -> bool
     }
 }
 
+/// Whether a key alone holds in scopes.
+fn key_in(scopes: &Scopes, key: &Text) -> bool
+    ensures { result ≡ key_holds (get (context scopes.now) key.now) }
+{
+    key_of(scopes.get(key.as_str()))
+}
+
+/// Whether a key's value in scopes is a text, or a number of that spelling.
+fn equals_in(scopes: &Scopes, key: &Text, text: &Text) -> bool
+    ensures { result ≡ equals_holds (get (context scopes.now) key.now) text.now }
+{
+    equals_of(scopes.get(key.as_str()), text.as_str())
+}
+
+/// Whether the comparison is true of a key's value in scopes.
+fn compare_in(scopes: &Scopes, key: &Text, operator: Operator, number: i64) -> bool
+    ensures { result ≡ compare_holds (get (context scopes.now) key.now) operator number }
+{
+    compare_of(scopes.get(key.as_str()), operator, number)
+}
+
+/// Whether the pattern matches a key's value in scopes.
+fn match_in(alloc: Global, scopes: &Scopes, key: &Text, pattern: &Pattern) -> Result<bool, NoMemory>
+    ensures { IfOk result (λ holds.
+        holds ≡ match_holds (get (context scopes.now) key.now) pattern.now) }
+{
+    match_of(alloc, scopes.get(key.as_str()), pattern)
+}
+
+/// Whether another key's value in scopes has this one's.
+fn member_in(scopes: &Scopes, key: &Text, other: &Text) -> bool
+    ensures { result ≡
+        member_holds (get (context scopes.now) key.now) (get (context scopes.now) other.now) }
+{
+    member_of(scopes.get(key.as_str()), scopes.get(other.as_str()))
+}
+
 impl Tree {
-    ghost use Rattle.kb_context.specs.Scopes.{context};
     ghost use Rattle.kb_when.specs.Tree.{marked_of, markeds_of};
     ghost use Rattle.kb_when.specs.Marked.{marked_value, all_marked_hold, any_marked_holds};
     ghost use Rattle.kb_when.specs.Marked.{patterns_in, all_patterns_in, HasPattern};
@@ -147,18 +185,13 @@ impl Tree {
         match self {
             Tree::True => Ok(true),
             Tree::False => Ok(false),
-            Tree::Key(key) => Ok(key_of(scopes.get(key.as_str()))),
-            Tree::Equals(key, text) => Ok(equals_of(scopes.get(key.as_str()), text.as_str())),
-            Tree::Compare(key, operator, number) => Ok(compare_of(
-                scopes.get(key.as_str()),
-                *operator,
-                *number,
-            )),
-            Tree::Matches(key, pattern) => match_of(alloc, scopes.get(key.as_str()), pattern),
-            Tree::Member(key, other) => Ok(member_of(
-                scopes.get(key.as_str()),
-                scopes.get(other.as_str()),
-            )),
+            Tree::Key(key) => Ok(key_in(scopes, key)),
+            Tree::Equals(key, text) => Ok(equals_in(scopes, key, text)),
+            Tree::Compare(key, operator, number) => {
+                Ok(compare_in(scopes, key, *operator, *number))
+            }
+            Tree::Matches(key, pattern) => match_in(alloc, scopes, key, pattern),
+            Tree::Member(key, other) => Ok(member_in(scopes, key, other)),
             Tree::Not(tree) => Ok(!tree.holds(alloc, scopes)?),
             Tree::And(trees) => Tree::all_hold(alloc, trees, scopes),
             Tree::Or(trees) => Tree::any_holds(alloc, trees, scopes),

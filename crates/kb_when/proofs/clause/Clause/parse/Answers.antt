@@ -1,10 +1,6 @@
-use Rattle.std.proofs.Common.{◌∙◌, sym, ap, Ok}
-use Rattle.kb_when.proofs.ClauseLemmas.{by_grammar, only, stands, reads}
+use Rattle.kb_when.proofs.ClauseLemmas.{by_grammar, only, stands}
 use Rattle.kb_when.proofs.TokenizerLemmas.{count_suffices}
 use Rattle.kb_when.proofs.clause.Clause.parse.Goals as goal
-
-pub returns-in_err-tokens-clause-counted : goal.returns-in_err-tokens-clause-counted
-returns-in_err-tokens-clause-counted c = count_suffices c.args.text.now
 
 pub returns-in_err-tree-clause-counted : goal.returns-in_err-tree-clause-counted
 returns-in_err-tree-clause-counted c = count_suffices c.args.text.now
@@ -14,9 +10,6 @@ returns-in_err-unread-clause-counted c = count_suffices c.args.text.now
 
 pub returns-clause-counted : goal.returns-clause-counted
 returns-clause-counted c = count_suffices c.args.text.now
-
-pub returns-in_err-tokens-clause-grammar : goal.returns-in_err-tokens-clause-grammar
-returns-in_err-tokens-clause-grammar c = by_grammar c.args.text.now
 
 pub returns-in_err-tree-clause-grammar : goal.returns-in_err-tree-clause-grammar
 returns-in_err-tree-clause-grammar c = by_grammar c.args.text.now
@@ -28,10 +21,7 @@ pub returns-clause-grammar : goal.returns-clause-grammar
 returns-clause-grammar c = by_grammar c.args.text.now
 
 pub returns-clause-stands : goal.returns-clause-stands
-returns-clause-stands c =
-    stands _ _ (reads _ _ _ (c.in_ok-tokens.ensures ∙ ap Ok (sym c.deref.ensures.value)) c.in_ok-tree.ensures)
+returns-clause-stands c = stands _ _ c.in_ok-tree.ensures
 
 pub returns-clause-only : goal.returns-clause-only
-returns-clause-only c =
-    λ u s. only _ _ u
-    (reads _ _ _ (c.in_ok-tokens.ensures ∙ ap Ok (sym c.deref.ensures.value)) c.in_ok-tree.ensures) s
+returns-clause-only c = λ u s. only _ _ u c.in_ok-tree.ensures s

@@ -7,10 +7,9 @@ use Rattle.kb_manifest.specs.declared.warning.Part.TheVariants.{Commands}
 use Rattle.kb_manifest.specs.Command.{judged_at, IsRightAt}
 use Rattle.kb_manifest.specs.declared.warning.Notes.{Notes}
 use Rattle.kb_json.specs.Parts.{listed}
-use Rattle.kb_manifest.specs.Warning.{with_unread}
 use Rattle.kb_manifest.proofs.CommandTableLemmas.{then_firsts, kept_put}
 use Rattle.kb_manifest.proofs.JudgedLemmas.{Goes, goes_on, ends, StaysRight, right_on, right_ends}
-use Rattle.kb_manifest.proofs.command.read_commands.Goals as goal
+use Rattle.kb_manifest.proofs.command.read_each.Goals as goal
 
 pub loop-entry-preserved : goal.loop-entry-preserved
 loop-entry-preserved c =
@@ -19,8 +18,7 @@ loop-entry-preserved c =
     let judged = c.in_ok-judged.judged in
     record {
       goes = subst (Goes judged_at Commands then_firsts all (c.loop-entry.place + 1) left c.keep.new.self)
-          (sym (c.in_ok-mark.ensures
-          ∙ ap (with_unread Commands c.loop-entry.place judged.unread) c.in_ok-warn.ensures))
+          (sym c.in_ok-add.ensures)
           (goes_on judged_at Commands then_firsts all left c.loop-entry.place (view c.in-Some.entry)
           c.loop-entry.commands c.keep.new.self c.loop-entry.notes judged c.in_ok-judged.ensures.read
           (λ xs. ap (λ t. then_firsts t xs) c.in_ok-keep.ensures
@@ -28,8 +26,7 @@ loop-entry-preserved c =
           (subst (λ es. Goes judged_at Commands then_firsts all c.loop-entry.place (listed (items_view es))
           c.loop-entry.commands c.loop-entry.notes) c.in-Some.ensures.steps.0 c.loop-entry.invariant.goes));
       right = subst (StaysRight IsRightAt all (c.loop-entry.place + 1) left)
-          (sym (ap (λ (n : Notes). n.unread) (c.in_ok-mark.ensures
-          ∙ ap (with_unread Commands c.loop-entry.place judged.unread) c.in_ok-warn.ensures)))
+          (sym (ap (λ (n : Notes). n.unread) c.in_ok-add.ensures))
           (right_on IsRightAt all left Commands c.loop-entry.place (view c.in-Some.entry)
           c.loop-entry.notes.unread judged.unread c.loop-entry.invariant.goes.0 c.in_ok-judged.ensures.right
           (subst (λ es. StaysRight IsRightAt all c.loop-entry.place (listed (items_view es))

@@ -1,11 +1,7 @@
 use Rattle.std.proofs.Common.{rules, ap, sym, ◌+◌, ◌∙◌, map, drop}
-use Rattle.kb_handlers.proofs.NamesLemmas.{none_seen, passed, repeats_behind}
-use Rattle.kb_handlers.proofs.names.repeats.Goals as goal
-
-pub loop-item-init : goal.loop-item-init
-loop-item-init g c =
-    ap (λ ks. repeats_behind ks (map g.T.Named.named c.args.items.now)) c.new-seen.ensures.empty
-    ∙ none_seen (map g.T.Named.named c.args.items.now)
+use Rattle.kb_handlers.proofs.NamesLemmas.{passed}
+use Rattle.kb_handlers.specs.Names.{repeats_behind}
+use Rattle.kb_handlers.proofs.names.repeats_behind.Goals as goal
 
 pub loop-item-preserved : goal.loop-item-preserved
 loop-item-preserved g c =

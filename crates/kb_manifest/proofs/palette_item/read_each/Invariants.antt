@@ -5,7 +5,7 @@ use Rattle.kb_manifest.specs.declared.warning.Part.TheVariants.{Palette}
 use Rattle.kb_manifest.specs.PaletteItem.{judged_at, IsRightAt}
 use Rattle.kb_json.specs.Parts.{listed}
 use Rattle.kb_manifest.proofs.JudgedLemmas.{Goes, StaysRight}
-use Rattle.kb_manifest.proofs.palette_item.read_items.Given as goal
+use Rattle.kb_manifest.proofs.palette_item.read_each.Given as goal
 
 -- what there is, and then what the entries that are left give
 abbrev pub invariant-loop-entry : goal.invariant-loop-entry

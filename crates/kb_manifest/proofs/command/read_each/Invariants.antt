@@ -6,7 +6,7 @@ use Rattle.kb_manifest.specs.Command.{judged_at, IsRightAt}
 use Rattle.kb_json.specs.Parts.{listed}
 use Rattle.kb_manifest.proofs.CommandTableLemmas.{then_firsts}
 use Rattle.kb_manifest.proofs.JudgedLemmas.{Goes, StaysRight}
-use Rattle.kb_manifest.proofs.command.read_commands.Given as goal
+use Rattle.kb_manifest.proofs.command.read_each.Given as goal
 
 -- what there is, and then what the entries that are left give
 abbrev pub invariant-loop-entry : goal.invariant-loop-entry
