@@ -3,7 +3,7 @@ use Rattle.std.proofs.Common.{◌≡◌, ◌<◌, ◌+◌, ℕ, List, [], ◌∷
 use Rattle.std.proofs.Common.{Bool, true}
 use Rattle.std.proofs.lemmas.List.{append_assoc, drop_more}
 use Rattle.std.proofs.lemmas.Option.{get_or_from_slice_get, slice_get_within, slice_get-get_or}
-use Rattle.std.specs.List.{slice_get}
+use Rattle.std.specs.List.{slice_get, flat_map}
 use Rattle.kb_manifest.specs.declared.command_table.Named.{Named}
 use Rattle.kb_resolve.specs.declared.enablements.Contribution.{Contribution}
 use Rattle.kb_bindings.specs.Sources.{contribution_of}
@@ -40,6 +40,14 @@ one_more {X} f now before whole x xs rest is made so_far =
     ap (λ ys. ys ++ map f rest) made
     ∙ append_assoc before (f x ∷ []) (map f rest)
     ∙ ap (λ (ys : List X). before ++ map f ys) (sym is)
+    ∙ so_far
+
+pub one_more_list : {X Y : Type 0} (f : X → List Y) (now before whole : List Y) (x : X) (xs rest : List X)
+    → xs ≡ x ∷ rest → now ≡ before ++ f x → before ++ flat_map f xs ≡ whole → now ++ flat_map f rest ≡ whole
+one_more_list {X} f now before whole x xs rest is made so_far =
+    ap (λ ys. ys ++ flat_map f rest) made
+    ∙ append_assoc before (f x) (flat_map f rest)
+    ∙ ap (λ (ys : List X). before ++ flat_map f ys) (sym is)
     ∙ so_far
 
 flags_left : {X : Type 0} (xs : List X) (n : ℕ) → n < length xs

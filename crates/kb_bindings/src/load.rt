@@ -191,7 +191,10 @@ fn load_extensions(
     }
     let all = read_extensions(alloc, extensions, platform)?;
     match names_fault(all.extensions.as_slice()) {
-        Some(fault) => Err(Failure::Fault(fault)),
+        Some(fault) => {
+            drop(all);
+            Err(Failure::Fault(fault))
+        }
         None => Ok(all),
     }
 }
