@@ -27,7 +27,7 @@ use Rattle.kb_bindings.specs.Fault.{refused_by, refused_file, of_file}
 use Rattle.kb_bindings.specs.Load.{ExtensionBytes, Files, Held, HeldExtension, HeldLists, HeldRules}
 use Rattle.kb_bindings.specs.Load.{LoadMarks}
 use Rattle.kb_bindings.specs.Load.{extension_bytes, manifests, extension_held, extensions_from}
-use Rattle.kb_bindings.specs.Load.{extensions_held, handlers_in_file}
+use Rattle.kb_bindings.specs.Load.{extensions_held}
 use Rattle.kb_bindings.specs.Load.{outlines_of, handlers_of, lists_held, rules_held, loaded}
 use Rattle.kb_bindings.specs.Load.{is_among, names_of, names_in, names_fault, unless_fault, other_marks}
 use Rattle.kb_bindings.specs.Load.{extensions_by, marks_told, marks_in, sources_by, GivesOf, AreRules}
@@ -125,27 +125,6 @@ pub ruleset file_of_extension = (extension_of_file, right_extension)
 abbrev both : {X Y Z : Type 0} → Result X LoadFault → Result Y LoadFault → (X → Y → Z) → Result Z LoadFault
 both first next join = first >>= λ x. next >>= λ y. Ok (join x y)
 
-fails_first : {X Y F : Type 0} (failure : Failure F) (r : Result X F) (next : X → Result Y F)
-    → Fails failure r → Fails failure (r >>= next)
-fails_first NoMemory r next h = tt
-fails_first (Fault f) r next h = rw h refl
-
-fails_behind : {X Y F : Type 0} (P : X → Type 0) (failure : Failure F) (r : Result X F) (next : X → Result Y F)
-    → MatchResult r P (λ fault. ⊥) → ((x : X) → Fails failure (next x)) → Fails failure (r >>= next)
-fails_behind P failure (Ok x) next h all = all x
-fails_behind P failure (Err e) next h all = absurd h
-
-pub second_fails : {X Y Z : Type 0} (P : X → Type 0) (failure : Failure LoadFault) (first : Result X LoadFault)
-    (next : Result Y LoadFault) (join : X → Y → Z) → MatchResult first P (λ fault. ⊥) → Fails failure next
-    → Fails failure (both first next join)
-second_fails P failure first next join h k =
-    fails_behind P failure first (λ x. next >>= λ y. Ok (join x y)) h
-    (λ x. fails_first failure next (λ y. Ok (join x y)) k)
-
-pub first_fails : {X Y Z : Type 0} (failure : Failure LoadFault) (first : Result X LoadFault)
-    (next : Result Y LoadFault) (join : X → Y → Z) → Fails failure first → Fails failure (both first next join)
-first_fails failure first next join h = fails_first failure first (λ x. next >>= λ y. Ok (join x y)) h
-
 pub both_made : {X Y Z : Type 0} (P : X → Type 0) (Q : Y → Type 0) (R : Z → Type 0) (first : Result X LoadFault)
     (next : Result Y LoadFault) (join : X → Y → Z) → ((x : X) (y : Y) → P x → Q y → R (join x y))
     → MatchResult first P (λ fault. ⊥) → MatchResult next Q (λ fault. ⊥)
@@ -168,18 +147,6 @@ extension_with_handlers number platform e handlers (Ok o) (Ok hs) h k =
     record { extension_is = h; handlers_are = sym same }
 extension_with_handlers number platform e handlers (Ok o) (Err f) h k = absurd (cc)
 extension_with_handlers number platform e handlers (Err f) held h k = absurd h
-
--- the file of handlers is refused behind a manifest that is read
-pub handlers_fail : (number : ℕ) (platform : Platform) (bytes : ExtensionBytes) (e : Extension)
-    (failure : Failure LoadFault)
-    → MatchResult (refused_by (file.Package number) (outline_in bytes.manifest))
-    (λ outline. IsExtension number platform outline e) (λ fault. ⊥)
-    → Fails failure (refused_by (file.Handlers number) (handlers_in_file bytes.handlers))
-    → Fails failure (extension_held number bytes)
-handlers_fail number platform bytes e failure h k =
-    second_fails (λ outline. IsExtension number platform outline e) failure
-    (refused_by (file.Package number) (outline_in bytes.manifest))
-    (refused_by (file.Handlers number) (handlers_in_file bytes.handlers)) held_extension h k
 
 -- ---- the extensions in turn
 

@@ -1,14 +1,13 @@
 //! What binds keys, and the search among it.
 ghost use Rattle.std.specs.Prelude.{◌≡◌, ◌++◌, IfOk, OnOk, OnErr, map, true};
 ghost use Rattle.std.specs.List.{flat_map};
-ghost use Rattle.kb_resolve.specs.Enablements.{enablement_in};
+ghost use Rattle.kb_resolve.specs.Enablements.{enablement_in, enablement_of};
 ghost use Rattle.kb_resolve.specs.Pressed.{step_of};
 ghost use Rattle.kb_bindings.specs.Sources.{pressed, still_pressed, rules_of, with_user_rules, source_of};
 ghost use Rattle.kb_bindings.specs.Sources.{contribution_of, contributions_of};
 ghost use Rattle.kb_bindings.specs.Unread as unread;
 ghost use Rattle.kb_bindings.specs.Warning.{warnings_of};
 ghost use Rattle.kb_bindings.specs.Bindings.{IsRenewed, IsSearched};
-ghost use Rattle.kb_resolve.specs.Enablements.{enablement_in};
 
 use crate::unread::{UnreadIn, all_unread};
 use crate::warning::{Warning, all_warnings};
@@ -164,14 +163,17 @@ impl Bindings {
     pub fn renewed(&self, alloc: Global, user: RuleList) -> Result<Renewed, NoMemory>
         ensures { IfOk result (λ renewed. IsRenewed self.now user renewed) }
     {
-        let extensions = self.extensions.as_slice();
-        let resolver = search_among(alloc, &self.defaults, extensions, &user)?;
-        let warnings = all_warnings(alloc, &self.defaults, extensions, &user)?;
-        Ok(Renewed {
-            user,
-            resolver,
-            warnings,
-        })
+        match searched(alloc, &self.defaults, self.extensions.as_slice(), &user) {
+            Ok((resolver, warnings)) => Ok(Renewed {
+                user,
+                resolver,
+                warnings,
+            }),
+            Err(refused) => {
+                drop(user);
+                Err(refused)
+            }
+        }
     }
 
     /// Takes other rules of the user. It takes no memory.
@@ -212,14 +214,44 @@ fn derive_all(
       user = user.now;
     }) made.resolver (enablement_in made.enablements) made.warnings) }
 {
-    let warnings = all_warnings(alloc, defaults, extensions, user)?;
-    let enablements = Enablements::new(alloc, all_contributions(alloc, extensions)?)?;
-    let resolver = search_among(alloc, defaults, extensions, user)?;
+    let enablements = all_enablements(alloc, extensions)?;
+    let (resolver, warnings) = searched(alloc, defaults, extensions, user)?;
     Ok(Derived {
         resolver,
         enablements,
         warnings,
     })
+}
+
+/// The enablements of the extensions' commands.
+fn all_enablements(alloc: Global, extensions: &[Extension]) -> Result<Enablements, NoMemory>
+    ensures { IfOk result (λ made.
+        enablement_in made ≡ enablement_of (flat_map contributions_of extensions.now)) }
+{
+    Enablements::new(alloc, all_contributions(alloc, extensions)?)
+}
+
+/// The search among all rules, and what is said of all entries.
+fn searched(
+    alloc: Global,
+    defaults: &RuleList,
+    extensions: &[Extension],
+    user: &RuleList,
+) -> Result<(Resolver, Seq<Warning>), NoMemory>
+    ensures rules { IfOk result (λ made. made.0 ≡ rules_of (record {
+      defaults = defaults.now;
+      extensions = extensions.now;
+      user = user.now;
+    })) }
+    ensures warnings { IfOk result (λ made. made.1 ≡ warnings_of (record {
+      defaults = defaults.now;
+      extensions = extensions.now;
+      user = user.now;
+    })) }
+{
+    let warnings = all_warnings(alloc, defaults, extensions, user)?;
+    let resolver = search_among(alloc, defaults, extensions, user)?;
+    Ok((resolver, warnings))
 }
 
 /// The search among all rules.

@@ -2,7 +2,7 @@
 use kb_keys::Platform;
 
 /// The bytes of an extension's files, lent.
-#[derive(Clone, Copy, Debug)]
+#[derive(Clone, Copy)]
 pub struct ExtensionFiles<'a> {
     /// Its `package.json`.
     pub package: &'a [u8],
@@ -12,7 +12,7 @@ pub struct ExtensionFiles<'a> {
 
 /// The bytes of the files that a session is made of, lent. The empty text stands for a file of rules that is
 /// not there.
-#[derive(Clone, Copy, Debug)]
+#[derive(Clone, Copy)]
 pub struct Inputs<'a> {
     /// The layout of the scopes. Without it there is one scope, `window`, without keys (our
     /// decision).

@@ -70,13 +70,43 @@ fn load_bindings(
         (rules_held (files_of inputs.entry)) }
     ensures right { IfOk result (λ bound. MarksAreRight (files_of inputs.entry) bound.0) }
 {
-    let (defaults, user) = load_lists(alloc, inputs.defaults, inputs.user)?;
+    let lists = load_lists(alloc, inputs.defaults, inputs.user)?;
+    match load_extensions(alloc, inputs.extensions, inputs.platform) {
+        Ok(all) => Ok(bind(alloc, lists, all)?),
+        Err(failure) => {
+            // (written down, since they are dropped by a call then, and not part by part in the proof)
+            drop(lists);
+            Err(failure)
+        }
+    }
+}
+
+/// What binds keys among these rules, the default ones and the user's, and extensions; and the extensions'
+/// handlers.
+fn bind(
+    alloc: Global,
+    lists: (RuleList, RuleList),
+    all: ReadExtensions,
+) -> Result<(Bindings, Seq<Seq<Handler>>), NoMemory>
+    ensures sources { IfOk result (λ bound. bound.0 ≡ record {
+      defaults = lists.0;
+      extensions = all.extensions;
+      user = lists.1;
+    }) }
+    ensures handlers { IfOk result (λ bound. bound.1 ≡ all.handlers) }
+{
+    let (defaults, user) = lists;
     let ReadExtensions {
         extensions,
         handlers,
-    } = load_extensions(alloc, inputs.extensions, inputs.platform)?;
-    let bindings = Bindings::new(alloc, defaults, extensions, user)?;
-    Ok((bindings, handlers))
+    } = all;
+    match Bindings::new(alloc, defaults, extensions, user) {
+        Ok(bindings) => Ok((bindings, handlers)),
+        Err(refused) => {
+            drop(handlers);
+            Err(refused)
+        }
+    }
 }
 
 /// The default rules and the user's.
@@ -90,8 +120,13 @@ fn load_lists(
     ensures right { IfOk result (λ lists. AreRightlyMarked lists.0 × AreRightlyMarked lists.1) }
 {
     let defaults = load_rules(alloc, LoadFile::Defaults, defaults, Origin::Defaults)?;
-    let user = load_rules(alloc, LoadFile::User, user, Origin::User)?;
-    Ok((defaults, user))
+    match load_rules(alloc, LoadFile::User, user, Origin::User) {
+        Ok(user) => Ok((defaults, user)),
+        Err(failure) => {
+            drop(defaults);
+            Err(failure)
+        }
+    }
 }
 
 /// The scopes of a layout file, or the one scope that there is without a file.
@@ -156,7 +191,10 @@ fn load_extensions(
     }
     let all = read_extensions(alloc, extensions, platform)?;
     match names_fault(all.extensions.as_slice()) {
-        Some(fault) => Err(Failure::Fault(fault)),
+        Some(fault) => {
+            drop(all);
+            Err(Failure::Fault(fault))
+        }
         None => Ok(all),
     }
 }
@@ -200,8 +238,13 @@ fn load_extension(
     ensures right { IfOk result (λ one. IsRightlyMarked bytes.now.package.now one.0) }
 {
     let extension = load_package(alloc, bytes.package, number, platform)?;
-    let handlers = load_handlers(alloc, bytes.handlers, number)?;
-    Ok((extension, handlers))
+    match load_handlers(alloc, bytes.handlers, number) {
+        Ok(handlers) => Ok((extension, handlers)),
+        Err(failure) => {
+            drop(extension);
+            Err(failure)
+        }
+    }
 }
 
 /// The extension of a manifest, by its number in load order.

@@ -1,5 +1,5 @@
 -- The handlers of extensions join what is live, one extension after the other.
-use Rattle.std.proofs.Common.{◌≡◌, List, [], ◌∷◌, ℕ, ◌+◌, refl, sym, subst, inl, inr}
+use Rattle.std.proofs.Common.{◌≡◌, List, [], ◌∷◌, ℕ, ◌+◌, refl, sym, ap, ◌∙◌, subst, inl, inr}
 use Rattle.std.specs.Prelude.{Result, Ok, Err}
 use Rattle.kb_bindings.specs.declared.fault.LoadFault.{LoadFault}
 use Rattle.kb_code.specs.Handler.{HandlerData}
@@ -10,10 +10,12 @@ use Rattle.kb_context.specs.declared.failure.Failure.TheVariants.{NoMemory, Faul
 use Rattle.kb_context.specs.declared.refusal.Refusal.{Refusal}
 use Rattle.kb_files.specs.declared.extension_file.Extension.{Extension}
 use Rattle.kb_live.specs.Callable.{callable_of}
-use Rattle.kb_live.specs.Checked.{JoinAll, Joins}
+use Rattle.kb_live.specs.Checked.{JoinAll, Joins, IsAdmitted, IsCode}
 use Rattle.kb_live.specs.Verified.{FirstIsRefused, Verifies}
 use Rattle.kb_verify.specs.Callable.{Commands}
-use Rattle.kb_registry.specs.Live.{Live}
+use Rattle.kb_registry.specs.CodeFault.{code_fault}
+use Rattle.kb_registry.specs.Live.{Live, with_code}
+use Rattle.kb_codes.specs.Codes.{CodesData}
 
 module _ (extensions : List Extension) (all : List (List HandlerData)) (first : Live) where
   abbrev HandsOn : ℕ → List (List HandlerData) → Live → Type 0
@@ -44,16 +46,44 @@ module _ (extensions : List Extension) (all : List (List HandlerData)) (first : 
 
 pub ruleset joining = (one_joins, one_stops, all_joined)
 
--- handlers that aren't accepted don't join
-pub refused_joins : (extensions : List Extension) (number : ℕ) (handlers : List HandlerData) (live : Live)
+-- verified handlers join as their code does
+pub code_joins : (extensions : List Extension) (number : ℕ) (handlers : List HandlerData) (live : Live)
+    (codes : CodesData) (result : Result Live (Failure LoadFault))
+    → IsCode extensions number handlers live (Ok codes) → IsAdmitted number codes live result
+    → Joins extensions number handlers live result
+code_joins extensions number handlers live codes (Ok next) is admits =
+    record {
+      verified = is.0;
+      are = is.1;
+      free = ap (λ codes. code_fault codes live) (sym is.2) ∙ admits.0;
+      then = admits.1 ∙ ap (λ codes. with_code number codes live) is.2;
+    }
+code_joins extensions number handlers live codes (Err NoMemory) is admits = tt
+code_joins extensions number handlers live codes (Err (Fault fault)) is bars = inr (record {
+  verified = is.0;
+  are = is.1;
+  why = bars.0;
+  because = ap (λ codes. code_fault codes live) (sym is.2) ∙ bars.1;
+  is = bars.2;
+})
+
+-- and don't, where one isn't accepted
+pub no_code_joins : (extensions : List Extension) (number : ℕ) (handlers : List HandlerData) (live : Live)
+    (failure : Failure LoadFault) → IsCode extensions number handlers live (Err failure)
+    → Joins extensions number handlers live (Err failure)
+no_code_joins extensions number handlers live NoMemory refused = tt
+no_code_joins extensions number handlers live (Fault fault) refused = inl refused
+
+-- handlers that aren't accepted have no code
+pub refused_code : (extensions : List Extension) (number : ℕ) (handlers : List HandlerData) (live : Live)
     (commands : Commands) (failure : Failure Refusal) (said : Failure LoadFault)
     → commands ≡ callable_of extensions number handlers live → Verifies commands handlers (Err failure)
-    → said ≡ failure_of (file.Handlers number) failure → Joins extensions number handlers live (Err said)
-refused_joins extensions number handlers live commands NoMemory said is fails tells =
-    subst (λ (f : Failure LoadFault). Joins extensions number handlers live (Err f)) (sym tells) tt
-refused_joins extensions number handlers live commands (Fault refusal) said is fails tells =
-    subst (λ (f : Failure LoadFault). Joins extensions number handlers live (Err f)) (sym tells) (inl (record {
+    → said ≡ failure_of (file.Handlers number) failure → IsCode extensions number handlers live (Err said)
+refused_code extensions number handlers live commands NoMemory said is fails tells =
+    subst (λ (f : Failure LoadFault). IsCode extensions number handlers live (Err f)) (sym tells) tt
+refused_code extensions number handlers live commands (Fault refusal) said is fails tells =
+    subst (λ (f : Failure LoadFault). IsCode extensions number handlers live (Err f)) (sym tells) (record {
       refusal = refusal;
       first = subst (λ commands. FirstIsRefused commands handlers refusal) is fails;
       is = refl;
-    }))
+    })

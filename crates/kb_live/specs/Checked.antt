@@ -96,6 +96,14 @@ LiveChecked natives extensions handlers result =
 
 -- ---- for private functions
 
+-- code is that of an extension's handlers, which are verified, or one isn't accepted
+abbrev pub IsCode : List Extension → ℕ → List HandlerData → Live → Result CodesData (Failure LoadFault) → Type 0
+IsCode extensions number handlers live (Ok codes) =
+    (verified : List CheckedHandler) × AreVerified extensions number handlers live verified
+    × (codes ≡ checked verified)
+IsCode extensions number handlers live (Err NoMemory) = Unit {0}
+IsCode extensions number handlers live (Err (Fault fault)) = Refuses extensions number handlers live fault
+
 -- code is live from then on, or can't be
 abbrev pub IsAdmitted : ℕ → CodesData → Live → Result Live (Failure LoadFault) → Type 0
 IsAdmitted number codes live (Ok next) = (code_fault codes live ≡ None) × (next ≡ with_code number codes live)

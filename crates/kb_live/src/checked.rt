@@ -2,7 +2,7 @@
 ghost use Rattle.std.specs.Prelude.{◌≡◌, ◌≤◌, ℕ, length, map};
 ghost use Rattle.kb_bindings.specs.Fault.{failure_of};
 ghost use Rattle.kb_bindings.specs.declared.fault.LoadFile.TheVariants as LoadFile;
-ghost use Rattle.kb_live.specs.Checked.{IsAdmitted, JoinAll, Joins, LiveChecked};
+ghost use Rattle.kb_live.specs.Checked.{IsAdmitted, IsCode, JoinAll, Joins, LiveChecked};
 
 use crate::callable::callable_of;
 use crate::natives::{load_failure, register_all};
@@ -59,6 +59,7 @@ fn join_all<C: HostCommand>(
 }
 
 /// A registry in which the handlers of an extension are live, too, once they are verified.
+#[tactic(auto, using(crate::proofs::CheckedLemmas::code_joins, crate::proofs::CheckedLemmas::no_code_joins))]
 fn join<C: HostCommand>(
     alloc: Global,
     registry: Registry<C>,
@@ -68,9 +69,29 @@ fn join<C: HostCommand>(
 ) -> Result<Registry<C>, Failure<LoadFault>>
     ensures { Joins extensions.now number handlers registry result }
 {
-    let callable = callable_of(alloc, &registry, extensions, number, handlers.as_slice())?;
+    match checked_codes(alloc, &registry, extensions, number, handlers) {
+        Ok(codes) => admit(registry, number, codes),
+        Err(failure) => {
+            // (written down, since it is dropped by a call then, and not part by part in the proof)
+            drop(registry);
+            Err(failure)
+        }
+    }
+}
+
+/// The code of an extension's handlers, once they are verified by what they may call.
+fn checked_codes<C: HostCommand>(
+    alloc: Global,
+    registry: &Registry<C>,
+    extensions: &[Extension],
+    number: u32,
+    handlers: Seq<Handler>,
+) -> Result<Codes, Failure<LoadFault>>
+    ensures { IsCode extensions.now number handlers registry.now result }
+{
+    let callable = callable_of(alloc, registry, extensions, number, handlers.as_slice())?;
     match verify_all(alloc, handlers, &callable) {
-        Ok(verified) => admit(registry, number, Codes::checked(alloc, verified)?),
+        Ok(verified) => Ok(Codes::checked(alloc, verified)?),
         Err(failure) => Err(failure_at(number, failure)),
     }
 }

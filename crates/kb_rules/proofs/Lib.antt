@@ -1,4 +1,5 @@
 pub mod DroppedLemmas
+pub mod EnabledLemmas
 pub mod EntryLemmas
 pub mod RemovalIndexLemmas
 pub mod RemovalLemmas

@@ -146,12 +146,16 @@ made origin place (binding.Removes command keys) condition arguments = entry.Rem
   place = place;
 })
 
--- the same of the members, with all patterns read; the faults come in this order
+-- the same of what was read of the condition and the arguments, with all patterns read
+abbrev pub completed : Origin → ℕ → Binding → Result (Option Clause × Option Data) ℕ → Result Entry ℕ
+completed origin place bound terms =
+    terms >>= λ terms. Ok (made origin place bound (option_map (marked_by []) terms.0) terms.1)
+
+-- the same of the members; the faults come in this order
 unfoldable pub element_of : Origin → ℕ → Found → Result Entry ℕ
-element_of origin place found = do
-  bound ← binding_of found.command found.key
-  terms ← terms_of found.when found.args
-  Ok (made origin place bound (option_map (marked_by []) terms.0) terms.1)
+element_of origin place found =
+    binding_of found.command found.key
+    >>= λ bound. completed origin place bound (terms_of found.when found.args)
 
 -- what the element at a place is, with all patterns read, or the number of its first fault
 abbrev pub entry_of : Origin → Option Platform → ℕ → Data → Result Entry ℕ

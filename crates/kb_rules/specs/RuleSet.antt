@@ -23,9 +23,11 @@ all_removals lists = flat_map (λ list. list.removals) lists
 abbrev pub left_by : List Removal → List Rule → List Rule
 left_by removals rules = filter (λ rule. not (list_any (λ removal. takes removal rule) removals)) rules
 
--- the default rules and those of the enabled extensions, without what some removal takes, the user's removals
--- among them; and then the user's rules, all of them
+-- the rules of these lists, without what some removal takes, the user's removals among them; and then the
+-- user's rules, all of them
+abbrev pub rules_of : List Listed → Listed → List Rule
+rules_of lists user = left_by (all_removals lists ++ user.removals) (all_rules lists) ++ user.rules
+
+-- those of the default list and of the enabled extensions' lists count
 abbrev pub rules_in_force : Listed → List Listed → List Bool → Listed → List Rule
-rules_in_force defaults extensions enabled user =
-    let lists = defaults ∷ enabled_of extensions enabled in
-    left_by (all_removals lists ++ user.removals) (all_rules lists) ++ user.rules
+rules_in_force defaults extensions enabled user = rules_of (defaults ∷ enabled_of extensions enabled) user

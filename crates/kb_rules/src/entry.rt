@@ -10,8 +10,8 @@ ghost use Rattle.kb_when.specs.ClauseText.{clause_in};
 ghost use Rattle.serde_json.specs.View.{view, members_view};
 ghost use Rattle.kb_rules.specs.Entry.{by_number, failure_by_number, text_of, required_text, removed_command};
 ghost use Rattle.kb_rules.specs.Entry.{chord_in, keystrokes_of, removed_keystrokes_of, when_of, condition_of};
-ghost use Rattle.kb_rules.specs.Entry.{args_of, key_member, found_in, found_of, binding_of, terms_of, made};
-ghost use Rattle.kb_rules.specs.Entry.{element_of, entry_of};
+ghost use Rattle.kb_rules.specs.Entry.{args_of, key_member, found_in, found_of, binding_of, bound_to, terms_of};
+ghost use Rattle.kb_rules.specs.Entry.{made, completed, element_of, entry_of};
 ghost use Rattle.kb_rules.specs.Unread.{tree_in, marked_entry};
 
 use crate::json::Json;
@@ -101,7 +101,7 @@ fn take_key(members: Map<String, Value>, platform: Option<Platform>) -> Option<V
 }
 
 /// The rule or the removal that these members are.
-#[tactic(auto, unfolding(crate::specs::Entry::element_of), using(crate::proofs::EntryLemmas::made_as_read))]
+#[tactic(auto, unfolding(crate::specs::Entry::element_of))]
 fn read_parts(
     alloc: Global,
     parts: Parts,
@@ -111,8 +111,29 @@ fn read_parts(
     ensures { Gives (marked_entry []) result (element_of origin place (found_of parts)) }
 {
     let binding = read_binding(alloc, parts.command, parts.key)?;
-    let (when, args) = read_terms(alloc, parts.when, parts.args)?;
-    Ok(made(binding, when, args, origin, place))
+    complete(alloc, binding, parts.when, parts.args, origin, place)
+}
+
+/// The rule or the removal of a command and its keystrokes, with its condition and its arguments.
+#[tactic(auto, using(crate::proofs::EntryLemmas::made_as_read))]
+fn complete(
+    alloc: Global,
+    binding: Binding,
+    when: Option<Value>,
+    args: Option<Value>,
+    origin: Origin,
+    place: usize,
+) -> Result<Entry, Failure<u32>>
+    ensures { Gives (marked_entry []) result
+        (completed origin place binding (terms_of (option_map view when) (option_map view args))) }
+{
+    match read_terms(alloc, when, args) {
+        Ok((when, args)) => Ok(made(binding, when, args, origin, place)),
+        Err(failure) => {
+            drop(binding);
+            Err(failure)
+        }
+    }
 }
 
 /// The rule or the removal of what was read of it. It takes no memory.
@@ -155,14 +176,28 @@ fn read_binding(
 {
     let command = required_text(command).map_err(Failure::Fault)?;
     match removed_command(alloc, command.as_str())? {
-        Some(removed) => {
-            let keys = read_removed_keystrokes(alloc, key).map_err(Failure::Fault)?;
-            Ok(Binding::Removes(removed, keys))
-        }
-        None => {
-            let keys = read_keystrokes(alloc, key).map_err(Failure::Fault)?;
-            Ok(Binding::Starts(command, keys))
-        }
+        Some(removed) => bind_removal(alloc, removed, key).map_err(Failure::Fault),
+        None => bind_rule(alloc, command, key).map_err(Failure::Fault),
+    }
+}
+
+/// A rule's command, with its keystrokes.
+fn bind_rule(alloc: Global, command: Text, key: Option<Value>) -> Result<Binding, u32>
+    ensures { result ≡ bound_to command None (option_map view key) }
+{
+    match read_keystrokes(alloc, key) {
+        Ok(keys) => Ok(Binding::Starts(command, keys)),
+        Err(number) => Err(number),
+    }
+}
+
+/// The command that a removal names, with its keystrokes.
+fn bind_removal(alloc: Global, removed: Text, key: Option<Value>) -> Result<Binding, u32>
+    ensures { result ≡ bound_to [] (Some removed) (option_map view key) }
+{
+    match read_removed_keystrokes(alloc, key) {
+        Ok(keys) => Ok(Binding::Removes(removed, keys)),
+        Err(number) => Err(number),
     }
 }
 
@@ -177,8 +212,13 @@ fn read_terms(
         (terms_of (option_map view when) (option_map view args)) }
 {
     let when = read_condition(alloc, when)?;
-    let args = read_args(args).map_err(Failure::Fault)?;
-    Ok((when, args))
+    match read_args(args) {
+        Ok(args) => Ok((when, args)),
+        Err(number) => {
+            drop(when);
+            Err(Failure::Fault(number))
+        }
+    }
 }
 
 /// The text that a value is.

@@ -10,7 +10,7 @@ use kb_when::Clause;
 
 /// An element whose command begins with `-`, which takes rules away (VS Code's documentation of keyboard
 /// shortcuts). Which rules it may take at all, `RuleSet::assemble` says.
-#[derive(Debug, Drop)]
+#[derive(Drop)]
 pub struct Removal {
     /// The command whose rules it takes: what stands behind the `-`.
     pub command: Text,

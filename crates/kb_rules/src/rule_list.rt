@@ -99,10 +99,16 @@ impl RuleList {
         self.unread.as_slice()
     }
 
-    /// Adds a warning at the end.
-    fn warn(&mut self, warning: Warning) -> Result<(), NoMemory>
-        ensures { OnOk result (self.new ≡ with_warning warning self.old) }
+    /// Adds a warning of the element at a place at the end.
+    fn warn(&mut self, origin: Origin, number: u32, place: usize) -> Result<(), NoMemory>
+        ensures { OnOk result (self.new
+            ≡ with_warning (record { origin = origin; number = number; place = place }) self.old) }
     {
+        let warning = Warning {
+            origin,
+            number,
+            place,
+        };
         self.warnings.push(warning)?;
         Ok(())
     }
@@ -121,11 +127,7 @@ impl RuleList {
         if unread.is_empty() {
             return Ok(());
         }
-        self.warn(Warning {
-            origin,
-            number: UNREAD,
-            place,
-        })?;
+        self.warn(origin, UNREAD, place)?;
         push_unread(unread, place, &mut self.unread)
     }
 
@@ -145,11 +147,7 @@ impl RuleList {
         match read {
             Ok(Entry::Starts(rule)) => self.take_rule(alloc, rule, origin, place),
             Ok(Entry::Removes(removal)) => self.take_removal(alloc, removal, origin, place),
-            Err(number) => self.warn(Warning {
-                origin,
-                number,
-                place,
-            }),
+            Err(number) => self.warn(origin, number, place),
         }
     }
 
@@ -165,8 +163,9 @@ impl RuleList {
         ensures whole { OnOk result (IsWhole (Ok (Entry.Starts rule))) }
         ensures right { OnOk result (IsRight (Ok (Entry.Starts rule))) }
     {
+        let rule = Rc::new(alloc, rule)?;
         self.note(&rule.when, origin, place)?;
-        self.rules.push(Rc::new(alloc, rule)?)?;
+        self.rules.push(rule)?;
         Ok(())
     }
 
@@ -183,8 +182,33 @@ impl RuleList {
         ensures whole { OnOk result (IsWhole (Ok (Entry.Removes removal))) }
         ensures right { OnOk result (IsRight (Ok (Entry.Removes removal))) }
     {
+        let removal = Rc::new(alloc, removal)?;
         self.note(&removal.when, origin, place)?;
-        self.removals.push(Rc::new(alloc, removal)?)?;
+        self.removals.push(removal)?;
+        Ok(())
+    }
+
+    /// Adds what each of the values is, to a list of no elements.
+    fn take_all(
+        &mut self,
+        alloc: Global,
+        values: Vec<Value>,
+        origin: Origin,
+        platform: Option<Platform>,
+    ) -> Result<(), NoMemory>
+        requires { self.old ≡ no_elements }
+        ensures read { OnOk result (self.new
+            ≡ listed self.new.unread origin platform (map view values.items)) }
+        ensures right { OnOk result (AreRightlyMarked self.new) }
+        ensures each_once { OnOk result (length self.new.rules + length self.new.removals
+            + length (dropped_in self.new) ≡ length values.items) }
+    {
+        let mut place = 0;
+        for value in values {
+            let read = read_element(alloc, value, origin, platform, place)?;
+            self.take(alloc, read, origin, place)?;
+            place += 1;
+        }
         Ok(())
     }
 }
@@ -267,11 +291,6 @@ pub fn read_list(
         + length (dropped_in list) ≡ length values.items) }
 {
     let mut list = RuleList::new(alloc);
-    let mut place = 0;
-    for value in values {
-        let read = read_element(alloc, value, origin, platform, place)?;
-        list.take(alloc, read, origin, place)?;
-        place += 1;
-    }
+    list.take_all(alloc, values, origin, platform)?;
     Ok(list)
 }

@@ -1,8 +1,8 @@
 //! The rules in force.
-ghost use Rattle.std.specs.Prelude.{◌≡◌, ◌∷◌, ◌++◌, IfOk, OnOk, length, map};
+ghost use Rattle.std.specs.Prelude.{◌≡◌, ◌∷◌, [], ◌++◌, IfOk, OnOk, length, map};
 ghost use Rattle.std.specs.List.{flat_map};
-ghost use Rattle.kb_rules.specs.RemovalIndex.{left_in};
-ghost use Rattle.kb_rules.specs.RuleSet.{enabled_of, all_removals, rules_in_force};
+ghost use Rattle.kb_rules.specs.RemovalIndex.{left_in, Indexes};
+ghost use Rattle.kb_rules.specs.RuleSet.{enabled_of, all_removals, rules_of, rules_in_force};
 
 use crate::removal::Removal;
 use crate::removal_index::RemovalIndex;
@@ -51,10 +51,7 @@ impl RuleSet {
             ≡ rules_in_force defaults.now (map (λ l. l.now) extensions.now) enabled.now user.now) }
     {
         let lists = counted_lists(alloc, defaults, extensions, enabled)?;
-        let removals = counted_removals(alloc, lists.as_slice(), user)?;
-        let index = RemovalIndex::new(alloc, removals.as_slice())?;
-        let mut rules = left_rules(alloc, lists.as_slice(), &index)?;
-        share_all(user.rules(), &mut rules)?;
+        let rules = rules_of(alloc, lists.as_slice(), user)?;
         Ok(RuleSet { rules })
     }
 
@@ -64,6 +61,26 @@ impl RuleSet {
     {
         self.rules.as_slice()
     }
+}
+
+/// The rules in force, of the lists that count and the user's.
+fn rules_of(alloc: Global, lists: &[&RuleList], user: &RuleList) -> Result<Seq<Rc<Rule>>, NoMemory>
+    ensures { IfOk result (λ rules. map (λ r. r.value) rules
+        ≡ rules_of (map (λ l. l.now) lists.now) user.now) }
+{
+    let index = index_of(alloc, lists, user)?;
+    let mut rules = left_rules(alloc, lists, &index)?;
+    share_all(user.rules(), &mut rules)?;
+    Ok(rules)
+}
+
+/// The index of the removals that count.
+fn index_of(alloc: Global, lists: &[&RuleList], user: &RuleList) -> Result<RemovalIndex, NoMemory>
+    ensures { IfOk result (λ index. Indexes index
+        (all_removals (map (λ l. l.now) lists.now) ++ user.now.removals)) }
+{
+    let removals = counted_removals(alloc, lists, user)?;
+    RemovalIndex::new(alloc, removals.as_slice())
 }
 
 /// The default list, and those of the enabled extensions.
@@ -80,11 +97,24 @@ fn counted_lists<'a>(
     let mut lists = Vec::new(alloc);
     lists.push(defaults)?;
     for (i, list) in extensions.iter().enumerate() {
-        if enabled[i] {
-            lists.push(*list)?;
-        }
+        push_enabled(*list, enabled[i], &mut lists)?;
     }
     Ok(lists)
+}
+
+/// Adds the list of an extension at the end, if the extension is enabled.
+fn push_enabled<'a>(
+    list: &'a RuleList,
+    enabled: bool,
+    lists: &mut Vec<&'a RuleList>,
+) -> Result<(), NoMemory>
+    ensures { OnOk result (map (λ l. l.now) lists.new.items
+        ≡ map (λ l. l.now) lists.old.items ++ enabled_of (list.now ∷ []) (enabled ∷ [])) }
+{
+    if enabled {
+        lists.push(list)?;
+    }
+    Ok(())
 }
 
 /// The removals that count: those of the lists, and the user's.

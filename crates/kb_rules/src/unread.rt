@@ -3,7 +3,7 @@ use kb_context::Text;
 
 /// A pattern in the clause of a rule or a removal that `regex` doesn't read. What it stands for never holds
 /// (our decision).
-#[derive(Debug, Drop)]
+#[derive(Drop)]
 pub struct UnreadAt {
     /// Where the rule or the removal stands in its list: the number of elements above it.
     pub place: usize,

@@ -2,7 +2,7 @@
 use crate::origin::Origin;
 
 /// An element of a list of rules that was dropped, or that is kept and has an unread pattern.
-#[derive(Clone, Copy, Debug, PartialEq, Eq)]
+#[derive(Clone, Copy, PartialEq, Eq)]
 pub struct Warning {
     /// Whose element it is.
     pub origin: Origin,
