@@ -9,9 +9,10 @@ import unittest
 
 from gate import kit
 from gate.edits import edits_of
+from gate.kept import Kept
 from gate.said import Said
 from gate.source import functions_of
-from gate.trying import PROVED, Crate, trouble_in, try_as_proved
+from gate.trying import PROVED, Crate, Tried, trouble_in, try_as_proved
 from gate.twins import Proofs
 
 SOURCE = """\
@@ -227,6 +228,55 @@ class Following(unittest.TestCase):
             self.assertTrue(said.getvalue().endswith(f"0 refused, {len(EDITS)} not\n"))
 
 
+class Keeping(unittest.TestCase):
+    def setUp(self):
+        self.top, self.at = self.enterContext(tempfile.TemporaryDirectory()), self.enterContext(tempfile.TemporaryDirectory())
+        self.crate = made_crate(self.top)
+        self.edits = edits_of(self.crate, functions_of(self.crate), ["wrong-bodies"])
+
+    def kept(self):
+        return Kept(self.crate, self.edits, self.at)
+
+    def names(self):
+        return {it.name for it in self.kept().refused()}
+
+    def keep_all(self):
+        self.kept().keep([Tried(it, True, "refused") for it in self.edits])
+
+    def test_what_was_refused_is_kept_and_nothing_else(self):
+        passed, little, refused, *_ = self.edits
+        self.kept().keep([Tried(passed, False, "not refused"), Tried(little, True, "refused alone", says_little=True), Tried(refused, True, "refused")])
+        self.assertEqual(self.kept().refused(), {refused: "refused"})
+
+    def test_nothing_is_taken_of_a_crate_or_an_edit_that_changed(self):
+        self.keep_all()
+        self.assertEqual(self.names(), {it.name for it in self.edits})
+        write(self.edits[0].file, "guards: another promise\n")
+        self.assertEqual(self.names(), {it.name for it in self.edits[1:]})
+        write(f"{self.top}/crates/tiny/src/lib.rt", SOURCE + "\n")
+        self.assertEqual(self.names(), set())
+
+    def test_nothing_is_kept_of_a_crate_that_changed_meanwhile(self):
+        before = self.kept()
+        write(f"{self.top}/crates/tiny/proofs/Lemmas.antt", "")
+        before.keep([Tried(it, True, "refused") for it in self.edits])
+        os.remove(f"{self.top}/crates/tiny/proofs/Lemmas.antt")
+        self.assertEqual(self.names(), set())
+
+    def test_what_is_kept_is_not_tried_and_counts(self):
+        self.keep_all()
+        said = io.StringIO()
+        with contextlib.redirect_stdout(said):
+            self.assertTrue(try_as_proved([self.crate], ["rt: tiny proved\n"], self.at))
+        self.assertNotIn("batch", said.getvalue())
+        self.assertTrue(said.getvalue().endswith(f"{len(EDITS)} refused, 0 not\n"))
+
+    def test_what_is_kept_counts_for_nothing_where_the_crate_is_not_proved(self):
+        self.keep_all()
+        with contextlib.redirect_stdout(io.StringIO()):
+            self.assertFalse(try_as_proved([self.crate], ["rt: tiny NOT PROVED\n"], self.at))
+
+
 class Trying(unittest.TestCase):
     def test_each_edit_is_judged_by_itself(self):
         with tempfile.TemporaryDirectory() as top, tempfile.TemporaryDirectory() as kept:
@@ -257,5 +307,5 @@ class Trying(unittest.TestCase):
 
 def main():
     loaded = unittest.defaultTestLoader
-    suite = unittest.TestSuite(loaded.loadTestsFromTestCase(it) for it in (Reading, Following, Trying))
+    suite = unittest.TestSuite(loaded.loadTestsFromTestCase(it) for it in (Reading, Following, Keeping, Trying))
     return 0 if unittest.TextTestRunner(verbosity=1).run(suite).wasSuccessful() else 1

@@ -37,6 +37,7 @@ import threading
 import time
 
 from gate.edits import edits_of, sources_of, with_edits
+from gate.kept import Kept
 from gate.kit import built_libraries, check, room_with, rt
 from gate.said import Said
 from gate.source import functions_of, named_in, users_of
@@ -407,27 +408,45 @@ def work_of(crate, edits):
     return len(edits) * crate.count(rb"\n")
 
 
-def try_as_proved(crates, lines):
-    """Tries the wrong bodies of each crate once these lines of rt ci, which it passes on, say that the crate is proved, the most work first."""
-    os.nice(10)
-    waiting = {it[0].name: it for it in crates_with_edits(crates)}
+def try_what_is_new(crate, functions, edits, before):
+    """Tries those edits of a crate that is proved which no earlier run on this machine saw refused as they stand."""
+    known = before.refused()
+    found = [Tried(it, True, text) for it, text in known.items()]
+    if known:
+        say(f"{crate.name}: {len(known)} of its {len(edits)} edits were refused in an earlier run on this machine, and nothing that they stand on has changed")
+    left = [it for it in edits if it not in known]
+    if left:
+        tried = try_crate(crate, functions, left, is_proved=True)
+        before.keep(tried)
+        found += tried
+    return found
+
+
+def try_as_proved(crates, lines, at=None):
+    """Tries the wrong bodies of each crate once these lines of rt ci, which it passes on, say that the crate is proved, the most work first.
+
+    In the folder `at`, if there is one, is kept what earlier runs found.
+    """
+    waiting = {it[0].name: (*it, Kept(it[0], it[2], at)) for it in crates_with_edits(crates)}
     ready, proved = queue.PriorityQueue(), set()
-    with concurrent.futures.ThreadPoolExecutor(rt.processors()) as pool:
+    # (a thread's checks are of its own class: they run where rt ci leaves a processor idle, and take no time from it)
+    be_idle = lambda: os.sched_setscheduler(0, os.SCHED_IDLE, os.sched_param(0))
+    with concurrent.futures.ThreadPoolExecutor(rt.processors(), initializer=be_idle) as pool:
         lanes = [pool.submit(try_ready, ready) for _ in range(rt.processors())]
         try:
             for line in lines:
                 say(line.rstrip("\n"))
                 proved.update(PROVED.findall(line))
-                for name, (crate, functions, edits) in [*waiting.items()]:
+                for name, (crate, functions, edits, before) in [*waiting.items()]:
                     if {name, *(it.name for it in crate.below())} <= proved:
                         del waiting[name]
-                        ready.put((-work_of(crate, edits), name, (crate, functions, edits)))
+                        ready.put((-work_of(crate, edits), name, (crate, functions, edits, before)))
         finally:
             for number in range(len(lanes)):
                 # (behind all that is there)
                 ready.put((1, str(number), None))
     found = [it for lane in lanes for it in lane.result()]
-    lost = [Tried(it, False, "the crate is not proved") for _, _, edits in waiting.values() for it in edits]
+    lost = [Tried(it, False, "the crate is not proved") for _, _, edits, _ in waiting.values() for it in edits]
     return told([*found, *lost])
 
 
@@ -435,7 +454,7 @@ def try_ready(ready):
     """Tries the edits of crates that come ready, one crate after another, until there is nothing in a crate's place."""
     found = []
     while (it := ready.get()[-1]) is not None:
-        found += try_crate(*it, is_proved=True)
+        found += try_what_is_new(*it)
     return found
 
 

@@ -10,7 +10,7 @@ use kb_stream::read_within;
 use std::alloc::Global;
 use std::io::ErrorKind;
 use std::rt::Files;
-use std::{fs, io};
+use std::{fs, io, mem};
 
 /// The most bytes of a file, as `kb_ending` has it.
 const FILE_LIMIT: usize = 16_777_216;
@@ -76,16 +76,20 @@ fn read_directory<R: Files>(rt: &R, alloc: Global, dir: &str) -> Result<Extensio
 /// The identifier and the dependencies that a manifest states.
 fn names_in(alloc: Global, dir: &str, bytes: &[u8]) -> Result<(Text, Seq<Text>), Stop> {
     match read_extension(alloc, bytes, 0, Platform::Linux) {
-        Ok(extension) => {
-            let Extension {
-                id,
-                dependencies,
-                ..
-            } = extension;
-            Ok((id, dependencies))
+        Ok(mut extension) => {
+            let names = take_names(alloc, &mut extension);
+            drop(extension);
+            Ok(names)
         }
         Err(failure) => Err(failed_file(alloc, dir, PACKAGE, &failure)),
     }
+}
+
+/// The identifier and the dependencies, moved out of an extension. It takes no memory.
+fn take_names(alloc: Global, extension: &mut Extension) -> (Text, Seq<Text>) {
+    let id = mem::replace(&mut extension.id, Text::new(alloc));
+    let dependencies = mem::replace(&mut extension.dependencies, Seq::new(alloc));
+    (id, dependencies)
 }
 
 /// The handlers of a directory, or `None` where there is no such file.
