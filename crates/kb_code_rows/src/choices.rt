@@ -60,15 +60,21 @@ fn keys(alloc: Global, choice: u16) -> Result<TextMap<ContextValue>, NoMemory> {
     Ok(keys)
 }
 
-// A layout of one scope, whose keys have the values of a choice.
-fn layout(alloc: Global, choice: u16) -> Result<Layout, NoMemory> {
-    let mut scopes = Seq::new(alloc);
-    scopes.push(LayoutScope {
-        name: Text::from_str(alloc, "window")?,
+// A scope whose keys have the values of a choice.
+fn scope(alloc: Global, choice: u16) -> Result<LayoutScope, NoMemory> {
+    let name = Text::from_str(alloc, "window")?;
+    Ok(LayoutScope {
+        name,
         parent: None,
         keys: keys(alloc, choice)?,
-    })?;
+    })
+}
+
+// A layout of one scope, whose keys have the values of a choice.
+fn layout(alloc: Global, choice: u16) -> Result<Layout, NoMemory> {
     let focus = Text::from_str(alloc, "window")?;
+    let mut scopes = Seq::new(alloc);
+    scopes.push(scope(alloc, choice)?)?;
     Ok(Layout { scopes, focus })
 }
 

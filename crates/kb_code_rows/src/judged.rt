@@ -96,8 +96,17 @@ fn accepted(alloc: Global, verified: &Verified) -> Result<String, NoMemory> {
 
 fn judged_by(alloc: Global, handler: Handler, callable: &Callable) -> Result<String, NoMemory> {
     match verify(alloc, handler, callable) {
-        Ok(verified) => accepted(alloc, &verified),
-        Err((_handler, failure)) => refused_for(alloc, &failure),
+        Ok(verified) => {
+            let said = accepted(alloc, &verified);
+            drop(verified);
+            said
+        }
+        Err((handler, failure)) => {
+            drop(handler);
+            let said = refused_for(alloc, &failure);
+            drop(failure);
+            said
+        }
     }
 }
 

@@ -36,10 +36,12 @@ fn start_once(
     trial: &Trial,
     choice: u16,
 ) -> Result<u64, Failure<Finding>> {
-    let core = choices::core(alloc, choice)?;
     let args = choices::args(alloc, trial.draft.params.as_slice(), choice)?;
+    let core = choices::core(alloc, choice)?;
     let outcome = start(alloc, registry, trial.name(), args, core);
-    spent(&outcome, choice, trial.budget)
+    let spent = spent(&outcome, choice, trial.budget);
+    drop(outcome);
+    spent
 }
 
 // Starts a live handler under each choice, and gives the most that a start spends.

@@ -171,13 +171,25 @@ fn try_files(
     Ok(None)
 }
 
-/// What comes of so many files of handlers that follow from a seed: the counts, or what is found wrong first.
-pub(crate) fn tried(alloc: Global, seed: u64, files: u32) -> Result<String, NoMemory> {
+// What comes of so many files, with the natives live.
+fn tried_over(
+    alloc: Global,
+    seed: u64,
+    registry: &mut Registry<Dear>,
+    files: u32,
+) -> Result<String, NoMemory> {
     let mut random = Random::new(seed);
-    let mut registry = natives(alloc)?;
     let mut counts = Counts::new();
-    match try_files(alloc, &mut random, &mut registry, &mut counts, files)? {
+    match try_files(alloc, &mut random, registry, &mut counts, files)? {
         Some(found) => Ok(found),
         None => counts.said(alloc),
     }
+}
+
+/// What comes of so many files of handlers that follow from a seed: the counts, or what is found wrong first.
+pub(crate) fn tried(alloc: Global, seed: u64, files: u32) -> Result<String, NoMemory> {
+    let mut registry = natives(alloc)?;
+    let said = tried_over(alloc, seed, &mut registry, files);
+    drop(registry);
+    said
 }

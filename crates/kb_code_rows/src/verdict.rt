@@ -5,6 +5,7 @@ use crate::live::Dear;
 use crate::starts::run;
 use crate::trial::Trial;
 use crate::ways::{followed, jumps_of};
+use kb_code::Handler;
 use kb_context::Failure;
 use kb_registry::Registry;
 use kb_verify::{Callable, Step, VerifyFault, verify};
@@ -60,6 +61,29 @@ fn refused(
     }
 }
 
+// The verdict on a handler that was read, under its budget.
+fn judged(
+    alloc: Global,
+    callable: &Callable,
+    registry: &mut Registry<Dear>,
+    trial: &Trial,
+    handler: Handler,
+    counts: &mut Counts,
+) -> Result<Verdict, Failure<Finding>> {
+    match verify(alloc, handler, callable) {
+        Ok(verified) => match run(alloc, registry, trial, verified, counts) {
+            Ok(most) => Ok(Verdict::Accepted(most)),
+            Err(failure) => Err(failure),
+        },
+        Err((handler, failure)) => {
+            drop(handler);
+            let verdict = refused(callable, trial, &failure);
+            drop(failure);
+            verdict
+        }
+    }
+}
+
 /// The verdict on a handler under its budget. One that is accepted is live from then on.
 pub(crate) fn judge(
     alloc: Global,
@@ -68,14 +92,8 @@ pub(crate) fn judge(
     trial: &Trial,
     counts: &mut Counts,
 ) -> Result<Verdict, Failure<Finding>> {
-    let Some(handler) = trial.handler(alloc)? else {
-        return Err(Failure::Fault(Finding::NotRead));
-    };
-    match verify(alloc, handler, callable) {
-        Ok(verified) => {
-            let most = run(alloc, registry, trial, verified, counts)?;
-            Ok(Verdict::Accepted(most))
-        }
-        Err((_handler, failure)) => refused(callable, trial, &failure),
+    match trial.handler(alloc)? {
+        Some(handler) => judged(alloc, callable, registry, trial, handler, counts),
+        None => Err(Failure::Fault(Finding::NotRead)),
     }
 }
