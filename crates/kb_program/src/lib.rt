@@ -1,6 +1,8 @@
-//! A program from its command line to its exit status, but for the closures, which its `main` boxes.
+//! A program from its command line to its exit status, with the closures of its host.
 #![tactic(auto)]
 
+pub mod host;
 pub mod line;
 
+pub use host::run_host;
 pub use line::run_program;
