@@ -11,7 +11,8 @@ fn command_of<'a>(alloc: Global) -> Result<Command<'a>, NoMemory> {
         .required(true)
         .action(ArgAction::Append)
         .help(
-            "The directories of extensions, each with its package.json and, if it has handlers, its handlers.json, in load order",
+            "The directories of extensions, each with its package.json and, if it has handlers, \
+                its handlers.json, in load order",
         );
     Command::new(alloc, "check-handlers")
         .about("Says of each handler of some extensions whether it is accepted, and why not.")

@@ -1,7 +1,7 @@
 //! What the closures of a host run, and the two lists of them.
 //!
-//! A closure is boxed where a program is run (`kb_program`), since a box that a function gave away would have to
-//! be assumed to do what its contract says: so the code of a closure stands here, and its box there.
+//! A closure is boxed where a program is run (`kb_program`), since a box that a function gave away would have
+//! to be assumed to do what its contract says: so the code of a closure stands here, and its box there.
 ghost use Rattle.std.specs.Prelude.{◌≡◌, IfOk};
 ghost use Rattle.kb_core.specs.Native.{Fits, budget_of};
 ghost use Rattle.kb_core.specs.Ran.{Does};
