@@ -24,7 +24,8 @@ class Edit:
     # The one function that it changes, or nothing, and whether it changes no more than the function's body.
     function: object
     is_of_body: bool
-    # Whether its texts stand once in that function, and perhaps more than once in the file, so that rt can't apply it.
+    # Whether its line `within` names its function: its texts may be in the file more than once, so rt can't
+    # apply it.
     is_within: bool
 
     @property
@@ -44,7 +45,10 @@ def function_alone(file, folder, functions):
 
 
 def applied(file, folder, within):
-    """The edited files of a crate, beside what they were, or why the edit can't be applied. One within a function sees no other line."""
+    """The edited files of a crate, what they were, and why the edit can't be applied, if it can't.
+
+    An edit within a function sees no other line.
+    """
     with tempfile.TemporaryDirectory() as room:
         if within:
             with open(os.path.join(folder, within.file), encoding="utf-8") as own:
@@ -85,7 +89,8 @@ def read_edit(file, folder, functions):
 
 def function_of(lines, functions):
     """The function at all these lines, the innermost one, or nothing."""
-    found = {next((it for it in functions if it.file == path and it.spans(line)), None) for path, line in lines}
+    at = lambda path, line: next((it for it in functions if it.file == path and it.spans(line)), None)
+    found = {at(path, line) for path, line in lines}
     return found.pop() if len(found) == 1 else None
 
 
@@ -95,7 +100,8 @@ def edits_of(crate, functions, folders=FOLDERS):
     for folder in folders:
         path = os.path.join(crate.folder, folder)
         names = sorted(os.listdir(path)) if os.path.isdir(path) else []
-        found += [read_edit(os.path.join(path, it), crate.folder, functions) for it in names if not it.endswith(".md")]
+        files = [os.path.join(path, it) for it in names if not it.endswith(".md")]
+        found += [read_edit(it, crate.folder, functions) for it in files]
     return found
 
 

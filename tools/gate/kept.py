@@ -1,9 +1,10 @@
 """What earlier runs of the gate on this machine found of wrong bodies.
 
-rt ci keeps what it passed, by a sum of all that it read, so that a later run on this machine does only what has changed. So does
-this: an edit that was refused is refused again where it is the same, and its crate, those below it, the kit and this tool are.
-Nothing else is kept, so an edit that passed, or that says little, is tried again. What is kept stands in the folder of what rt ci
-keeps, beside the kit, for whoever runs the gate alone, an edit a file, so that a run that was stopped has not been in vain.
+rt ci keeps what it passed, by a sum of all that it read, so that a later run on this machine does only what
+has changed. So does this: an edit that was refused is refused again where the edit, its crate, those below
+it, the kit and this tool are the same. So are the tool's own tests. Nothing else is kept: an edit that
+passed, or that says little, is tried again. The files are in a folder beside what rt ci keeps, an edit a
+file, so that a run that is stopped keeps what it has done.
 """
 
 import contextlib
@@ -14,6 +15,9 @@ import tempfile
 
 from gate.kit import TOP, rt
 
+# What tests the tool and does not judge edits.
+OWN_TESTS = "self_test.py"
+
 
 def folder():
     """The folder for what is kept, or nothing where none can be."""
@@ -21,24 +25,54 @@ def folder():
     return store and os.path.join(store, "wrong-bodies")
 
 
+def sum_of(files, total=""):
+    """A sum of these files, with their names below the top, and of a sum before them."""
+    made = hashlib.sha256(total.encode())
+    for file in files:
+        with open(file, "rb") as text:
+            made.update(repr((os.path.relpath(file, TOP), text.read())).encode())
+    return made.hexdigest()
+
+
+def files_of_tool():
+    """The files of this tool."""
+    folder = os.path.dirname(os.path.abspath(__file__))
+    return [os.path.join(folder, it) for it in sorted(os.listdir(folder)) if it.endswith(".py")]
+
+
 def sum_of_tool():
-    """A sum of what judges edits."""
-    total = hashlib.sha256()
-    for at, folders, names in os.walk(os.path.join(TOP, "tools", "gate")):
-        folders.sort()
-        for name in sorted(it for it in names if it.endswith(".py")):
-            with open(os.path.join(at, name), "rb") as text:
-                total.update(repr((name, text.read())).encode())
-    return total.hexdigest()
+    """A sum of the whole tool and of the kit."""
+    return sum_of([*files_of_tool(), os.path.join(TOP, "tools", "wrong-bodies")], rt.kit_sum())
 
 
 def sums_of(crate, edits):
     """For each edit the sum of all that its trial reads."""
-    own, found = (rt.stamp_of(crate, {}), sum_of_tool()), {}
-    for it in edits:
-        with open(it.file, "rb") as text:
-            found[it] = hashlib.sha256(repr((own, it.name, text.read())).encode()).hexdigest()
-    return found
+    judging = sum_of([it for it in files_of_tool() if not it.endswith(OWN_TESTS)], rt.stamp_of(crate, {}))
+    sum_with = lambda it: hashlib.sha256(repr((judging, it.name, sum_of([it.file]))).encode()).hexdigest()
+    return {it: sum_with(it) for it in edits}
+
+
+def write(at, name, said):
+    """Writes a file apart and then renames it, so that no other run reads half of it."""
+    os.makedirs(at, mode=0o700, exist_ok=True)
+    with tempfile.NamedTemporaryFile("w", dir=at, delete=False, encoding="utf-8") as file:
+        json.dump(said, file)
+    os.replace(file.name, os.path.join(at, name))
+
+
+class Passed:
+    """Whether something passed on this machine, by a sum of all that it reads."""
+
+    def __init__(self, name, total):
+        self.at, self.name = folder(), f"{name}-{total}"
+
+    def is_kept(self):
+        return bool(self.at) and os.path.isfile(os.path.join(self.at, self.name))
+
+    def keep(self):
+        with contextlib.suppress(OSError):
+            if self.at:
+                write(self.at, self.name, {})
 
 
 class Kept:
@@ -60,17 +94,11 @@ class Kept:
         return found
 
     def keep(self, found):
-        """Keeps which edits were refused just now, unless a file that their trial reads was changed meanwhile."""
+        """Keeps which edits were refused just now, unless a file that their trial reads changed meanwhile."""
         with contextlib.suppress(OSError):
             if not self.at or sums_of(self.crate, self.edits) != self.sums:
                 return
-            os.makedirs(self.at, mode=0o700, exist_ok=True)
             for it in found:
                 if it.is_refused and not it.says_little:
-                    self.write(self.sums[it.edit], it.text)
-
-    def write(self, name, text):
-        """Writes a file apart and then renames it, so that no other run reads half of it."""
-        with tempfile.NamedTemporaryFile("w", dir=self.at, delete=False, encoding="utf-8") as file:
-            json.dump({"sum": name, "text": text}, file)
-        os.replace(file.name, os.path.join(self.at, name))
+                    name = self.sums[it.edit]
+                    write(self.at, name, {"sum": name, "text": it.text})

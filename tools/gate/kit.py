@@ -35,9 +35,10 @@ def crates_of(top):
 
 
 def built_from_nothing(crate):
-    """Whether the crate's library stands as rt ci built it, of the sources as they stand.
+    """Whether the crate's library is there as rt ci built it, from the sources as they are.
 
-    rt ci leaves no stamp. A library over kept work says so, and one that is older than a source is of other sources.
+    rt ci leaves no stamp. A library over kept work says so, and one that is older than a source is of other
+    sources.
     """
     form = os.path.join(crate.rlib, "format")
     if os.path.exists(os.path.join(os.path.dirname(crate.rlib), "stamp")) or not os.path.isfile(form):
@@ -50,9 +51,10 @@ def built_from_nothing(crate):
 
 
 def built_libraries(crates):
-    """Builds the libraries below these crates where they don't stand, and says whether all do now.
+    """Builds the missing libraries below these crates, and says whether all are there now.
 
-    What rt ci built is taken whole or not at all, since statements fit only the libraries that they were built over.
+    What rt ci built is taken whole or not at all, since statements fit only the libraries that they were
+    built over.
     """
     libraries = list(dict.fromkeys(dep for crate in crates for dep in crate.below()))
     if all(built_from_nothing(it) for it in libraries):
@@ -67,7 +69,7 @@ def built_libraries(crates):
 
 @contextlib.contextmanager
 def room_with(crate, texts):
-    """A copy of the crate's own texts, in a folder of its own, with these in place of its own or beside them, and without those that are `None`."""
+    """A copy of the crate in its own folder, with these texts, and without files whose text is `None`."""
     with tempfile.TemporaryDirectory(prefix="wrong-bodies-") as folder:
         for part in rt.rtlib.PARTS:
             if os.path.isdir(os.path.join(crate.folder, part)):
@@ -85,8 +87,8 @@ def room_with(crate, texts):
         yield room
 
 
-def check(crate, folder, flags, kept):
-    """Checks the texts in this folder as the crate's, over a folder of kept work."""
+def check(crate, folder, flags, kept, seconds=None):
+    """Checks the texts in this folder as the crate's, over a folder of kept work, within so many seconds."""
     words = [rt.rtlib.RATTLE, "check", *crate.words(flags, keeps=False), "--incremental", kept]
-    how = {"stdin": subprocess.DEVNULL, "stdout": subprocess.PIPE, "stderr": subprocess.STDOUT, "errors": "replace"}
-    return subprocess.run([*rt.rtlib.guarded(), *words], cwd=folder, **how)
+    how = {"stdin": subprocess.DEVNULL, "stdout": subprocess.PIPE, "stderr": subprocess.STDOUT}
+    return subprocess.run([*rt.rtlib.guarded(), *words], cwd=folder, timeout=seconds, errors="replace", **how)

@@ -1,4 +1,5 @@
-"""What a check says of each function: which goals of its own failed, and what it waits for.
+"""What a check says of each function: which goals of its own failed, and whether it waits for another
+proof.
 
 A function's line ends in `proved`, or says on one line what is lacking:
 
@@ -19,7 +20,7 @@ GOAL = re.compile(r"^note: (?:\./)?(src/\S+?):(\d+):\d+: it is not proved that .
 # An error that only says that a proof names what an edit took away, or rests on a proof that does.
 NAMES = re.compile(r"has no field|is not in scope|has no `|was not admitted")
 SEARCHED = re.compile(r"^`search` did not prove (`.*`)$")
-WAITS = re.compile(r"^it (?:calls|passes the blocks?|waits for the proof of) (`.*`)(?:, which (?:is|are) not proved)?$")
+WAITS = re.compile(r"^it (?:calls|passes the blocks?|waits for the proof of) `.*`(?:, which .*)?$")
 IN_CYCLE = re.compile(r"^in `[^`]*`, of this cycle of calls: ")
 LACKS = re.compile(r"^(?:not proved|no proof|expected answers in \S+)$")
 
@@ -31,11 +32,11 @@ class Verdict:
     is_proved: bool = True
     # The goals of its own that failed.
     goals: list = dataclasses.field(default_factory=list)
-    # The functions and blocks without which it has no proof, and which have none themselves.
-    waits: set = dataclasses.field(default_factory=set)
+    # Whether it lacks the proof of something else.
+    waits: bool = False
     # Whether a proof file of its own names what isn't there.
     lacks_names: bool = False
-    # What stands in its line that nothing here knows how to read.
+    # The part of its line that this tool can't read.
     unread: str = ""
 
     @property
@@ -93,9 +94,7 @@ class Said:
 
     def read_function(self, unit, text):
         self.named.add(unit)
-        verdict = self.found.setdefault(unit, Verdict())
-        read_parts(text, verdict)
-        verdict.waits = {self.unit_of(it) for it in verdict.waits} - {unit}
+        read_parts(text, self.found.setdefault(unit, Verdict()))
 
     def read_error(self, line, file, goal):
         unit = next((self.folders[it] for it in self.folders if file.startswith(it)), None)
@@ -109,7 +108,7 @@ class Said:
 
 
 def read_parts(text, verdict):
-    """Adds what stands behind a name to a verdict."""
+    """Adds the text behind a name to a verdict."""
     if text == "proved":
         return
     verdict.is_proved = False
@@ -117,7 +116,7 @@ def read_parts(text, verdict):
         part = IN_CYCLE.sub("", part)
         if found := SEARCHED.match(part):
             verdict.goals += re.findall(r"`([^`]*)`", found[1])
-        elif found := WAITS.match(part):
-            verdict.waits |= {*re.findall(r"`([^`]*)`", found[1])}
+        elif WAITS.match(part):
+            verdict.waits = True
         elif not LACKS.match(part):
             verdict.unread = part

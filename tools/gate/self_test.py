@@ -1,4 +1,4 @@
-"""Tests of tools/wrong-bodies: what it reads of a check, and how it judges the edits of a small crate of its own."""
+"""Tests of tools/wrong-bodies: what it reads of a check, and how it judges the edits of a small crate."""
 
 import contextlib
 import io
@@ -12,8 +12,10 @@ from gate.edits import edits_of
 from gate.kept import Kept
 from gate.said import Said
 from gate.source import functions_of
-from gate.trying import PROVED, Crate, Tried, trouble_in, try_as_proved
-from gate.twins import Proofs
+from gate.stand_ins import stand_ins_of
+from gate.trying import Crate, Limit, Tried, trouble_in
+from gate.turns import PROVED, changed_crates, turns_of, try_as_proved
+from gate.twins import Proofs, Twin
 
 SOURCE = """\
 //! A crate on which wrong bodies are tried.
@@ -82,7 +84,7 @@ pub fn climbed(height: u8) -> u8
     at
 }
 """
-# What stands below proofs/, for the loop.
+# The files below proofs/, for the loop.
 PROOFS = {
     "climbed/Invariants.antt": """\
 use Rattle.std.proofs.Common.{◌≡◌, ◌≤◌, ◌-◌}
@@ -112,14 +114,6 @@ EDITS = {
 FUNCTIONS = {"callee": 8, "caller": 16, "other": 24, "one_of_ring": 32, "two_of_ring": 40}
 
 
-class Blind(Crate):
-    """A trial that doesn't see which function calls which, so that callers stand beside callees."""
-
-    def __init__(self, *given):
-        super().__init__(*given)
-        self.calls = {unit: set() for unit in self.calls}
-
-
 def function(name, head):
     cycle = "ring" if name.endswith("ring") else ""
     made = types.SimpleNamespace(file="src/a.rt", unit=f"a::+{cycle}" if cycle else f"a::{name}")
@@ -139,24 +133,24 @@ def trouble(found, *units):
 
 class Reading(unittest.TestCase):
     def test_a_goal_in_the_line_is_the_functions_own(self):
-        found = said("fn tiny::a::callee: no proof: expected answers in ./proofs/a/callee/Answers.antt; `search` did not prove `returns`, `holds`")
+        line = "expected answers in ./proofs/a/callee/Answers.antt; `search` did not prove `returns`, `holds`"
+        found = said(f"fn tiny::a::callee: no proof: {line}")
         self.assertEqual(found.found["a::callee"].goals, ["returns", "holds"])
         self.assertFalse(found.found["a::callee"].waits or found.found["a::callee"].unread)
         self.assertEqual(trouble(found, "a::callee"), "")
 
-    def test_a_caller_that_has_no_goal_of_its_own_waits(self):
-        found = said("fn tiny::a::caller: no proof: it calls `tiny::a::callee` and `tiny::a::other`, which are not proved")
-        self.assertEqual(found.found["a::caller"].waits, {"a::callee", "a::other"})
-        self.assertEqual(found.found["a::caller"].goals, [])
-
-    def test_a_caller_with_a_goal_of_its_own_waits_too(self):
-        line = "fn tiny::a::caller: not proved; it calls `tiny::a::callee`, which is not proved; it passes the block `tiny::a::Block`, which is not proved"
-        found = said("./proofs/a/caller/Answers.antt:3:5: error: `returns`: the two types differ", line)
-        self.assertEqual(found.found["a::caller"].waits, {"a::callee", "a::Block"})
-        self.assertEqual(found.found["a::caller"].goals, ["returns"])
+    def test_a_caller_waits_for_what_it_calls(self):
+        found = said(
+            "./proofs/a/other/Answers.antt:3:5: error: `returns`: the two types differ",
+            "fn tiny::a::caller: no proof: it calls `tiny::a::ring` and `tiny::other`, which are not proved",
+            "fn tiny::a::other: not proved; it passes the block `tiny::a::Block`, which is not proved",
+        )
+        self.assertEqual((found.found["a::caller"].waits, found.found["a::caller"].goals), (True, []))
+        self.assertEqual((found.found["a::other"].waits, found.found["a::other"].goals), (True, ["returns"]))
 
     def test_a_name_that_was_taken_away_is_no_goal(self):
-        found = said("./proofs/a/callee/Answers.antt:3:5: error: `returns`: record `R` has no field `other`", "fn tiny::a::callee: not proved")
+        error = "./proofs/a/callee/Answers.antt:3:5: error: `returns`: record `R` has no field `other`"
+        found = said(error, "fn tiny::a::callee: not proved")
         self.assertTrue(found.found["a::callee"].lacks_names)
         self.assertEqual(found.found["a::callee"].goals, [])
 
@@ -165,11 +159,13 @@ class Reading(unittest.TestCase):
         self.assertEqual(found.found["a::callee"].goals, [])
 
     def test_a_lemma_that_fails_judges_nothing(self):
-        found = said("./proofs/Lemmas.antt:3:5: error: `lemma`: the two types differ", "fn tiny::a::callee: not proved")
+        error = "./proofs/Lemmas.antt:3:5: error: `lemma`: the two types differ"
+        found = said(error, "fn tiny::a::callee: not proved")
         self.assertTrue(trouble(found, "a::callee"))
 
     def test_a_function_that_fails_and_no_edit_changes_judges_nothing(self):
-        found = said("note: src/a.rt:25:1: it is not proved that the index is in range (`index`)", "fn tiny::a::other: not proved")
+        note = "note: src/a.rt:25:1: it is not proved that the index is in range (`index`)"
+        found = said(note, "fn tiny::a::other: not proved")
         self.assertTrue(trouble(found, "a::callee"))
         self.assertEqual(trouble(found, "a::other"), "")
 
@@ -178,14 +174,15 @@ class Reading(unittest.TestCase):
         self.assertTrue(said("fn tiny::a::callee: could not tell").found["a::callee"].unread)
 
     def test_closures_and_rings_are_one_with_their_functions(self):
-        found = said("fn tiny::a::fn::callee::all+FnMut::call_mut: no proof: `search` did not prove `returns`")
+        line = "no proof: `search` did not prove `returns`"
+        found = said(f"fn tiny::a::fn::callee::all+FnMut::call_mut: {line}")
         self.assertEqual(found.found["a::callee"].goals, ["returns"])
         ring = "fn tiny::a::one_of_ring: not proved; it calls `tiny::a::two_of_ring`, which is not proved"
         found = said("./proofs/a/+ring/Answers.antt:3:5: error: `returns`: the two types differ", ring)
         self.assertEqual(found.found["a::+ring"].goals, ["returns"])
-        self.assertEqual(found.found["a::+ring"].waits, set())
-        found = said("fn tiny::a::one_of_ring: no proof: in `tiny::a::two_of_ring`, of this cycle of calls: it calls `tiny::a::other`, which is not proved")
-        self.assertEqual(found.found["a::+ring"].waits, {"a::other"})
+        line = "in `tiny::a::two_of_ring`, of this cycle of calls: it calls `tiny::it`, which is not proved"
+        found = said(f"fn tiny::a::one_of_ring: no proof: {line}")
+        self.assertTrue(found.found["a::+ring"].waits)
         self.assertEqual(trouble(found, "a::callee"), "")
 
 
@@ -193,7 +190,6 @@ def write(path, text):
     os.makedirs(os.path.dirname(path), exist_ok=True)
     with open(path, "w", encoding="utf-8") as file:
         file.write(text)
-
 
 def made_crate(top):
     """A repository of one crate, with its edits."""
@@ -211,7 +207,7 @@ class Following(unittest.TestCase):
     def test_a_crate_is_proved_by_this_run_or_by_an_earlier_one(self):
         said = {
             "rt: tiny proved": ["tiny"],
-            "rt: tiny is kept: an earlier run on this machine proved the same files over the same libraries": ["tiny"],
+            "rt: tiny is kept: an earlier run on this machine proved the same files": ["tiny"],
             "rt: tiny NOT PROVED": [],
             "rt: tiny: its tests are proved": [],
         }
@@ -230,7 +226,7 @@ class Following(unittest.TestCase):
 
 class Keeping(unittest.TestCase):
     def setUp(self):
-        self.top, self.at = self.enterContext(tempfile.TemporaryDirectory()), self.enterContext(tempfile.TemporaryDirectory())
+        self.top, self.at = (self.enterContext(tempfile.TemporaryDirectory()) for _ in range(2))
         self.crate = made_crate(self.top)
         self.edits = edits_of(self.crate, functions_of(self.crate), ["wrong-bodies"])
 
@@ -245,7 +241,8 @@ class Keeping(unittest.TestCase):
 
     def test_what_was_refused_is_kept_and_nothing_else(self):
         passed, little, refused, *_ = self.edits
-        self.kept().keep([Tried(passed, False, "not refused"), Tried(little, True, "refused alone", says_little=True), Tried(refused, True, "refused")])
+        says_little = Tried(little, True, "refused alone", says_little=True)
+        self.kept().keep([Tried(passed, False, "not refused"), says_little, Tried(refused, True, "refused")])
         self.assertEqual(self.kept().refused(), {refused: "refused"})
 
     def test_nothing_is_taken_of_a_crate_or_an_edit_that_changed(self):
@@ -277,23 +274,100 @@ class Keeping(unittest.TestCase):
             self.assertFalse(try_as_proved([self.crate], ["rt: tiny NOT PROVED\n"], self.at))
 
 
+class Turns(unittest.TestCase):
+    def setUp(self):
+        below = {"low": [], "middle": ["low"], "high": ["low", "middle"], "aside": []}
+        made = {name: types.SimpleNamespace(name=name) for name in below}
+        for name, it in made.items():
+            it.below = lambda name=name: [made[lower] for lower in below[name]]
+        self.crates = [*made.values()]
+
+    def test_what_changed_comes_first_then_what_is_above_it_then_others(self):
+        turns = turns_of(self.crates, {"middle"}, "00000000")
+        self.assertEqual((turns["middle"], turns["high"]), (0, 1))
+        self.assertTrue(turns["low"] > 1 and turns["aside"] > 1)
+
+    def test_each_crate_comes_first_at_some_commit(self):
+        orders = [turns_of(self.crates, set(), f"{commit:08x}") for commit in range(4)]
+        self.assertEqual({min(it, key=it.get) for it in orders}, {it.name for it in self.crates})
+        self.assertEqual({*turns_of(self.crates, set(), "").values()}, {2, 3, 4, 5})
+
+    def test_changes_are_those_since_the_main_line_or_the_parent(self):
+        said = {"rev-parse HEAD": "c", "merge-base HEAD origin/main": "a"}
+        said["rev-parse -q --verify HEAD~1"] = "b"
+        said |= {f"diff --name-only {it} -- crates": f"crates/{it}/src/lib.rt\ncrates.txt" for it in "ab"}
+        git = lambda *words: said.get(" ".join(words), "")
+        self.assertEqual(changed_crates(git), {"a"})
+        said["merge-base HEAD origin/main"] = "c"
+        self.assertEqual(changed_crates(git), {"b"})
+        said["rev-parse -q --verify HEAD~1"] = ""
+        self.assertEqual(changed_crates(git), set())
+
+
+class Stopping(unittest.TestCase):
+    def test_no_check_begins_past_the_limit_and_those_that_run_may_end(self):
+        now = [0]
+        limit = Limit(100, clock=lambda: now[0], grace=20)
+        self.assertEqual(limit.seconds_left(), 120)
+        now[0] = 100
+        self.assertRaises(Exception, limit.seconds_left)
+        self.assertIsNone(Limit().seconds_left())
+
+    def run_past(self, kept_edits):
+        """What is said of a proved crate whose limit is past, of which these edits are kept as refused."""
+        with tempfile.TemporaryDirectory() as top, tempfile.TemporaryDirectory() as at:
+            crate = made_crate(top)
+            edits = edits_of(crate, functions_of(crate), ["wrong-bodies"])
+            refused = [it for it in edits if it.name.removesuffix(".edit") in kept_edits]
+            Kept(crate, edits, at).keep([Tried(it, True, "refused") for it in refused])
+            said = io.StringIO()
+            with contextlib.redirect_stdout(said):
+                passes = try_as_proved([crate], ["rt: tiny proved\n"], at, Limit(0))
+            return passes, said.getvalue()
+
+    def test_what_is_not_tried_is_counted_and_does_not_fail(self):
+        passes, said = self.run_past({"callee_adds_two", "text_is_not_there"})
+        self.assertTrue(passes)
+        self.assertIn(f"tiny: {len(EDITS) - 2} of {len(EDITS) - 2} edits not tried", said)
+        self.assertTrue(said.endswith(f"\n{len(EDITS) - 2} not tried\n2 refused, 0 not\n"))
+
+    def test_what_was_judged_and_not_refused_fails_past_the_limit_too(self):
+        passes, said = self.run_past(set())
+        self.assertFalse(passes)
+        self.assertTrue(said.endswith(f"\n{len(EDITS) - 1} not tried\n0 refused, 1 not\n"))
+
+
 class Trying(unittest.TestCase):
     def test_each_edit_is_judged_by_itself(self):
         with tempfile.TemporaryDirectory() as top, tempfile.TemporaryDirectory() as kept:
             crate = made_crate(top)
             functions = functions_of(crate)
             lines = []
-            trial = Blind(crate, functions, edits_of(crate, functions, ["wrong-bodies"]), kept, lines.append)
+            trial = Crate(crate, functions, edits_of(crate, functions, ["wrong-bodies"]), kept, lines.append)
             for it in trial.try_all():
                 with self.subTest(it.edit.name, lines="\n".join(lines)):
                     how = ("in a batch" if it.batch else "alone") if it.is_refused else "not refused"
                     self.assertEqual(how, EDITS[it.edit.name.removesuffix(".edit")][2])
             self.assertFalse([it for it in lines if "over stand-ins" in it and "not judged" in it])
-            # Twins of one function stand in one batch; what changes a trait's function does not stand with another such edit.
+            # Twins of one function are in one batch; what changes a trait's function is not beside another
+            # such edit.
             batch_of = {it.edit.name.removesuffix(".edit"): it.batch for it in trial.results.values()}
             self.assertEqual(batch_of["callee_adds_two"], batch_of["callee_adds_none"])
             self.assertNotEqual(batch_of["trait_counts_none"], batch_of["trait_counts_one"])
-            self.assertEqual({it.name for it in trial.controlled}, {"climbed"})
+
+    def test_a_copy_without_an_edit_has_no_failing_goal_over_stand_ins(self):
+        with tempfile.TemporaryDirectory() as top, tempfile.TemporaryDirectory() as kept:
+            crate = made_crate(top)
+            functions = functions_of(crate)
+            trial = Crate(crate, functions, [], kept)
+            may_be_copied = [it for it in functions if trial.proofs.let_twins_of(it, functions)]
+            copies = [Twin(it, f"{it.name}_wrong_0") for it in may_be_copied]
+            stand_ins = stand_ins_of(functions, trial.proofs)
+            texts = trial.texts_of(copies, [], stand_ins)
+            ran, found = trial.checked(texts, [it.plain_name() for it in copies])
+            said = Said(ran.stdout, crate, found)
+            self.assertEqual(trouble_in(ran, said, set(), stand_ins), "", ran.stdout)
+            self.assertEqual({it.unit for it in copies} - said.named, set())
 
     def test_a_function_has_no_twin_where_another_file_names_its_proof(self):
         with tempfile.TemporaryDirectory() as top:
@@ -307,5 +381,6 @@ class Trying(unittest.TestCase):
 
 def main():
     loaded = unittest.defaultTestLoader
-    suite = unittest.TestSuite(loaded.loadTestsFromTestCase(it) for it in (Reading, Following, Keeping, Trying))
+    tests = (Reading, Following, Keeping, Turns, Stopping, Trying)
+    suite = unittest.TestSuite(loaded.loadTestsFromTestCase(it) for it in tests)
     return 0 if unittest.TextTestRunner(verbosity=1).run(suite).wasSuccessful() else 1

@@ -1,4 +1,4 @@
-"""The functions of a crate's sources: where each body stands, what it names, and how a check names it."""
+"""The functions of a crate's sources: at which lines each body is, and how a check names it."""
 
 import dataclasses
 import os
@@ -7,6 +7,7 @@ import subprocess
 
 from gate.kit import rt
 
+TYPE = re.compile(r"(?m)^\s*(?:pub(?:\([^)]*\))? )?(?:struct|enum|trait) (\w+)")
 TOKEN = re.compile(r"^(\d+) \d+ \d+ Code \"(.*)\"$")
 
 
@@ -16,7 +17,7 @@ class Function:
 
     file: str
     module: str
-    # The type of the impl block that it stands in, and what that implements, or nothing.
+    # The type of its impl block and the trait that this implements, or nothing.
     owner: str
     trait: str
     name: str
@@ -28,8 +29,6 @@ class Function:
     cycle: str
     is_public: bool
     is_const: bool
-    signature: list
-    tokens: list
     # The path of the proof that it has alone, or with its cycle, below the crate.
     unit: str = ""
 
@@ -47,7 +46,8 @@ class Function:
 
 def words_of(file):
     """The words of a source's code with their lines: no comment, literal, clause or ghost item."""
-    ran = subprocess.run([rt.rtlib.RATTLE, "fmt", "--tokens", file], capture_output=True, text=True, check=True)
+    words = [rt.rtlib.RATTLE, "fmt", "--tokens", file]
+    ran = subprocess.run(words, capture_output=True, text=True, check=True)
     return [(int(it[1]), it[2]) for it in map(TOKEN.match, ran.stdout.split("\n")) if it]
 
 
@@ -62,7 +62,7 @@ def closing(words, at, opens="{", closes="}"):
 
 
 def body_at(words, at):
-    """The place of the brace that opens the body of the function whose name stands here, or nothing."""
+    """The place of the brace that opens the body of the function whose name is here, or nothing."""
     depth = 0
     for place in range(at, len(words)):
         word = words[place][1]
@@ -73,24 +73,26 @@ def body_at(words, at):
 
 
 def squeezed(words, parameters):
-    """A type or a trait as a check spells it in a name: its words alone, without lifetimes and the impl's own parameters."""
-    paths = re.sub(r"(\w+)::(?=\w)", lambda it: it[1].capitalize(), "".join(it for it in words if it[0] != "'"))
+    """A type or a trait as a check spells it: its words, without lifetimes and the impl's parameters."""
+    text = "".join(it for it in words if it[0] != "'")
+    paths = re.sub(r"(\w+)::(?=\w)", lambda it: it[1].capitalize(), text)
     return "".join(it for it in re.findall(r"\w+", paths) if it not in parameters)
 
 
 def impl_at(words, at):
-    """The type and the trait of the impl block whose first word stands here."""
+    """The type and the trait of the impl block whose first word is here."""
     head = [it for _, it in words[at + 1 : body_at(words, at + 1)]]
     parameters = []
     if head[0] == "<":
         end = closing([(0, it) for it in head], 0, "<", ">")
-        parameters = [it for it, after in zip(head[1:end], head[2:]) if re.match(r"\w", it) and after in ",:>"]
+        pairs = zip(head[1:end], head[2:])
+        parameters = [it for it, after in pairs if re.match(r"\w", it) and after in ",:>"]
         head = head[end + 1 :]
     if "for" not in head:
         return squeezed(head, parameters), ""
     cut = head.index("for")
     trait = head[:cut]
-    # Of a trait's own path only the last word stands in a name, of its parameters the whole.
+    # Of a trait's own path a name has only the last word, of its parameters all words.
     first = trait.index("<") if "<" in trait else len(trait)
     start = max((i + 1 for i in range(first) if trait[i] == ":"), default=0)
     return squeezed(head[cut + 1 :], parameters), squeezed(trait[start:], parameters)
@@ -111,7 +113,7 @@ def module_of(file):
 
 
 def function_at(words, place, file, owner, trait):
-    """The function whose keyword stands here, or nothing where it has no body."""
+    """The function whose keyword is here, or nothing where it has no body."""
     opened = body_at(words, place + 1)
     if opened is None:
         return None
@@ -130,13 +132,11 @@ def function_at(words, place, file, owner, trait):
         # (pub(crate) isn't public)
         is_public="pub" in before and not before[before.index("pub") + 1 :][:1] == ["("],
         is_const="const" in before,
-        signature=[it for _, it in words[place:opened]],
-        tokens=[it for _, it in words[opened:closed]],
     )
 
 
 def functions_in(file, folder):
-    """The functions of one source, an inner one before the one that it stands in."""
+    """The functions of one source, an inner function before the one around it."""
     words = words_of(os.path.join(folder, file))
     found, blocks = [], [(len(words), "", "")]
     for place, (_, word) in enumerate(words):
@@ -155,7 +155,7 @@ def homes_of_types(folder, files):
     homes = {}
     for file in files:
         with open(os.path.join(folder, file), encoding="utf-8") as text:
-            for name in re.findall(r"(?m)^\s*(?:pub(?:\([^)]*\))? )?(?:struct|enum|trait) (\w+)", text.read()):
+            for name in TYPE.findall(text.read()):
                 homes[name] = module_of(file)
     return homes
 
@@ -171,28 +171,6 @@ def functions_of(crate):
             it.module = homes.get(it.owner, it.module)
         it.unit = f"{it.module}::+{it.cycle}" if it.cycle else it.plain_name()
     return found
-
-
-def named_at(words, at, function, functions):
-    """The functions of this name that a body's word may mean, or none where only the check can tell."""
-    named = [it for it in functions if it.name == words[at]]
-    if words[at - 2 : at] == [":", ":"]:
-        of = function.owner if words[at - 3] == "Self" else words[at - 3]
-        return [it for it in named if of in (it.owner, it.module.rpartition("::")[2])]
-    if words[at - 1] != ".":
-        return [it for it in named if not it.owner]
-    own = [it for it in named if words[at - 2] == "self" and it.owner == function.owner]
-    return own or (named if len(named) == 1 and named[0].owner else [])
-
-
-def named_in(function, functions):
-    """The functions that a body names, as far as its words show: a ? names each From of what the signature names."""
-    found, words = set(), function.tokens
-    for at, word in enumerate(words):
-        if word == "?":
-            found |= {it for it in functions if it.name == "from" and it.trait and it.owner in function.signature}
-        found |= {*named_at(words, at, function, functions)}
-    return found - {function}
 
 
 CONSTANT = re.compile(r"^(?:pub(?:\([^)]*\))? )?(?:const|static) (\w+):")
@@ -212,7 +190,7 @@ def constants_of(lines):
 
 
 def users_of(edit, sources, functions):
-    """The functions whose bodies name the one constant that an edit changes, or none where other code names it too."""
+    """The functions whose bodies name the constant that an edit changes, or none if other code names it."""
     if edit.function or any(path not in sources for path, _ in edit.lines):
         return []
     names = {constants_of(sources[path])[number - 1] for path, number in edit.lines}

@@ -1,8 +1,8 @@
-"""Stand-ins: what stands in place of the functions that twins call.
+"""Stand-ins: functions whose bodies are replaced while twins are tried.
 
-A function is proved from the contracts of what it calls, so where twins alone are judged it doesn't matter what those that
-they call do. A check proves them all the same, which is most of what it costs: so each has a body in its place of which
-there is nothing to prove but that it is never reached, and that is answered by a hole.
+A function is proved from the contracts of the functions that it calls. So their bodies don't matter where
+only twins are judged, but a check proves them too, which is most of its cost. A stand-in has the body
+`unreachable!()`, and its only goal, that this is never reached, is answered by a hole.
 """
 
 from gate.twins import folder_of
@@ -16,14 +16,15 @@ unreachable-requires = ?
 
 
 def stand_ins_of(functions, proofs):
-    """The functions that may have one: those that may have a twin, have a body of lines of their own and hold no other."""
-    holds_another = lambda it: any(its is not it and its.file == it.file and it.spans(its.head) for its in functions)
+    """The functions that may be one: those that may have a twin, have their own lines and hold no other."""
+    is_inside = lambda its, it: its is not it and its.file == it.file and it.spans(its.head)
+    holds_another = lambda it: any(is_inside(its, it) for its in functions)
     may = lambda it: it.opens < it.closes and not it.is_const and not holds_another(it)
     return [it for it in functions if may(it) and proofs.let_twins_of(it, functions)]
 
 
 def with_stand_ins(functions, texts):
-    """Sources, as lists of lines, in which these functions, at their lines, have bodies that are never reached."""
+    """Sources, as lists of lines, in which these functions have bodies that are never reached."""
     changed = {path: [*lines] for path, lines in texts.items()}
     for it in functions:
         lines = changed[it.file]
@@ -39,5 +40,6 @@ def proofs_of_stand_ins(functions, proofs, crate):
     texts = {}
     for it in functions:
         texts |= dict.fromkeys(proofs.of(it))
-        texts[f"{folder_of(it)}/Answers.antt"] = ANSWERS.format(crate=crate.name, path=".".join(it.unit.split("::")))
+        path = it.unit.replace("::", ".")
+        texts[f"{folder_of(it)}/Answers.antt"] = ANSWERS.format(crate=crate.name, path=path)
     return texts

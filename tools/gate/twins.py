@@ -1,11 +1,9 @@
 """Twins: copies of a function behind it, each with one wrong body.
 
-What holds a body is its function's contract, wherever the function stands and whatever its name. So a wrong body is tried in a
-copy of its function that has a name of its own, the same clauses, and the same files of proofs/ under that name. A twin calls
-what its function calls, and nothing calls the twin: twins don't disturb one another, and all of a crate fit one check.
-
-A copy without an edit, the control, stands beside the twins of a function that has files of proofs/: it must be proved,
-or what those files say of a copy tells nothing.
+A function's contract judges its body, in any place and under any name. So a wrong body is tried in a copy
+of its function that has another name, the same clauses, and the same files of proofs/ under that name. A
+twin calls what its function calls, and nothing calls the twin. So twins don't affect one another, and all
+of a crate fit one check.
 """
 
 import dataclasses
@@ -61,7 +59,8 @@ class Proofs:
     """The proof files of a crate."""
 
     def __init__(self, crate):
-        self.texts = {f"proofs/{path}": text for path, text in texts_below(os.path.join(crate.folder, "proofs")).items()}
+        texts = texts_below(os.path.join(crate.folder, "proofs"))
+        self.texts = {f"proofs/{path}": text for path, text in texts.items()}
 
     def of(self, function):
         """The files of a function's proof."""
@@ -73,8 +72,9 @@ class Proofs:
         return any(path.startswith(f"{parts[0]}/+{parts[2]}/") for path in self.texts)
 
     def let_twins_of(self, function, functions):
-        """Whether a copy of the function is proved as it is: no trait's or cycle's part, and no other file names its proof."""
-        is_inner = any(it is not function and it.file == function.file and it.spans(function.head) for it in functions)
+        """Whether a copy is proved as it is: of no trait or cycle, and no other file names its proof."""
+        others = [it for it in functions if it is not function and it.file == function.file]
+        is_inner = any(it.spans(function.head) for it in others)
         own, named = self.of(function), proof_path(function)
         is_named = any(named.search(text) for path, text in self.texts.items() if path not in own)
         return not (function.trait or function.cycle or self.calls_itself(function) or is_inner or is_named)
@@ -85,11 +85,12 @@ class Proofs:
         start = folder_of(twin.function)
         own = folder_of(twin)
         path = proof_path(twin.function)
-        return {f"{own}{at[len(start):]}": path.sub(named, text) for at, text in self.of(twin.function).items()}
+        files = self.of(twin.function).items()
+        return {f"{own}{at[len(start):]}": path.sub(named, text) for at, text in files}
 
 
 def with_twins(twins, texts, own):
-    """Sources, as lists of lines, with these twins behind their functions, whose own text stands in the sources `own` at the same lines."""
+    """Sources, as lists of lines, with these twins of functions of `own`, each behind its function."""
     changed = {path: [*lines] for path, lines in texts.items()}
     for it in sorted(twins, key=lambda it: -it.function.closes):
         at = it.function.closes

@@ -1,3 +1,2 @@
 pub mod BindingLemmas
 pub mod LoadLemmas
-pub mod ToldLemmas

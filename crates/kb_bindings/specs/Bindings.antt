@@ -5,11 +5,10 @@ use Rattle.kb_rules.specs.declared.rule.Rule.{Rule}
 use Rattle.kb_bindings.specs.Sources.{Sources, rules_of, enablement, with_user_rules}
 use Rattle.kb_bindings.specs.Warning.{warnings_of}
 use Rattle.kb_bindings.specs.declared.bindings.Renewed.{Renewed}
-use Rattle.kb_bindings.specs.declared.warning.Warning.{Warning}
+use Rattle.kb_base.specs.declared.note.Warning.{Warning}
 use Rattle.kb_when.specs.Marks.{MarkedClause}
 
--- the rules that are searched, the enablements that are asked and what is said of entries are those of what
--- binds keys
+-- the searched rules, the enablements and the warnings are derived from what binds keys
 pub record IsSearched (sources : Sources) (rules : List Rule) (enabled : List ℕ → Option MarkedClause)
     (warnings : List Warning) : Type 0 where
   pub rules_are : rules ≡ rules_of sources

@@ -1,5 +1,4 @@
 pub mod Bindings
-pub mod Fault
 pub mod Load
 pub mod Sources
 pub mod Unread

@@ -13,8 +13,8 @@ use Rattle.kb_resolve.specs.Pressed.{Step}
 use Rattle.kb_resolve.specs.declared.enablements.Contribution.{Contribution}
 use Rattle.kb_rules.specs.RuleList.{Listed}
 use Rattle.kb_rules.specs.RuleSet.{rules_in_force}
-use Rattle.kb_rules.specs.declared.origin.Origin.{Origin}
-use Rattle.kb_rules.specs.declared.origin.Origin.TheVariants as origin
+use Rattle.kb_base.specs.declared.note.Origin.{Origin}
+use Rattle.kb_base.specs.declared.note.Origin.TheVariants as origin
 use Rattle.kb_rules.specs.declared.rule.Rule.{Rule}
 use Rattle.kb_when.specs.Marks.{MarkedClause}
 
@@ -33,7 +33,7 @@ abbrev pub contribution_of : Named → Contribution
 contribution_of named = record { command = named.name; enablement = named.command.enablement }
 
 abbrev pub contributions_of : Extension → List Contribution
-contributions_of e = map contribution_of e.commands
+contributions_of e = map contribution_of e.manifest.commands
 
 -- the enablement of a command: that of its first contribution, if it has one
 abbrev pub enablement : Sources → List ℕ → Option MarkedClause
@@ -46,7 +46,7 @@ with_user_rules user s = record s { user = user }
 -- how a file is named in messages: an extension's by the identifier, as its manifest spells it
 abbrev pub source_of : Sources → Origin → List ℕ
 source_of s origin.Defaults = codes "defaults"
-source_of s (origin.Extension number) = option_map_or (λ e. e.id) (slice_get s.extensions number) []
+source_of s (origin.Extension number) = option_map_or (λ e. e.manifest.id) (slice_get s.extensions number) []
 source_of s origin.User = codes "user"
 
 -- what a press does behind these keystrokes, over what the focus sees at that moment

@@ -9,9 +9,10 @@ ghost use Rattle.kb_bindings.specs.Unread as unread;
 ghost use Rattle.kb_bindings.specs.Warning.{warnings_of};
 ghost use Rattle.kb_bindings.specs.Bindings.{IsRenewed, IsSearched};
 
-use crate::unread::{UnreadIn, all_unread};
-use crate::warning::{Warning, all_warnings};
-use kb_context::{NoMemory, Scopes, Seq, Text};
+use crate::unread::all_unread;
+use crate::warning::all_warnings;
+use kb_base::{NoMemory, Seq, Text, UnreadPattern, Warning};
+use kb_context::Scopes;
 use kb_files::Extension;
 use kb_keys::Keystroke;
 use kb_manifest::{Command, CommandTable};
@@ -20,8 +21,8 @@ use kb_rules::{Origin, RuleList, RuleSet};
 use std::alloc::Global;
 use std::marker::Model;
 
-/// The default rules, the extensions and the user's rules, with the search among them and what is said of
-/// their entries. Contracts see the three. All extensions are enabled.
+/// The default rules, the extensions and the user's rules, with the search among them and the warnings about
+/// their entries. Contracts see the first three. All extensions are enabled.
 #[derive(Drop)]
 pub struct Bindings {
     defaults: RuleList,
@@ -39,8 +40,8 @@ impl Model for Bindings {
     ghost use Rattle.kb_resolve.specs.Enablements.{enablement_in};
     ghost use Rattle.kb_rules.specs.contracts.removal.Removal as removal;
     ghost use Rattle.kb_rules.specs.contracts.rule.Rule as rule;
-    ghost use Rattle.kb_rules.specs.contracts.unread.UnreadAt as marks;
-    ghost use Rattle.kb_rules.specs.contracts.warning.Warning as warning;
+    ghost use Rattle.kb_base.specs.contracts.note.UnreadPattern as marks;
+    ghost use Rattle.kb_base.specs.contracts.note.Warning as warning;
     ghost use Rattle.kb_bindings.specs.Bindings.{IsSearched};
     ghost use Rattle.kb_bindings.specs.Sources.{Sources};
 
@@ -57,13 +58,13 @@ impl Model for Bindings {
 
     ghost view = { λ b. record { defaults = b.defaults; extensions = b.extensions; user = b.user } };
 
-    // The search is among their rules and asks their enablements, and what is said is said of them.
+    // The resolver, the enablements and the warnings are derived from these rules and extensions.
     ghost invariant = { λ b.
         IsSearched (record { defaults = b.defaults; extensions = b.extensions; user = b.user })
         b.resolver (enablement_in b.enablements) b.warnings };
 }
 
-/// Other rules of the user, with the search among all rules and what is then said of all entries.
+/// Other rules of the user, with the search among all rules and the warnings about all entries.
 #[derive(Drop)]
 pub struct Renewed {
     user: RuleList,
@@ -119,22 +120,22 @@ impl Bindings {
         chord.press(stroke, &self.resolver, scopes, &self.enablements)
     }
 
-    /// What is said of the entries. It takes no memory.
+    /// The warnings about the entries of all files, in the order of the files.
     pub fn warnings(&self) -> &[Warning]
         ensures { result.now ≡ warnings_of self.now }
     {
         self.warnings.as_slice()
     }
 
-    /// What the manifests say of the extensions, in load order. It takes no memory.
+    /// The extensions, in load order.
     pub fn extensions(&self) -> &[Extension]
         ensures { result.now ≡ self.now.extensions }
     {
         self.extensions.as_slice()
     }
 
-    /// The patterns of the entries that aren't read.
-    pub fn unread(&self, alloc: Global) -> Result<Seq<UnreadIn>, NoMemory>
+    /// The unread patterns of the entries of all files, in the order of the files.
+    pub fn unread(&self, alloc: Global) -> Result<Seq<UnreadPattern>, NoMemory>
         ensures { IfOk result (λ all. all ≡ unread.unread_of self.now) }
     {
         all_unread(
@@ -145,14 +146,14 @@ impl Bindings {
         )
     }
 
-    /// How messages name a file. It takes no memory.
+    /// The name of a file in messages: `defaults`, `user`, or the identifier of an extension.
     pub fn source(&self, origin: Origin) -> &str
         ensures { result.now ≡ source_of self.now origin }
     {
         match origin {
             Origin::Defaults => "defaults",
             Origin::Extension(number) => match self.extensions.as_slice().get(number as usize) {
-                Some(extension) => extension.id.as_str(),
+                Some(extension) => extension.manifest.id.as_str(),
                 None => "",
             },
             Origin::User => "user",
@@ -176,7 +177,7 @@ impl Bindings {
         }
     }
 
-    /// Takes other rules of the user. It takes no memory.
+    /// Replaces the rules of the user by those of `renewed`.
     pub fn renew(&mut self, renewed: Renewed)
         requires { IsRenewed self.old renewed.user renewed }
         ensures { self.new ≡ with_user_rules renewed.user self.old }
@@ -192,8 +193,8 @@ impl Bindings {
     }
 }
 
-/// What follows from rules and extensions: the search among the rules, the enablements that it asks, and what
-/// is said of their entries.
+/// What is derived from rules and extensions: the search among the rules, the enablements of commands, and the
+/// warnings about entries.
 #[derive(Drop)]
 struct Derived {
     resolver: Resolver,
@@ -201,7 +202,7 @@ struct Derived {
     warnings: Seq<Warning>,
 }
 
-/// What follows from these rules and extensions.
+/// What is derived from these rules and extensions.
 fn derive_all(
     alloc: Global,
     defaults: &RuleList,
@@ -231,7 +232,7 @@ fn all_enablements(alloc: Global, extensions: &[Extension]) -> Result<Enablement
     Enablements::new(alloc, all_contributions(alloc, extensions)?)
 }
 
-/// The search among all rules, and what is said of all entries.
+/// The search among all rules, and the warnings about all entries.
 fn searched(
     alloc: Global,
     defaults: &RuleList,
@@ -301,7 +302,7 @@ fn all_contributions(alloc: Global, extensions: &[Extension]) -> Result<Vec<Cont
 {
     let mut made = Vec::new(alloc);
     for extension in extensions {
-        contribute(alloc, &extension.commands, &mut made)?;
+        contribute(alloc, &extension.manifest.commands, &mut made)?;
     }
     Ok(made)
 }

@@ -1,4 +1,4 @@
--- Worked rows of the definitions of code.
+-- Worked examples of the definitions of code.
 use Rattle.std.proofs.Common.{◌≡◌, refl, [], ◌∷◌, true, false}
 use Rattle.std.specs.Prelude.{◌==◌, Ok, Err}
 use Rattle.kb_code.specs.declared.fault.CodeFault.TheVariants.{BadLength, BadOpcode, BadOperand}

@@ -1,6 +1,9 @@
--- Code and its bytes are one to one.
-use Rattle.std.proofs.Common.{◌≡◌, refl, ap, sym, ◌∙◌, subst, ℕ, zero, suc, ◌*◌, ◌<◌, ◌≤◌, ◌^◌, ◌%◌, take, ◌/◌, Bool, true, false, cond, List, [], ◌∷◌, ◌++◌, length, flat_map, get_or, arith}
-use Rattle.std.specs.Prelude.{find, nat_lt, ◌==◌, ◌&&◌, if◌then◌else◌, Option, Some, None, Result, Ok, Err, IfOk, IfSome}
+-- Encoding and decoding are inverse to each other.
+use Rattle.std.proofs.Common.{◌≡◌, refl, ap, sym, ◌∙◌, subst, ℕ, zero, suc, ◌*◌, ◌<◌, ◌≤◌, ◌^◌, ◌%◌, take}
+use Rattle.std.proofs.Common.{◌/◌, Bool, true, false, cond, List, [], ◌∷◌, ◌++◌, length, flat_map, get_or}
+use Rattle.std.proofs.Common.{arith}
+use Rattle.std.specs.Prelude.{find, nat_lt, ◌==◌, ◌&&◌, if◌then◌else◌, Option, Some, None, Result, Ok, Err}
+use Rattle.std.specs.Prelude.{IfOk, IfSome}
 use Rattle.std.specs.Int.{w16, from_be_bytes, to_be_bytes}
 use Rattle.std.specs.List.{list_all}
 use Rattle.std.proofs.lemmas.Bool.{false≢true, ltb-true}
@@ -8,7 +11,7 @@ use Rattle.std.proofs.lemmas.List.{take_all}
 use Rattle.std.proofs.lemmas.Nat.{from_be_bytes-to_be_bytes_2, be_bytes_2}
 use Rattle.std.proofs.lemmas.Bool.Decides.{Decides-eqb}
 use Rattle.std.proofs.Math.Nat.{mul-add-mod_self_left}
-use Rattle.kb_context.specs.Reading.{◌>>=◌, seen}
+use Rattle.kb_base.specs.Reading.{◌>>=◌, seen}
 use Rattle.kb_code.specs.declared.fault.CodeFault.{CodeFault}
 use Rattle.kb_code.specs.declared.fault.CodeFault.TheVariants.{BadLength, BadOperand}
 use Rattle.kb_code.specs.declared.instr.Instr.{Instr}

@@ -3,3 +3,4 @@ pub mod Laws
 pub mod CalleesLemmas
 pub mod CodeRows
 pub mod ReachableLemmas
+pub mod TargetLemmas

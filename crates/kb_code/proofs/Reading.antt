@@ -1,8 +1,10 @@
--- One more instruction is read.
-use Rattle.std.proofs.Common.{◌≡◌, refl, ap, sym, ◌∙◌, ℕ, suc, ◌+◌, ◌-◌, ◌≤◌, List, [], ◌∷◌, ◌++◌, length, take, drop, slice_index_or, Result, Ok, Err, append_assoc, length-append, arith}
+-- Decoding one more instruction.
+use Rattle.std.proofs.Common.{◌≡◌, refl, ap, sym, ◌∙◌, ℕ, suc, ◌+◌, ◌-◌, ◌≤◌, List, [], ◌∷◌, ◌++◌, length}
+use Rattle.std.proofs.Common.{take, drop, slice_index_or, Result, Ok, Err, append_assoc, length-append}
+use Rattle.std.proofs.Common.{arith}
 use Rattle.std.specs.Int.{w16, from_be_bytes}
 use Rattle.std.proofs.lemmas.List.{take_rest}
-use Rattle.kb_context.specs.Reading.{◌>>=◌, seen}
+use Rattle.kb_base.specs.Reading.{◌>>=◌, seen}
 use Rattle.kb_code.specs.declared.fault.CodeFault.{CodeFault}
 use Rattle.kb_code.specs.declared.instr.Instr.{Instr}
 use Rattle.kb_code.specs.Coding.{code_from, failure_of, instr_at}

@@ -1,17 +1,17 @@
--- The callees of a handler: what the calls name that are at reachable places. Code only ever goes on at a
--- later place, so one look at each instruction in order says which places are reached.
+-- The callees of a handler: the operands of `Call` at reachable places. The definition visits each
+-- instruction once, in order, and so follows only jumps to later places.
 use Rattle.std.specs.Prelude.{ℕ, suc, Bool, nat_lt, ◌==◌, ◌||◌, List, [], ◌∷◌, ◌++◌, length, if◌then◌else◌}
 use Rattle.kb_code.specs.declared.instr.Instr.{Instr}
 use Rattle.kb_code.specs.declared.instr.Instr.TheVariants as i
 use Rattle.kb_code.specs.Exits.{exits_of, is_exit}
 use Rattle.kb_code.specs.Handler.{HandlerData}
 
--- the index that an instruction calls, if it is one of so many
+-- the operand of a `Call`, if it is less than `calls`
 abbrev pub called : ℕ → Instr → List ℕ
 called calls (i.Call n) = if nat_lt n calls then n ∷ [] else []
 called calls _ = []
 
--- the callees from a place on, by the places that are reached before it
+-- the callees from a place on, given which places are reached before it
 abbrev pub callees_from : ℕ → ℕ → (ℕ → Bool) → List Instr → List ℕ
 callees_from calls place reached [] = []
 callees_from calls place reached (instr ∷ code) =
@@ -19,6 +19,6 @@ callees_from calls place reached (instr ∷ code) =
     (λ q. reached q || is_exit (exits_of (suc place) instr) q) code
     else callees_from calls (suc place) reached code
 
--- the indexes of all callees in order of place; the first place is reached
+-- all callees, in order of place; the first place is reached
 unfoldable pub callees_of : HandlerData → List ℕ
 callees_of h = callees_from (length h.calls) 0 (λ q. q == 0) h.code

@@ -1,20 +1,20 @@
--- Code as bytes: for each instruction its opcode, and its operand in two bytes, the high one first.
+-- The encoding of code: for each instruction its opcode, and its operand in two bytes, high byte first.
 use Rattle.std.specs.Prelude.{ℕ, suc, ◌%◌, ◌==◌, List, [], ◌∷◌, length, find, Option, Some, None, Result}
 use Rattle.std.specs.Prelude.{Ok, Err, if◌then◌else◌}
 use Rattle.std.specs.Int.{w16, to_be_bytes, from_be_bytes}
-use Rattle.kb_context.specs.declared.failure.Failure.{Failure}
-use Rattle.kb_context.specs.declared.failure.Failure.TheVariants.{NoMemory, Fault}
-use Rattle.kb_context.specs.Reading.{◌>>=◌, seen}
+use Rattle.kb_base.specs.declared.failure.Failure.{Failure}
+use Rattle.kb_base.specs.declared.failure.Failure.TheVariants.{NoMemory, Fault}
+use Rattle.kb_base.specs.Reading.{◌>>=◌, seen}
 use Rattle.kb_code.specs.declared.fault.CodeFault.{CodeFault}
 use Rattle.kb_code.specs.declared.fault.CodeFault.TheVariants.{BadLength, BadOpcode, BadOperand}
 use Rattle.kb_code.specs.declared.instr.Instr.{Instr}
 use Rattle.kb_code.specs.Instr.{opcode_of, operand_of, instructions}
 
--- the bytes of an instruction; those of code are the bytes of its instructions in order
+-- the bytes of an instruction; those of code are the bytes of its instructions, in order
 abbrev pub bytes_of : Instr → List ℕ
 bytes_of instr = opcode_of instr ∷ to_be_bytes w16 (operand_of instr)
 
--- what is found for an opcode, if it may have the operand
+-- the instruction found for an opcode, if it allows the operand
 abbrev pub with_operand : ℕ → ℕ → Option Instr → Result Instr CodeFault
 with_operand place operand None = Err (BadOpcode place)
 with_operand place operand (Some instr) =
@@ -32,11 +32,11 @@ code_from place (opcode ∷ high ∷ low ∷ bytes) =
     seen (λ code. instr ∷ code) (code_from (suc place) bytes))
 code_from place _ = Ok []
 
--- the code that bytes say, or their first fault
+-- the code that bytes encode, or their first fault
 unfoldable pub code_of : List ℕ → Result (List Instr) CodeFault
 code_of bytes = if length bytes % 3 == 0 then code_from 0 bytes else Err BadLength
 
--- why a call gives nothing that is refused memory: the first fault, or want of memory where there is none
+-- the failure after a refused allocation: the first fault, or `NoMemory` if there is none
 abbrev pub failure_of : Result (List Instr) CodeFault → Failure CodeFault
 failure_of (Ok code) = NoMemory
 failure_of (Err fault) = Fault fault

@@ -1,4 +1,4 @@
--- The number of each fault of code.
+-- The numbers of the faults of encoded code.
 use Rattle.std.specs.Prelude.{ℕ}
 use Rattle.kb_code.specs.declared.fault.CodeFault.{CodeFault}
 use Rattle.kb_code.specs.declared.fault.CodeFault.TheVariants.{BadLength, BadOpcode, BadOperand}

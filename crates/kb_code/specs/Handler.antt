@@ -1,4 +1,4 @@
--- A command in code.
+-- A command implemented in code.
 use Rattle.std.specs.Prelude.{ℕ, List}
 use Rattle.kb_core.specs.Declaration.{Declaration}
 use Rattle.kb_code.specs.declared.instr.Instr.{Instr}

@@ -1,9 +1,9 @@
--- Opcode and operand of each instruction.
+-- The opcode and the operand of each instruction.
 use Rattle.std.specs.Prelude.{ℕ, List, [], ◌∷◌, true, false, ◌==◌}
 use Rattle.kb_code.specs.declared.instr.Instr.{Instr}
 use Rattle.kb_code.specs.declared.instr.Instr.TheVariants as i
 
--- the byte that names an instruction
+-- the byte that encodes the kind of instruction
 abbrev pub opcode_of : Instr → ℕ
 opcode_of i.Return = 0
 opcode_of (i.Text n) = 1
@@ -30,7 +30,7 @@ opcode_of (i.Context n) = 64
 opcode_of i.Before = 66
 opcode_of i.After = 67
 
--- the number behind it
+-- the operand that follows the opcode; 0 if the instruction has none
 abbrev pub operand_of : Instr → ℕ
 operand_of (i.Text n) = n
 operand_of (i.Num n) = n
@@ -43,7 +43,7 @@ operand_of (i.Call n) = n
 operand_of (i.Context n) = n
 operand_of _ = 0
 
--- all instructions, with this operand where they take one
+-- all instructions, with this operand if they have one
 abbrev pub instructions : ℕ → List Instr
 instructions n =
     i.Return ∷ i.Text n ∷ i.Num n ∷ i.Truth (n == 1) ∷ i.Arg n ∷ i.Drop ∷ i.Dup ∷ i.Swap

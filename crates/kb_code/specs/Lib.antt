@@ -5,3 +5,6 @@ pub mod Exits
 pub mod Handler
 pub mod Callees
 pub mod Reachable
+pub mod Commands
+pub mod Found
+pub mod Target

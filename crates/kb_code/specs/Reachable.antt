@@ -1,11 +1,11 @@
--- Which places of code are reached, and what is called there.
+-- Reachability of places, and the calls at reachable places.
 use Rattle.std.specs.Prelude.{◌≡◌, ◌<◌, ℕ, suc, true, List, [], ◌∷◌, ◌++◌, length, Some, slice_get}
 use Rattle.kb_code.specs.declared.instr.Instr.{Instr}
 use Rattle.kb_code.specs.declared.instr.Instr.TheVariants.{Call}
 use Rattle.kb_code.specs.Exits.{exits_of, is_exit}
 use Rattle.kb_code.specs.Handler.{HandlerData}
 
--- the instruction at a place leads to a later place of the code
+-- the instruction at a place can continue at a later place of the code
 pub record Follows (code : List Instr) (p q : ℕ) : Type 0 where
   pub instr : Instr
   pub at : slice_get code p ≡ Some instr
@@ -13,18 +13,18 @@ pub record Follows (code : List Instr) (p q : ℕ) : Type 0 where
   pub later : p < q
   pub within : q < length code
 
--- the first place is reached, and what follows a place that is reached
+-- the first place is reachable, and so is each place that follows a reachable one
 pub data Reachable (code : List Instr) : ℕ → Type 0 where
   first : 0 < length code → Reachable code 0
   onward : {p q : ℕ} → Reachable code p → Follows code p q → Reachable code q
 
--- a call at a place that is reached, of an index in the list of calls
+-- a call at a reachable place, with an index in the list of calls
 pub record Calls (h : HandlerData) (p n : ℕ) : Type 0 where
   pub reached : Reachable h.code p
   pub at : slice_get h.code p ≡ Some (Call n)
   pub named : n < length h.calls
 
--- what is called below a place, one index for each such call, in order of place
+-- the calls below a place: one index for each, in order of place
 pub data CalleesBelow (h : HandlerData) : ℕ → List ℕ → Type 0 where
   none : CalleesBelow h 0 []
   called : {p n : ℕ} {ns : List ℕ} → CalleesBelow h p ns → Calls h p n → CalleesBelow h (suc p) (ns ++ n ∷ [])

@@ -5,10 +5,11 @@ ghost use Rattle.kb_code.specs.Exits.{is_exit};
 
 use crate::exits::Exits;
 use crate::instr::Instr;
-use kb_context::{NoMemory, Seq};
+use kb_base::{NoMemory, Seq};
 use std::alloc::Global;
 
-/// The indexes that calls at reachable places name, of so many calls, in order of place.
+/// The operands of `Call` instructions at reachable places, in order of place. Operands of `calls` or more
+/// are left out. Error: `NoMemory`.
 pub(crate) fn callees_from(
     alloc: Global,
     calls: usize,
@@ -29,7 +30,7 @@ pub(crate) fn callees_from(
     Ok(Seq::from_vec(callees))
 }
 
-/// Adds the index that an instruction calls, if it is one of so many.
+/// Adds the operand of a `Call`, if it is less than `calls`. Error: `NoMemory`.
 fn add_called(calls: usize, instr: Instr, callees: &mut Vec<u16>) -> Result<(), NoMemory>
     ensures { OnOk result (callees.new.items ≡ callees.old.items ++ called calls instr) }
 {
@@ -40,7 +41,7 @@ fn add_called(calls: usize, instr: Instr, callees: &mut Vec<u16>) -> Result<(), 
     Ok(())
 }
 
-/// For each place of code whether it is reached, where the first one alone is.
+/// For each place, whether it is reached: only the first one is. Error: `NoMemory`.
 fn first_alone(alloc: Global, size: usize) -> Result<Vec<bool>, NoMemory>
     ensures size { IfOk result (λ reached. length reached.items ≡ size) }
     ensures first { IfOk result (λ reached. (q : ℕ) → q < size → get_or reached.items q false ≡ (q == 0)) }
@@ -52,7 +53,7 @@ fn first_alone(alloc: Global, size: usize) -> Result<Vec<bool>, NoMemory>
     Ok(reached)
 }
 
-/// The exits are reached too.
+/// Marks the exits of an instruction as reached.
 fn reach_exits(reached: &mut Vec<bool>, exits: Exits)
     ensures size { length reached.new.items ≡ length reached.old.items }
     ensures reached { (q : ℕ) → q < length reached.old.items →
@@ -68,7 +69,7 @@ fn reach_exits(reached: &mut Vec<bool>, exits: Exits)
     }
 }
 
-/// The place is reached too, if it is one of the code.
+/// Marks a place as reached, if it is inside the code.
 fn reach(reached: &mut Vec<bool>, place: usize)
     ensures size { length reached.new.items ≡ length reached.old.items }
     ensures reached { (q : ℕ) → q < length reached.old.items →

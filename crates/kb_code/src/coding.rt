@@ -1,22 +1,23 @@
-//! Code as bytes.
+//! Encoding and decoding of code.
 ghost use Rattle.std.specs.Prelude.{◌≡◌, ◌==◌, ◌%◌, ◌++◌, length, flat_map, IfOk, IfErr, Ok};
 ghost use Rattle.std.specs.Result.{result_err};
 ghost use Rattle.std.specs.Int.{w16, from_be_bytes};
-ghost use Rattle.kb_context.specs.Failure.{Gives, IsRefusalOrMemory};
-ghost use Rattle.kb_context.specs.Reading.{seen};
+ghost use Rattle.kb_base.specs.Failure.{Gives, IsRefusalOrMemory};
+ghost use Rattle.kb_base.specs.Reading.{seen};
 ghost use Rattle.kb_code.specs.Coding.{bytes_of, code_from, code_of, failure_of, instr_at};
 
 use crate::fault::CodeFault;
 use crate::instr::Instr;
-use kb_context::{Failure, NoMemory, Seq};
+use kb_base::{Failure, NoMemory, Seq};
 use std::alloc::Global;
 
-/// How many bytes an instruction has: its opcode, and its operand in two, the high one first.
+/// The number of bytes of an instruction: the opcode, and the operand in two bytes, high byte first.
 const INSTR_BYTES: usize = 3;
 
-/// The code that bytes say (our decision). `BadLength` (50) comes before all else; then the first place that
-/// says no instruction, with `BadOpcode` (51) or `BadOperand` (52). What is read of the bytes of code is
-/// that code, and has no other bytes. Refused memory is answered only where there is no fault.
+/// Decodes code. The encoding is our decision. Encoding the result gives exactly these bytes.
+///
+/// Errors: `BadLength` (50) takes precedence. Otherwise, the first invalid instruction gives `BadOpcode`
+/// (51) or `BadOperand` (52). `NoMemory` only if the bytes have no fault.
 #[tactic(auto, unfolding(crate::specs::Coding::code_of))]
 pub fn decode(alloc: Global, bytes: &[u8]) -> Result<Seq<Instr>, Failure<CodeFault>>
     ensures code { Gives (λ code. code) result (code_of bytes.now) }
@@ -33,7 +34,7 @@ pub fn decode(alloc: Global, bytes: &[u8]) -> Result<Seq<Instr>, Failure<CodeFau
     }
 }
 
-/// Why there is no code where memory is refused: the first fault, or want of memory where there is none.
+/// The failure after a refused allocation: the first fault of the bytes, or `NoMemory` if they have none.
 fn failure_in(bytes: &[u8]) -> Failure<CodeFault>
     ensures { result ≡ failure_of (code_from 0 bytes.now) }
 {
@@ -50,7 +51,8 @@ fn failure_in(bytes: &[u8]) -> Failure<CodeFault>
     Failure::NoMemory
 }
 
-/// The code that bytes say which are a whole number of instructions.
+/// Decodes bytes whose length is a whole number of instructions. Errors: `BadOpcode`, `BadOperand` and
+/// `NoMemory`.
 fn code_from(alloc: Global, bytes: &[u8]) -> Result<Seq<Instr>, Failure<CodeFault>>
     ensures { Gives (λ code. code) result (code_from 0 bytes.now) }
 {
@@ -67,7 +69,7 @@ fn code_from(alloc: Global, bytes: &[u8]) -> Result<Seq<Instr>, Failure<CodeFaul
     Ok(Seq::from_vec(code))
 }
 
-/// The instruction at a place.
+/// The instruction at a place. Errors: `BadOpcode` and `BadOperand`, with the place.
 #[tactic(auto, unfolding(crate::specs::Coding::instr_at))]
 fn instr_at(place: usize, opcode: u8, operand: u16) -> Result<Instr, CodeFault>
     ensures { result ≡ instr_at place opcode operand }
@@ -81,7 +83,7 @@ fn instr_at(place: usize, opcode: u8, operand: u16) -> Result<Instr, CodeFault>
     Ok(instr)
 }
 
-/// The bytes of code, which `decode` reads as that code.
+/// Encodes code. `decode` returns the same code. Error: `NoMemory`.
 #[tactic(auto, using(crate::proofs::Laws::all_read_again))]
 pub fn encode(alloc: Global, code: &[Instr]) -> Result<Seq<u8>, NoMemory>
     ensures bytes { IfOk result (λ bytes. bytes ≡ flat_map bytes_of code.now) }

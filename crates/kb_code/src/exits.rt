@@ -1,22 +1,22 @@
-//! Where an instruction leads.
+//! Control flow of instructions.
 ghost use Rattle.std.specs.Prelude.{◌≡◌};
 ghost use Rattle.kb_code.specs.Exits.{exits_of};
 
 use crate::instr::Instr;
 
-/// The places at which a handler may go on behind an instruction, whether or not there is code.
+/// The places where execution can continue after an instruction. They may lie outside the code.
 #[derive(Clone, Copy, Debug, PartialEq, Eq)]
 pub enum Exits {
-    /// None: the handler ends.
+    /// None: the handler returns.
     Stop,
-    /// This place.
+    /// One place.
     One(usize),
-    /// One of these places.
+    /// One of two places.
     Two(usize, usize),
 }
 
 impl Exits {
-    /// The exits of an instruction, by the place behind it (our decision).
+    /// The exits of an instruction. `next` is the place after it. The control flow is our decision.
     pub fn of(instr: Instr, next: usize) -> Exits
         ensures { result ≡ exits_of next instr }
     {

@@ -1,25 +1,26 @@
-//! Why bytes are no code.
+//! Faults of encoded code.
 ghost use Rattle.std.specs.Prelude.{◌≡◌};
 ghost use Rattle.kb_code.specs.Fault.{number_of};
 
 use thiserror::Error;
 
-/// Why bytes are no code. Places count instructions from 0. The numbers are our decision.
+/// Why bytes cannot be decoded. A place is the index of an instruction, counted from 0. The numbers are
+/// our decision.
 #[derive(Clone, Copy, Debug, PartialEq, Eq, Error)]
 pub enum CodeFault {
-    /// The bytes are no whole number of instructions, of three bytes each.
+    /// The number of bytes is not a multiple of three, the size of an instruction.
     #[error("the code is no whole number of instructions")]
     BadLength,
     /// No instruction has the opcode at this place.
     #[error("no instruction has the opcode at place {0}")]
     BadOpcode(usize),
-    /// The instruction at this place may not have its operand.
+    /// The instruction at this place does not allow its operand.
     #[error("the instruction at place {0} may not have its operand")]
     BadOperand(usize),
 }
 
 impl CodeFault {
-    /// The fault's number, by which messages name it.
+    /// The fault's number in messages: 50 to 52.
     pub fn number(self) -> u32
         ensures { result ≡ number_of self }
     {

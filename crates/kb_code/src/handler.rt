@@ -1,4 +1,4 @@
-//! Commands in code.
+//! Handlers: commands implemented in code.
 ghost use Rattle.std.specs.Prelude.{◌≡◌, ◌≤◌, length, IfOk};
 ghost use Rattle.kb_code.specs.Handler.{HandlerData};
 ghost use Rattle.kb_code.specs.Callees.{callees_of};
@@ -6,14 +6,14 @@ ghost use Rattle.kb_code.specs.Reachable.{CalleesBelow};
 
 use crate::callees::callees_from;
 use crate::instr::Instr;
-use kb_context::{NoMemory, Seq, Text};
+use kb_base::{NoMemory, Seq, Text};
 use kb_core::Signature;
 use std::alloc::Global;
 use std::marker::Model;
 
-/// A command in code: what it declares, the texts and the names of commands that its code names by their
-/// index, and its code. It calls others at a depth of 1 at least, even if it calls none (our decision).
-/// Contracts see the five as a record.
+/// A command implemented in code: its name and signature, the texts and the names of commands to which the
+/// code refers by index, and the code. Its declared depth is at least 1, even if it calls no others (our
+/// decision). Contracts see the five as a record.
 #[derive(Drop)]
 pub struct Handler {
     command: Text,
@@ -41,7 +41,7 @@ impl Model for Handler {
 }
 
 impl Handler {
-    /// A command in code, whose declared depth is 1 at least.
+    /// A handler whose declared depth is at least 1.
     pub fn new(
         command: Text,
         signature: Signature,
@@ -67,14 +67,14 @@ impl Handler {
         }
     }
 
-    /// The name by which the command is started and called.
+    /// The name under which the command is started and called.
     pub fn command(&self) -> &Text
         ensures { result.now ≡ self.now.command }
     {
         &self.command
     }
 
-    /// What the command declares; its depth is 1 at least.
+    /// The signature of the command. Its depth is at least 1.
     pub fn signature(&self) -> &Signature
         ensures signature { result.now ≡ self.now.signature }
         ensures depth { 1 ≤ self.now.signature.depth }
@@ -82,14 +82,14 @@ impl Handler {
         &self.signature
     }
 
-    /// The texts that the code names by their index.
+    /// The texts to which the code refers by index.
     pub fn texts(&self) -> &[Text]
         ensures { result.now ≡ self.now.texts }
     {
         self.texts.as_slice()
     }
 
-    /// The names of the commands that the code names by their index.
+    /// The names of commands to which the code refers by index.
     pub fn calls(&self) -> &[Text]
         ensures { result.now ≡ self.now.calls }
     {
@@ -103,8 +103,9 @@ impl Handler {
         self.code.as_slice()
     }
 
-    /// The callees: the indexes in the list of calls that are called at places which are reached, one for
-    /// each such call, in order of place. A call of an index that isn't in the list names none.
+    /// The callees: the indices in the list of calls that `Call` instructions at reachable places use, one
+    /// for each such instruction, in order of place. An index outside the list is left out. Error:
+    /// `NoMemory`.
     #[tactic(auto, using(crate::proofs::ReachableLemmas::all_called), unfolding(crate::specs::Callees::callees_of))]
     pub fn callees(&self, alloc: Global) -> Result<Seq<u16>, NoMemory>
         ensures callees { IfOk result (λ callees. callees ≡ callees_of self.now) }

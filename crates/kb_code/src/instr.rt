@@ -2,61 +2,63 @@
 ghost use Rattle.std.specs.Prelude.{◌≡◌, ◌==◌, find};
 ghost use Rattle.kb_code.specs.Instr.{opcode_of, operand_of, instructions};
 
-/// An instruction of a handler (our decision). `x` and `y` are the topmost operands, `y` on top.
+/// An instruction of a handler. The instructions and their encoding are our decision. `x` and `y` are the
+/// topmost operands of the stack, `y` on top.
 #[derive(Clone, Copy, Debug, PartialEq, Eq)]
 pub enum Instr {
-    /// Ends the handler; operands that are left are dropped.
+    /// Ends the handler. Remaining operands are dropped.
     Return,
-    /// Pushes the handler's text of this index.
+    /// Pushes the handler's text with this index.
     Text(u16),
     /// Pushes this number.
     Num(u16),
-    /// Pushes this truth value.
+    /// Pushes this boolean.
     Truth(bool),
-    /// Pushes the argument of this index.
+    /// Pushes the argument with this index.
     Arg(u16),
     /// Drops the topmost operand.
     Drop,
-    /// Pushes the topmost operand once more.
+    /// Pushes a copy of the topmost operand.
     Dup,
-    /// Exchanges the two topmost operands.
+    /// Swaps the two topmost operands.
     Swap,
-    /// The sum of two numbers, held at the ends of 64 signed bits.
+    /// The sum of two numbers, saturating at the limits of 64 signed bits.
     Add,
-    /// `x` minus `y`, held at the ends of 64 signed bits.
+    /// `x` minus `y`, saturating at the limits of 64 signed bits.
     Sub,
     /// Whether the number `x` is less than the number `y`.
     Less,
-    /// Whether `x` and `y` are of one kind and equal.
+    /// Whether `x` and `y` have the same kind and are equal.
     Same,
-    /// The opposite of a truth value.
+    /// The negation of a boolean.
     Not,
     /// The text `x` followed by the text `y`.
     Join,
-    /// Any operand as a text: itself, its decimal spelling, `true` or `false`.
+    /// Any operand as a text: the text itself, the decimal form of a number, `true` or `false`.
     Show,
-    /// How many characters a text has.
+    /// The number of characters in a text.
     Size,
-    /// Whether an operand is neither `false` nor 0 nor empty.
+    /// Whether an operand is not `false`, 0 or the empty text.
     IsTrue,
-    /// An operand that is a number, and 0 for any other.
+    /// The operand if it is a number, or else 0.
     Number,
-    /// Goes on at this place.
+    /// Continues at this place.
     Jump(u16),
-    /// Takes a truth value, and goes on at this place if it is false.
+    /// Pops a boolean, and continues at this place if it is `false`.
     JumpIfFalse(u16),
-    /// Calls the command that the handler's list of calls has at this index.
+    /// Calls the command with this index in the handler's list of calls.
     Call(u16),
-    /// Pushes the value of the context key that the handler's text of this index names.
+    /// Pushes the value of the context key whose name is the handler's text with this index: `false` for an
+    /// absent key, and `true` for a list or an object.
     Context(u16),
-    /// Pushes how many characters stand before the caret.
+    /// Pushes the number of characters before the caret.
     Before,
-    /// Pushes how many characters stand behind the caret.
+    /// Pushes the number of characters after the caret.
     After,
 }
 
 impl Instr {
-    /// The byte that names the instruction in code (our decision).
+    /// The byte that encodes the kind of instruction.
     pub fn opcode(self) -> u8
         ensures { result ≡ opcode_of self }
     {
@@ -88,7 +90,7 @@ impl Instr {
         }
     }
 
-    /// The number behind the opcode in code, 0 where the instruction needs none (our decision).
+    /// The operand that follows the opcode; 0 if the instruction has none.
     pub fn operand(self) -> u16
         ensures { result ≡ operand_of self }
     {
@@ -105,8 +107,8 @@ impl Instr {
         }
     }
 
-    /// The instruction of an opcode, with the operand where it takes one, or `None` where no instruction
-    /// has the opcode. That the instruction may have this operand is for the caller to ask.
+    /// The instruction with this opcode, with the operand if it has one. `None` if no instruction has the
+    /// opcode. The caller must check that the instruction allows the operand.
     pub(crate) fn of(opcode: u8, operand: u16) -> Option<Instr>
         ensures { result ≡ find (λ i. opcode_of i == opcode) (instructions operand) }
     {

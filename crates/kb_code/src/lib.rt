@@ -1,15 +1,20 @@
-//! Handler code: its instructions, the bytes that they are written as, and the commands that it calls.
+//! Handler code: its instructions and their bytes, the commands that it calls, and the interface through
+//! which the virtual machine finds live commands.
 #![tactic(auto)]
 
 mod callees;
 pub mod coding;
+pub mod commands;
 pub mod exits;
 pub mod fault;
 pub mod handler;
 pub mod instr;
+pub mod target;
 
 pub use coding::{decode, encode};
+pub use commands::{Commands, Found, Linked};
 pub use exits::Exits;
 pub use fault::CodeFault;
 pub use handler::Handler;
 pub use instr::Instr;
+pub use target::{Spot, Target};

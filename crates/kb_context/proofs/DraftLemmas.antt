@@ -1,4 +1,4 @@
--- The table of places after one more scope, and the keys of scopes put one behind the other.
+-- The table of indices after one more scope, and the number of keys of scopes built one by one.
 use Rattle.std.proofs.Common.{◌≡◌, ℕ, zero, suc, ◌+◌, ◌<◌, ◌≤◌, Bool, true, false, cond, nat_lt, List, []}
 use Rattle.std.proofs.Common.{◌∷◌, ◌++◌, length, Option, Some, None, option_map, slice_get, is_some, IfSome}
 use Rattle.std.proofs.Common.{◌⊎◌, inl, inr, refl, sym, subst, ap, ◌∙◌, arith}
@@ -14,8 +14,8 @@ use Rattle.std.proofs.lemmas.Option.{option_and_then_some}
 use Rattle.std.proofs.lemmas.Slice.Eq.{bytes_eq-Decides}
 use Rattle.kb_context.specs.declared.layout.LayoutScope.{LayoutScope}
 use Rattle.kb_context.specs.declared.scopes.Scope.{Scope}
-use Rattle.kb_context.specs.Scopes.{Places, scope_names, parents, place_in, place_of, key_count, IsRootedList}
-use Rattle.kb_context.specs.Scopes.{IsRooted, IsPlaced}
+use Rattle.kb_context.specs.Scopes.{Places, scope_names, parents, place_in, place_of, key_count}
+use Rattle.kb_context.specs.Scopes.{IsRootedList, IsRooted, IsPlaced}
 use Rattle.kb_context.specs.Layout.{layout_key_count}
 use Rattle.kb_context.specs.Draft.{parent_in, parent_behind, under, after_scope, built}
 use Rattle.kb_context.proofs.OutwardLemmas.{or_else}

@@ -1,4 +1,4 @@
--- The scopes that are put one behind the other are those of the layout, exactly where it is good.
+-- Building the scopes one by one gives the scopes of the layout, exactly if the layout is valid.
 use Rattle.std.proofs.Common.{◌≡◌, ℕ, suc, ◌≤◌, Bool, true, false, not, ◌&&◌, ◌||◌, cond, nat_lt, List, []}
 use Rattle.std.proofs.Common.{◌∷◌, ◌++◌, length, map, Option, Some, None, option_map, option_and_then}
 use Rattle.std.proofs.Common.{unwrap_or, is_some, refl, sym, ap, ◌∙◌, append_assoc, append-nil, arith}
@@ -12,9 +12,9 @@ use Rattle.kb_context.specs.Scopes.{key_limit}
 use Rattle.kb_context.specs.declared.scopes.Scope.{Scope}
 use Rattle.kb_context.specs.declared.fault.ScopeFault.{ScopeFault}
 use Rattle.kb_context.specs.declared.fault.ScopeFault.TheVariants.{BadLayout, TooManyKeys}
-use Rattle.kb_context.specs.declared.failure.Failure.{Failure}
-use Rattle.kb_context.specs.declared.failure.Failure.TheVariants.{NoMemory, Fault}
-use Rattle.kb_context.specs.Failure.{IsRefusal}
+use Rattle.kb_base.specs.declared.failure.Failure.{Failure}
+use Rattle.kb_base.specs.declared.failure.Failure.TheVariants.{NoMemory, Fault}
+use Rattle.kb_base.specs.Failure.{IsRefusal}
 use Rattle.kb_context.specs.Scopes.{ScopesData, scope_names, place_in, place_of}
 use Rattle.kb_context.specs.Layout.{is_among, layout_names, parent_fits, fit, is_good, layout_key_count}
 use Rattle.kb_context.specs.Layout.{layout_fault, scope_of, scopes_of}

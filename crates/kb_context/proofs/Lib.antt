@@ -2,5 +2,3 @@ pub mod DraftLemmas
 pub mod LayoutLemmas
 pub mod OutwardLemmas
 pub mod ScopesLemmas
-pub mod TextLemmas
-pub mod TextMapLemmas

@@ -1,4 +1,4 @@
--- What the maps of scopes answer, and one step of the search outward.
+-- Lookups in the maps of scopes, and one step of the search outward.
 use Rattle.std.proofs.Common.{◌≡◌, ℕ, zero, suc, ◌+◌, ◌<◌, ◌≤◌, length, List, [], ◌∷◌, ◌++◌, Bool, true}
 use Rattle.std.proofs.Common.{false, Option, Some, None, cond, slice_get, refl, sym, ◌∙◌, ap, arith}
 use Rattle.std.specs.Option.{option_map_or}

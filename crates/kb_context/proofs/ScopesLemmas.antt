@@ -1,7 +1,7 @@
--- Places of scopes, and the scopes after the keys of one are changed.
+-- Indices of scopes, and the scopes after the keys of one were changed.
 use Rattle.std.proofs.Common.{◌≡◌, ◌≢◌, ℕ, zero, suc, ◌+◌, ◌-◌, ◌<◌, ◌≤◌, Bool, true, false, cond, ◌||◌}
-use Rattle.std.proofs.Common.{nat_lt, List, [], ◌∷◌, length, Option, Some, None, option_map, option_and_then, is_some}
-use Rattle.std.proofs.Common.{slice_get, slice_set, get_or, refl, sym, subst, ap, ◌∙◌, arith}
+use Rattle.std.proofs.Common.{nat_lt, List, [], ◌∷◌, length, Option, Some, None, option_map, option_and_then}
+use Rattle.std.proofs.Common.{is_some, slice_get, slice_set, get_or, refl, sym, subst, ap, ◌∙◌, arith}
 use Rattle.std.specs.Str.{bytes_eq}
 use Rattle.std.specs.FinMap.{get, insert, remove, len, contains_key, len-insert, len-remove, get-insert}
 use Rattle.std.specs.FinMap.{get-remove}

@@ -1,11 +1,4 @@
-pub mod Blank
 pub mod Draft
-pub mod Failure
-pub mod Faults
 pub mod Layout
-pub mod Reading
-pub mod Refusal
 pub mod ScopeFault
 pub mod Scopes
-pub mod Text
-pub mod TextMap

@@ -1,4 +1,4 @@
--- The numbers of refused calls on scopes.
+-- The numbers of the faults of calls on scopes.
 use Rattle.std.specs.Prelude.{ℕ}
 use Rattle.kb_context.specs.declared.fault.ScopeFault.{ScopeFault}
 use Rattle.kb_context.specs.declared.fault.ScopeFault.TheVariants.{UnknownScope, BadLayout, TooManyKeys}

@@ -1,18 +1,16 @@
-//! Scopes while a layout is read.
+//! The scopes of a layout while they are being built.
 ghost use Rattle.std.specs.Prelude.{◌≡◌, IfOk, IfErr, OnOk, OnErr, [], ◌∷◌, ◌++◌, length, Some};
 ghost use Rattle.std.specs.FinMap as map;
 ghost use Rattle.kb_context.specs.Draft.{under, parent_behind, after_scope, built, IsBadScope, IsBadList};
 
-use crate::failure::Failure;
 use crate::fault::ScopeFault;
 use crate::layout::LayoutScope;
-use crate::memory::NoMemory;
 use crate::scopes::Scope;
-use crate::text_map::TextMap;
+use kb_base::{Failure, NoMemory, TextMap};
 use std::alloc::Global;
 use std::marker::Model;
 
-/// Scopes behind which more are to come, and the place of each name among them.
+/// The scopes built so far, and the index of each by name.
 #[derive(Drop)]
 pub(crate) struct Draft {
     pub(crate) scopes: Vec<Scope>,
@@ -36,7 +34,8 @@ impl Model for Draft {
 }
 
 impl Draft {
-    /// The place of the parent that a scope behind these would have, if its name is new and its parent fits.
+    /// The parent index that `scope` would get if it were added now: `Some(None)` for the root. `None` if
+    /// its name is taken or its parent is not valid here.
     fn parent_of(&self, scope: &LayoutScope) -> Option<Option<usize>>
         ensures { result ≡ parent_behind self.now scope.now }
     {
@@ -53,7 +52,7 @@ impl Draft {
         }
     }
 
-    /// Puts a scope that fits behind the others. Without memory the draft stays.
+    /// Adds a scope that fits. Error: `NoMemory`; the draft is then unchanged.
     fn push_fitting(&mut self, scope: LayoutScope, parent: Option<usize>) -> Result<(), NoMemory>
         requires { parent_behind self.old scope ≡ Some parent }
         ensures { OnOk result (self.new ≡ self.old ++ under scope parent ∷ []) }
@@ -62,7 +61,8 @@ impl Draft {
         Ok(())
     }
 
-    /// Puts one more scope behind the others.
+    /// Adds a scope. Errors: `BadLayout` if its name is taken or its parent is not valid here, and
+    /// `NoMemory`.
     fn push(&mut self, scope: LayoutScope) -> Result<(), Failure<ScopeFault>>
         ensures ok { OnOk result (after_scope self.old scope ≡ Some self.new) }
         ensures err { IfErr result (IsBadScope self.old scope) }
@@ -74,7 +74,8 @@ impl Draft {
         Ok(())
     }
 
-    /// The scopes of a layout, each behind those before it.
+    /// Builds the scopes of a layout, in order. Errors: `BadLayout` if one of them does not fit, and
+    /// `NoMemory`.
     pub(crate) fn of(alloc: Global, scopes: Vec<LayoutScope>) -> Result<Draft, Failure<ScopeFault>>
         ensures ok { IfOk result (λ draft. built [] scopes.items ≡ Some draft) }
         ensures err { IfErr result (IsBadList scopes.items) }
@@ -90,7 +91,7 @@ impl Draft {
     }
 }
 
-/// The scope of a layout with the place of its parent.
+/// The scope of a layout, with the index of its parent in place of its name.
 fn placed(scope: LayoutScope, parent: Option<usize>) -> Scope
     ensures { result ≡ under scope parent }
 {
@@ -98,7 +99,7 @@ fn placed(scope: LayoutScope, parent: Option<usize>) -> Scope
     Scope { name, parent, keys }
 }
 
-/// Puts a scope behind the others, and its place under its name. Without memory both stay.
+/// Adds a scope, and its index under its name. Error: `NoMemory`; both are then unchanged.
 fn push_scope(
     scopes: &mut Vec<Scope>,
     places: &mut TextMap<usize>,

@@ -1,18 +1,18 @@
-//! Why calls on scopes are refused.
+//! Faults of calls on scopes.
 ghost use Rattle.std.specs.Prelude.{◌≡◌};
 
 use thiserror::Error;
 
-/// Why a call on scopes was refused. The numbers are our decision.
+/// Why a call on scopes is refused. The numbers are our decision.
 #[derive(Clone, Copy, Debug, PartialEq, Eq, Error)]
 pub enum ScopeFault {
-    /// No scope has the name that was given.
+    /// No scope has the given name.
     #[error("no scope has this name")]
     UnknownScope,
-    /// The layout is no tree of scopes, or its focus names none of them.
+    /// The layout is not a tree of scopes, or its focus is not the name of one of them.
     #[error("the layout of the scopes is bad")]
     BadLayout,
-    /// More keys than may stand in all scopes together.
+    /// All scopes together would have more keys than `KEY_LIMIT`.
     #[error("too many context keys")]
     TooManyKeys,
 }
@@ -20,7 +20,7 @@ pub enum ScopeFault {
 impl ScopeFault {
     ghost use Rattle.kb_context.specs.ScopeFault.{number_of};
 
-    /// The fault's number, by which traces and messages name it.
+    /// The fault's number in traces and messages: 20 to 22.
     pub fn number(self) -> u32
         ensures { result ≡ number_of self }
     {
@@ -32,8 +32,7 @@ impl ScopeFault {
     }
 }
 
-/// The one refusal of the calls on scopes that take no memory: no scope has the name that was
-/// given.
+/// The only fault of `unset` and `focus`: no scope has the given name.
 #[derive(Clone, Copy, Debug, PartialEq, Eq, Error)]
 #[error("no scope has this name")]
 pub struct UnknownScope;

@@ -1,40 +1,38 @@
-//! Layouts, from which scopes are made.
+//! Layouts: the initial scopes of an editor.
 ghost use Rattle.std.specs.Prelude.{◌≡◌, Some, None, if◌then◌else◌, nat_lt};
 ghost use Rattle.kb_context.specs.Layout.{layout_key_count};
 ghost use Rattle.kb_context.specs.Scopes.{key_limit};
 
 use crate::scopes::KEY_LIMIT;
-use crate::seq::Seq;
-use crate::text::Text;
-use crate::text_map::TextMap;
 use crate::value::ContextValue;
+use kb_base::{Seq, Text, TextMap};
 
-/// How many scopes a layout may have (our decision).
+/// The maximum number of scopes in a layout (our decision).
 pub const SCOPE_LIMIT: usize = 1_000;
 
-/// A scope of a layout: its name, the name of the scope around it, and the values that its keys
-/// have from the start. A key stands once; where a file names it twice, its last value counts.
+/// A scope of a layout: its name, the name of the scope around it, and the initial values of its keys.
+/// Each key occurs once. If a file names a key twice, the last value counts.
 #[derive(Debug, Drop)]
 pub struct LayoutScope {
-    /// The scope's name, which no other scope of the layout has.
+    /// The scope's name, unique in the layout.
     pub name: Text,
-    /// The name of the scope around it. Only the first scope has none.
+    /// The name of the scope around it. Only the first scope (the outermost) has `None`.
     pub parent: Option<Text>,
-    /// The values of its keys at the start.
+    /// The initial values of its keys.
     pub keys: TextMap<ContextValue>,
 }
 
-/// The scopes of an editor, from the outermost inward, and the name of the one that has the focus
-/// at the start.
+/// The scopes of an editor, the outermost first, and the name of the scope that has the focus at the
+/// start.
 #[derive(Debug, Drop)]
 pub struct Layout {
-    /// The scopes, each behind the one around it.
+    /// The scopes. Each comes after the scope around it.
     pub scopes: Seq<LayoutScope>,
-    /// The name of the scope that has the focus.
+    /// The name of the scope that has the focus at the start.
     pub focus: Text,
 }
 
-/// How many keys the scopes have together, if no more than may stand.
+/// The number of keys in all scopes together, or `None` if it exceeds `KEY_LIMIT`.
 pub(crate) fn count_keys(scopes: &[LayoutScope]) -> Option<usize>
     ensures { let count = layout_key_count scopes.now in
         result ≡ (if nat_lt key_limit count then None else Some count) }

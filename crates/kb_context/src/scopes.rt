@@ -5,20 +5,17 @@ ghost use Rattle.std.specs.FinMap as map;
 ghost use Rattle.kb_context.specs.Scopes.{IsRooted, seen_from};
 
 use crate::draft::Draft;
-use crate::failure::Failure;
 use crate::fault::{ScopeFault, UnknownScope};
 use crate::layout::{Layout, SCOPE_LIMIT, count_keys};
-use crate::memory::NoMemory;
-use crate::text::Text;
-use crate::text_map::TextMap;
 use crate::value::ContextValue;
+use kb_base::{Failure, NoMemory, Text, TextMap};
 use std::alloc::Global;
 use std::marker::Model;
 
-/// How many keys may stand in all scopes together (our decision).
+/// The maximum number of keys in all scopes together (our decision).
 pub const KEY_LIMIT: usize = 10_000;
 
-/// A scope: its name, the place of the scope around it, and the values of its keys.
+/// A scope: its name, the index of the scope around it, and the values of its keys.
 #[derive(Debug, Drop)]
 pub(crate) struct Scope {
     pub(crate) name: Text,
@@ -26,7 +23,8 @@ pub(crate) struct Scope {
     pub(crate) keys: TextMap<ContextValue>,
 }
 
-/// The innermost value of a key from a scope outward. Each scope on the way costs one look-up.
+/// The innermost value of a key, searched from the scope at index `from` outward. Each scope on the path
+/// costs one lookup.
 fn look<'a>(scopes: &'a [Scope], from: usize, key: &str) -> Option<&'a ContextValue>
     requires inside { from < length scopes.now }
     requires rooted { IsRooted scopes.now }
@@ -45,10 +43,10 @@ fn look<'a>(scopes: &'a [Scope], from: usize, key: &str) -> Option<&'a ContextVa
     }
 }
 
-/// Nested scopes of context keys, one of which has the focus. A clause sees the keys of the
-/// focus and of the scopes around it, and where several have a key, the innermost value: so the
-/// documentation of when clause contexts has it for the parts of an editor's window. A refused
-/// call leaves the scopes as they were.
+/// Nested scopes of context keys, one of which has the focus. A when clause sees the keys of the focused
+/// scope and of the scopes around it. If several of them have a key, the innermost value counts, as VS
+/// Code's documentation of when clause contexts describes it for the parts of an editor's window. The
+/// limits and the refusals are our decision. A refused call changes nothing.
 #[derive(Debug, Drop)]
 pub struct Scopes {
     scopes: Vec<Scope>,
@@ -71,18 +69,19 @@ impl Model for Scopes {
 }
 
 impl Scopes {
-    ghost use Rattle.kb_context.specs.Failure.{IsRefusal, IsRefusalOrMemory};
+    ghost use Rattle.kb_base.specs.Failure.{IsRefusal, IsRefusalOrMemory};
     ghost use Rattle.kb_context.specs.Layout.{layout_fault, scopes_of};
-    ghost use Rattle.kb_context.specs.Scopes.{context, place_of, value_in, value_at, has_room, set_fault_at, set_fault};
+    ghost use Rattle.kb_context.specs.Scopes.{context, place_of, value_in, value_at, has_room};
+    ghost use Rattle.kb_context.specs.Scopes.{set_fault_at, set_fault};
     ghost use Rattle.kb_context.specs.Scopes.{with_value_at, with_value, without_value, with_focus};
     ghost use Rattle.kb_context.specs.Scopes.{ReachesRoot, ChangesOnly, ChangesOnlyIn};
 
-    /// The scopes of a layout.
+    /// Builds the scopes of a layout.
     ///
-    /// `BadLayout` (21) where there is no scope or more than `SCOPE_LIMIT`, the first has a parent,
-    /// another has none or one that isn't named before it, a name stands twice, or the focus names
-    /// no scope. Then `TooManyKeys` (22) where more than `KEY_LIMIT` keys stand in all scopes
-    /// together. `NoMemory` (5). These rules are our decision.
+    /// Errors, in this order: `BadLayout` (21) if there is no scope or more than `SCOPE_LIMIT`, if the
+    /// first scope has a parent, if another scope has no parent or one that is not an earlier scope, if two
+    /// scopes have the same name, or if the focus is not the name of a scope. `TooManyKeys` (22) if all
+    /// scopes together have more than `KEY_LIMIT` keys. `NoMemory` (5) at any point.
     pub fn new(alloc: Global, layout: Layout) -> Result<Scopes, Failure<ScopeFault>>
         ensures good { OnOk result (layout_fault layout ≡ None) }
         ensures ok { IfOk result (λ scopes. scopes ≡ scopes_of layout) }
@@ -109,18 +108,19 @@ impl Scopes {
         })
     }
 
-    /// The value of a key that the focus sees: the innermost one from the focus outward, or `None`
-    /// where no scope on the way has the key.
+    /// The value of a key that is visible from the focus: the innermost value from the focused scope
+    /// outward, or `None` if no scope on this path has the key.
     pub fn get(&self, key: &str) -> Option<&ContextValue>
         ensures value { option_copied result ≡ map.get (context self.now) key.now }
 
-        // The context has the maps of all scopes on the way, up to the outermost.
+        // The context includes the keys of every scope on the path, up to the outermost one.
         ensures whole { ReachesRoot self.now }
     {
         look(&self.scopes, self.focus, key)
     }
 
-    /// Whether a key can be set in the scope at a place: it stands there, or there is room for one more.
+    /// Whether a key can be set in the scope at index `at`: the scope has the key already, or the limit is
+    /// not reached.
     fn has_room(&self, at: usize, key: &str) -> bool
         requires { at < length self.now.scopes }
         ensures { result ≡ has_room self.now at key.now }
@@ -128,7 +128,8 @@ impl Scopes {
         self.keys < KEY_LIMIT || self.scopes[at].keys.contains_key(key)
     }
 
-    /// Gives a key, for which there is room, a value in the scope at a place.
+    /// Sets a key for which there is room, in the scope at index `at`. Error: `NoMemory`, only for a new
+    /// key.
     fn put_at(&mut self, at: usize, key: &str, value: ContextValue) -> Result<(), NoMemory>
         requires inside { at < length self.old.scopes }
         requires room { IsTrue (has_room self.old at key.now) }
@@ -144,7 +145,7 @@ impl Scopes {
         Ok(())
     }
 
-    /// Gives a key a value in the scope at a place.
+    /// Sets a key in the scope at index `at`. Errors: as for `set`, without `UnknownScope`.
     fn set_at(
         &mut self,
         at: usize,
@@ -166,11 +167,11 @@ impl Scopes {
         Ok(())
     }
 
-    /// Gives a key a value in the scope of a name.
+    /// Sets a key in the scope that is named `scope`.
     ///
-    /// `UnknownScope` (20) where no scope has the name. `TooManyKeys` (22) where the key is new in
-    /// the scope and `KEY_LIMIT` keys stand in all scopes together. `NoMemory` (5), only where the
-    /// key is new and neither of these comes. The first two rules are our decision.
+    /// Errors: `UnknownScope` (20) if no scope has the name. `TooManyKeys` (22) if the scope lacks the key
+    /// and all scopes together have `KEY_LIMIT` keys. `NoMemory` (5), only if the scope lacks the key and
+    /// neither of the others applies.
     pub fn set(
         &mut self,
         scope: &str,
@@ -190,8 +191,8 @@ impl Scopes {
         }
     }
 
-    /// Gives a key a value in the outermost scope, which is the first one: `TooManyKeys` (22) and
-    /// `NoMemory` (5) as for `set`.
+    /// Sets a key in the outermost scope, which is the first one. Errors: `TooManyKeys` (22) and
+    /// `NoMemory` (5), as for `set`.
     pub fn set_root(&mut self, key: &str, value: ContextValue) -> Result<(), Failure<ScopeFault>>
         ensures allowed { OnOk result (set_fault_at self.old 0 key.now ≡ None) }
         ensures ok { OnOk result (self.new ≡ with_value_at self.old 0 key.now value) }
@@ -200,13 +201,13 @@ impl Scopes {
         ensures absent { OnErr result (value_at self.old 0 key.now ≡ None) }
         ensures change { OnOk result (ChangesOnly self.old self.new 0 key.now (Some value)) }
     {
-        // No effect at run time: the proof reads from it that there is a scope.
+        // No effect at run time: the proof uses it to see that there is a scope.
         let _focus = &self.focus;
         self.set_at(0, key, value)
     }
 
-    /// Takes a key out of the scope of a name, which changes nothing where the scope lacks it. It
-    /// takes no memory. `UnknownScope` (20) where no scope has the name.
+    /// Removes a key from the scope that is named `scope`. Changes nothing if the scope lacks the key.
+    /// Error: `UnknownScope` (20) if no scope has the name.
     pub fn unset(&mut self, scope: &str, key: &str) -> Result<(), UnknownScope>
         ensures known { OnOk result (IsSome (place_of scope.now self.old.scopes)) }
         ensures ok { OnOk result (self.new ≡ without_value self.old scope.now key.now) }
@@ -224,8 +225,8 @@ impl Scopes {
         Ok(())
     }
 
-    /// Gives the focus to the scope of a name. It takes no memory. `UnknownScope` (20) where no
-    /// scope has the name.
+    /// Gives the focus to the scope that is named `scope`. Error: `UnknownScope` (20) if no scope has the
+    /// name.
     pub fn focus(&mut self, scope: &str) -> Result<(), UnknownScope>
         ensures known { OnOk result (IsSome (place_of scope.now self.old.scopes)) }
         ensures ok { OnOk result (self.new ≡ with_focus self.old scope.now) }

@@ -1,16 +1,14 @@
-//! The values of context keys.
-use crate::seq::Seq;
-use crate::text::Text;
+//! Values of context keys.
+use kb_base::{Seq, Text};
 
-/// The value of a context key, as the documentation of when clause contexts has them: a truth
-/// value, a number, a text, a list, or an object. Numbers are whole and have 64 signed bits, a list
-/// holds texts, and of an object the names of its members are kept, since `in` asks for no more
-/// (our decision).
+/// The value of a context key. VS Code's documentation of when clause contexts has booleans, numbers,
+/// texts, lists and objects. Our decision: numbers are signed 64-bit integers, a list holds texts, and an
+/// object keeps only the names of its members, since `in` tests only these.
 #[derive(Debug, Drop)]
 pub enum ContextValue {
     /// `true` or `false`.
     Truth(bool),
-    /// A whole number.
+    /// An integer.
     Number(i64),
     /// A text.
     Text(Text),

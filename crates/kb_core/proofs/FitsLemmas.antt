@@ -1,4 +1,4 @@
--- What fits, and what is read fits.
+-- Lemmas on arguments that fit, among them those that were read.
 use Rattle.std.proofs.Common.{◌≡◌, List, [], ◌∷◌, length, Bool, true, false, refl, ap, suc, ◌&&◌}
 use Rattle.kb_core.specs.declared.arg.Arg.{Arg}
 use Rattle.kb_core.specs.declared.parameter.Param.{Param}

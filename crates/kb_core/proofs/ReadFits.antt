@@ -1,4 +1,4 @@
--- What is read fits.
+-- Arguments that were read fit the parameters.
 use Rattle.std.proofs.Common.{Result, Ok, Err, IfOk, ◌≡◌, List, [], ◌∷◌, Bool, true, false, Option, Some}
 use Rattle.std.proofs.Common.{None, refl, IsTrue, IfSome, option_map, option_and_then, map, if◌then◌else◌}
 use Rattle.std.proofs.Common.{◌&&◌}

@@ -1,6 +1,6 @@
--- What each edit does to the text before the caret and the text after it.
+-- The effect of each edit on the text before and after the caret.
 use Rattle.std.specs.Prelude.{ℕ, List, [], ◌++◌}
-use Rattle.kb_context.specs.Text.{without_last, only_last, without_first, only_first}
+use Rattle.kb_base.specs.Text.{without_last, only_last, without_first, only_first}
 use Rattle.kb_core.specs.declared.buffer.Buffer.{Buffer}
 
 abbrev pub empty : Buffer

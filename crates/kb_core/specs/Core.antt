@@ -1,4 +1,4 @@
--- What commands change, and what the native commands do to it.
+-- The core, and the effect of the native commands on it.
 use Rattle.std.specs.Prelude.{List}
 use Rattle.kb_context.specs.Scopes.{ScopesData}
 use Rattle.kb_core.specs.declared.arg.Arg.{Arg}

@@ -1,20 +1,20 @@
--- What a command declares, and the limits of it.
+-- What a command declares, and its limits.
 use Rattle.std.specs.Prelude.{ℕ, ◌≤◌, List, length}
 use Rattle.kb_core.specs.declared.parameter.Param.{Param}
 
--- how many parameters a command may have
+-- the maximum number of parameters of a command
 abbrev pub parameter_limit : ℕ
 parameter_limit = 8
 
--- how much a start may cost, in instructions and costs of native commands
+-- the maximum cost of a run: instructions plus the costs of native commands
 abbrev pub budget_limit : ℕ
 budget_limit = 1000000000
 
--- how deep calls may nest
+-- the maximum nesting depth of calls
 abbrev pub depth_limit : ℕ
 depth_limit = 64
 
--- the parameters, what a start may cost, and how deep its calls may nest
+-- the parameters, the maximum cost of a run, and the maximum nesting depth of its calls
 pub record Declaration : Type 0 where
   pub params : List Param
   pub budget : ℕ

@@ -1,6 +1,6 @@
 -- The table of the native commands: identifier, parameters, budget and effect.
-use Rattle.std.specs.Prelude.{◌≡◌, ℕ, List, [], ◌∷◌, Option, None, is_some, false, if◌then◌else◌, codes, find}
-use Rattle.std.specs.Prelude.{bytes_eq, IsTrue}
+use Rattle.std.specs.Prelude.{◌≡◌, ℕ, List, [], ◌∷◌, Option, None, is_some, false, if◌then◌else◌, codes}
+use Rattle.std.specs.Prelude.{find, bytes_eq, IsTrue}
 use Rattle.kb_context.specs.declared.value.ContextValue.{ContextValue}
 use Rattle.kb_context.specs.declared.value.ContextValue.TheVariants as value
 use Rattle.kb_context.specs.Scopes.{ScopesData, value_at, set_fault_at, with_value_at}
@@ -35,7 +35,7 @@ name_of BufferTop = codes "buffer.top"
 name_of BufferBottom = codes "buffer.bottom"
 name_of SetContext = codes "setContext"
 
--- the native that has this identifier
+-- the native with this identifier
 abbrev pub named : List ℕ → Option Native
 named identifier = find (λ native. bytes_eq identifier (name_of native)) natives
 
@@ -66,11 +66,11 @@ budget_of SetContext = 101
 abbrev pub Fits : Native → List Arg → Type 0
 Fits native args = IsTrue (fits (parameters_of native) args)
 
--- a native calls nothing
+-- a native calls no others
 abbrev pub declaration_of : Native → Declaration
 declaration_of native = record { params = parameters_of native; budget = budget_of native; depth = 0 }
 
--- the text that the first argument is
+-- the first argument, if it is a text
 abbrev pub text_of : List Arg → List ℕ
 text_of [] = []
 text_of (Text text ∷ args) = text
@@ -89,7 +89,7 @@ buffer_after BufferTop args b = at_top b
 buffer_after BufferBottom args b = at_bottom b
 buffer_after SetContext args b = b
 
--- a text may grow by a native command
+-- the command may lengthen a text
 abbrev pub MayGrow : Native → Type 0
 MayGrow TypeText = Unit {0}
 MayGrow DeleteLeft = ⊥
@@ -101,13 +101,13 @@ MayGrow BufferTop = Unit {0}
 MayGrow BufferBottom = Unit {0}
 MayGrow SetContext = ⊥
 
--- the value that the second argument is
+-- the second argument, as the value of a context key
 abbrev pub value_of : List Arg → ContextValue
 value_of [] = value.Truth false
 value_of (key ∷ []) = value.Truth false
 value_of (key ∷ arg ∷ args) = context_value arg
 
--- a key has a value in the outermost scope, which is the first, where nothing forbids it
+-- a key is set in the outermost scope, which is the first one, unless the limit on keys forbids it
 abbrev pub with_root_key : List ℕ → ContextValue → ScopesData → ScopesData
 with_root_key key value s = if is_some (set_fault_at s 0 key) then s else with_value_at s 0 key value
 
@@ -123,8 +123,8 @@ scopes_after BufferTop args s = s
 scopes_after BufferBottom args s = s
 scopes_after SetContext args s = with_root_key (text_of args) (value_of args) s
 
--- where memory may be refused to a native command: a text grows, or a key is put in that nothing forbids and
--- that the outermost scope hasn't yet
+-- The cases in which a native command may run out of memory: it lengthens a text, or it adds a key that
+-- the outermost scope lacks and the limit allows.
 abbrev pub MayLackMemory : Native → List Arg → ScopesData → Type 0
 MayLackMemory TypeText args s = Unit {0}
 MayLackMemory DeleteLeft args s = ⊥

@@ -1,4 +1,4 @@
--- The parameter that a name and a kind stand for.
+-- The parameter with a static name, as a parameter with a name of its own.
 use Rattle.kb_core.specs.declared.parameter.NamedKind.{NamedKind}
 use Rattle.kb_core.specs.declared.parameter.Param.{Param}
 

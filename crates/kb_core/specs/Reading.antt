@@ -9,7 +9,7 @@ use Rattle.kb_core.specs.declared.arg.Kind.{Kind}
 use Rattle.kb_core.specs.declared.parameter.Param.{Param}
 use Rattle.kb_core.specs.Arg.{is_of, empty_of}
 
--- a text, a whole number or a truth value
+-- a text, an integer or a boolean
 abbrev pub plain_of : Data → Option Arg
 plain_of null = None
 plain_of (boolean b) = Some (Truth b)
@@ -22,7 +22,7 @@ plain_of (object ms) = None
 abbrev pub arg_of : Kind → Data → Option Arg
 arg_of k d = option_and_then (λ a. if is_of k a then Some a else None) (plain_of d)
 
--- a member of an object, where absent and null give the empty value
+-- a member of an object; absent and null give the empty value
 abbrev pub member_arg : Kind → Option Data → Option Arg
 member_arg k None = Some (empty_of k)
 member_arg k (Some null) = Some (empty_of k)
@@ -37,7 +37,7 @@ object_args d [] = Some []
 object_args d (p ∷ ps) =
     option_and_then (λ a. option_map (λ rest. a ∷ rest) (object_args d ps)) (member_arg p.kind (get p.name d))
 
--- a lone value, for a lone parameter
+-- a single value, for a single parameter
 abbrev pub lone_arg : List Param → Data → Option (List Arg)
 lone_arg [] d = None
 lone_arg (p ∷ []) d = option_map (λ a. a ∷ []) (arg_of p.kind d)
@@ -52,7 +52,7 @@ given ps (Some (string s)) = lone_arg ps (string s)
 given ps (Some (array ds)) = None
 given ps (Some (object ms)) = object_args (object ms) ps
 
--- with no parameter every value gives the empty list
+-- without parameters, any value gives the empty list
 abbrev pub arguments_for : List Param → Option Data → Option (List Arg)
 arguments_for [] o = Some []
 arguments_for (p ∷ ps) o = given (p ∷ ps) o

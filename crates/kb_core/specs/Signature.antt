@@ -1,4 +1,4 @@
--- Which arguments fit parameters.
+-- Which arguments fit which parameters.
 use Rattle.std.specs.Prelude.{List, [], ◌∷◌, Bool, true, false, ◌&&◌}
 use Rattle.kb_core.specs.declared.arg.Arg.{Arg}
 use Rattle.kb_core.specs.declared.parameter.Param.{Param}

@@ -1,31 +1,33 @@
-//! An argument, and the kinds of arguments.
+//! Arguments of commands, and their kinds.
 ghost use Rattle.std.specs.Prelude.{◌≡◌};
 ghost use Rattle.kb_core.specs.Arg.{is_of, empty_of};
 
-use kb_context::{ContextValue, Text};
+use kb_base::Text;
+use kb_context::ContextValue;
 use std::alloc::Global;
 
-/// An argument of a command. Lists, objects and numbers that are not whole are none (our decision).
+/// An argument of a command. Lists, objects and numbers that are not integers cannot be arguments (our
+/// decision).
 #[derive(Debug, Drop)]
 pub enum Arg {
     Text(Text),
-    /// A whole number of 64 signed bits.
+    /// A signed 64-bit integer.
     Number(i64),
     Truth(bool),
 }
 
-/// What a parameter takes.
+/// The kind of argument that a parameter accepts.
 #[derive(Clone, Copy, Debug, Default, PartialEq, Eq)]
 pub enum Kind {
     Text,
     Number,
     Truth,
-    /// Each of the other three.
+    /// Any of the other three kinds.
     #[default]
     Any,
 }
 
-/// What stands in the unused places of an inline list: no argument that a command gets.
+/// The value in the unused slots of an inline list. No command receives it.
 impl Default for Arg {
     ghost use Rattle.std.specs.Prelude.{◌≡◌, false};
     ghost use Rattle.kb_core.specs.declared.arg.Arg.TheVariants.{Truth};
@@ -37,7 +39,7 @@ impl Default for Arg {
     }
 }
 
-/// The value of a context key that an argument is. It takes no memory: a text is moved.
+/// Converts an argument to the value of a context key. A text is moved.
 impl From<Arg> for ContextValue {
     ghost use Rattle.std.specs.Prelude.{◌≡◌};
     ghost use Rattle.kb_core.specs.Arg.{context_value};
@@ -54,7 +56,7 @@ impl From<Arg> for ContextValue {
 }
 
 impl Kind {
-    /// Whether a parameter of this kind takes the argument. It takes no memory.
+    /// Whether a parameter of this kind accepts the argument.
     pub fn takes(self, arg: &Arg) -> bool
         ensures { result ≡ is_of self arg.now }
     {
@@ -67,8 +69,7 @@ impl Kind {
         }
     }
 
-    /// What a parameter of this kind gets where nothing is given for it: the empty text, 0 or
-    /// false. It takes no memory.
+    /// The argument for a parameter of this kind if no value is given: the empty text, 0 or `false`.
     pub fn empty(self, alloc: Global) -> Arg
         ensures { result ≡ empty_of self }
     {

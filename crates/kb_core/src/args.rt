@@ -1,19 +1,19 @@
-//! The list of arguments that a command gets.
+//! Lists of arguments.
 ghost use Rattle.std.specs.Prelude.{◌≡◌, ◌<◌, ◌≤◌, ◌-◌, [], ◌∷◌, ◌++◌, length, take, slice_get};
 ghost use Rattle.std.specs.Prelude.{OnOk, OnErr};
 ghost use Rattle.kb_core.specs.Declaration.{parameter_limit};
 
 use crate::arg::Arg;
-use kb_context::NoMemory;
+use kb_base::NoMemory;
 use smallvec::SmallVec;
 use std::alloc::Global;
 use std::marker::Model;
 
-/// How many arguments are kept inline, as many as a native command takes at most: a list is moved several
-/// times before a command has it.
+/// The number of arguments that are stored inline, enough for every native command. It is small, since a
+/// list is moved several times before its command runs.
 const INLINE: usize = 2;
 
-/// At most eight arguments, as many as a command may have parameters (our decision). Contracts see their
+/// A list of at most eight arguments, the maximum number of parameters (our decision). Contracts see the
 /// list.
 #[derive(Drop)]
 pub struct Args {
@@ -33,7 +33,7 @@ impl Model for Args {
 }
 
 impl Args {
-    /// No arguments. It takes no memory.
+    /// An empty list.
     pub fn new(alloc: Global) -> Args
         ensures { result ≡ [] }
     {
@@ -42,8 +42,8 @@ impl Args {
         }
     }
 
-    /// Adds an argument at the end, which takes memory from the third on. Without memory the arguments stay
-    /// as they were.
+    /// Adds an argument at the end. Error: `NoMemory`; the list is then unchanged. The first two arguments
+    /// are stored inline, so adding them allocates nothing.
     pub fn push(&mut self, arg: Arg) -> Result<(), NoMemory>
         requires { length self.old < parameter_limit }
         ensures ok { OnOk result (self.new ≡ self.old ++ arg ∷ []) }
@@ -54,7 +54,7 @@ impl Args {
         Ok(())
     }
 
-    /// Takes the last argument away and gives it, or `None` without one. It takes no memory.
+    /// Removes the last argument and returns it, or `None` if there is none.
     pub fn pop(&mut self) -> Option<Arg>
         ensures last { result ≡ slice_get self.old (length self.old - 1) }
         ensures rest { self.new ≡ take (length self.old - 1) self.old }

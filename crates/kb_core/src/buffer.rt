@@ -1,8 +1,8 @@
-//! The text round the caret.
+//! The text buffer and its caret.
 ghost use Rattle.std.specs.Prelude.{◌≡◌, [], ◌++◌, OnOk, OnErr, IfOk};
 ghost use Rattle.kb_core.specs.Buffer as buffer;
 
-use kb_context::{NoMemory, Text};
+use kb_base::{NoMemory, Text};
 use std::alloc::Global;
 
 /// The text before the caret and the text after it.
@@ -13,7 +13,7 @@ pub struct Buffer {
 }
 
 impl Buffer {
-    /// No text. It takes no memory.
+    /// An empty buffer.
     pub fn new(alloc: Global) -> Buffer
         ensures { result ≡ buffer.empty }
     {
@@ -23,7 +23,7 @@ impl Buffer {
         }
     }
 
-    /// Puts a text before the caret. Without memory the buffer stays.
+    /// Inserts a text before the caret. Error: `NoMemory`; the buffer is then unchanged.
     pub fn insert(&mut self, text: &str) -> Result<(), NoMemory>
         ensures ok { OnOk result (self.new ≡ buffer.with_inserted text.now self.old) }
         ensures err { OnErr result (self.new ≡ self.old) }
@@ -31,22 +31,22 @@ impl Buffer {
         self.before.push_str(text)
     }
 
-    /// Takes the character before the caret away, if there is one.
+    /// Deletes the character before the caret, if there is one.
     pub fn delete_left(&mut self)
         ensures { self.new ≡ buffer.without_left self.old }
     {
         self.before.pop();
     }
 
-    /// Takes the character after the caret away, if there is one.
+    /// Deletes the character after the caret, if there is one.
     pub fn delete_right(&mut self)
         ensures { self.new ≡ buffer.without_right self.old }
     {
         self.after.pop_front();
     }
 
-    /// Moves the caret over the character before it, if there is one. Without memory the buffer
-    /// stays.
+    /// Moves the caret one character to the left, if there is one. Error: `NoMemory`; the buffer is then
+    /// unchanged.
     pub fn move_left(&mut self) -> Result<(), NoMemory>
         ensures ok { OnOk result (self.new ≡ buffer.moved_left self.old) }
         ensures err { OnErr result (self.new ≡ self.old) }
@@ -59,8 +59,8 @@ impl Buffer {
         Ok(())
     }
 
-    /// Moves the caret over the character after it, if there is one. Without memory the buffer
-    /// stays.
+    /// Moves the caret one character to the right, if there is one. Error: `NoMemory`; the buffer is then
+    /// unchanged.
     pub fn move_right(&mut self) -> Result<(), NoMemory>
         ensures ok { OnOk result (self.new ≡ buffer.moved_right self.old) }
         ensures err { OnErr result (self.new ≡ self.old) }
@@ -73,7 +73,7 @@ impl Buffer {
         Ok(())
     }
 
-    /// Takes all text away.
+    /// Deletes all text.
     pub fn clear(&mut self)
         ensures { self.new ≡ buffer.empty }
     {
@@ -81,7 +81,7 @@ impl Buffer {
         self.after.clear();
     }
 
-    /// Moves the caret before all text. Without memory the buffer stays.
+    /// Moves the caret to the start of the text. Error: `NoMemory`; the buffer is then unchanged.
     pub fn move_to_top(&mut self) -> Result<(), NoMemory>
         ensures ok { OnOk result (self.new ≡ buffer.at_top self.old) }
         ensures err { OnErr result (self.new ≡ self.old) }
@@ -91,7 +91,7 @@ impl Buffer {
         Ok(())
     }
 
-    /// Moves the caret behind all text. Without memory the buffer stays.
+    /// Moves the caret to the end of the text. Error: `NoMemory`; the buffer is then unchanged.
     pub fn move_to_bottom(&mut self) -> Result<(), NoMemory>
         ensures ok { OnOk result (self.new ≡ buffer.at_bottom self.old) }
         ensures err { OnErr result (self.new ≡ self.old) }

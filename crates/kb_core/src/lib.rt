@@ -1,4 +1,4 @@
-//! The core that commands change, the arguments that they take, and the native commands.
+//! The core that commands change, the arguments of commands, and the native commands.
 #![tactic(auto)]
 
 pub mod arg;
@@ -15,5 +15,5 @@ pub use args::Args;
 pub use buffer::Buffer;
 pub use native::{NATIVES, Native};
 pub use parameter::{NamedKind, Param};
-pub use run::{Core, Ran, plain};
+pub use run::{Core, Ran, at_budget, plain};
 pub use signature::Signature;

@@ -1,4 +1,4 @@
-//! The native commands: their identifiers and what they declare.
+//! The native commands: their identifiers, parameters and budgets.
 ghost use Rattle.std.specs.Prelude.{◌≡◌, ◌≤◌, IfOk, IfSome, IsTrue, length, map, option_map};
 ghost use Rattle.serde_json.specs.View.{view};
 ghost use Rattle.kb_core.specs.Declaration.{parameter_limit};
@@ -12,7 +12,7 @@ use crate::args::Args;
 use crate::parameter::{NamedKind, Param};
 use crate::reading::arguments_for;
 use crate::signature::Signature;
-use kb_context::{NoMemory, Seq};
+use kb_base::{NoMemory, Seq};
 use serde_json::Value;
 use std::alloc::Global;
 
@@ -34,7 +34,7 @@ static KEY_AND_VALUE: [NamedKind; 2] = [
     },
 ];
 
-/// The native commands, in the order of their table.
+/// All native commands.
 pub const NATIVES: [Native; 9] = [
     Native::TypeText,
     Native::DeleteLeft,
@@ -47,29 +47,28 @@ pub const NATIVES: [Native; 9] = [
     Native::SetContext,
 ];
 
-/// A native command. The nine, their identifiers and what they take are our decision. VS Code
-/// documents a command `setContext`, which sets a context key.
+/// A native command. The commands, their identifiers, parameters, budgets and effects are our decision. VS
+/// Code documents a command `setContext` that sets a context key.
 #[derive(Clone, Copy, Debug, PartialEq, Eq, Hash)]
 pub enum Native {
-    /// `type` puts its text before the caret.
+    /// `type` inserts its text before the caret.
     TypeText,
-    /// `deleteLeft` takes the character before the caret away.
+    /// `deleteLeft` deletes the character before the caret.
     DeleteLeft,
-    /// `deleteRight` takes the character after the caret away.
+    /// `deleteRight` deletes the character after the caret.
     DeleteRight,
-    /// `cursorLeft` moves the caret over the character before it.
+    /// `cursorLeft` moves the caret one character to the left.
     CursorLeft,
-    /// `cursorRight` moves the caret over the character after it.
+    /// `cursorRight` moves the caret one character to the right.
     CursorRight,
-    /// `buffer.clear` takes all text away.
+    /// `buffer.clear` deletes all text.
     BufferClear,
-    /// `buffer.top` moves the caret before all text.
+    /// `buffer.top` moves the caret to the start of the text.
     BufferTop,
-    /// `buffer.bottom` moves the caret behind all text.
+    /// `buffer.bottom` moves the caret to the end of the text.
     BufferBottom,
-    /// `setContext` gives its key its value in the outermost scope, unless the key is new there
-    /// while as many keys stand as may: then it does nothing. A value that isn't given is false
-    /// (our decisions).
+    /// `setContext` sets a context key in the outermost scope. It does nothing if that scope lacks the key
+    /// and the scopes have `KEY_LIMIT` keys already. If no value is given, the value is `false`.
     SetContext,
 }
 
@@ -91,7 +90,7 @@ impl Native {
         }
     }
 
-    /// The native command of an identifier, or `None` where no native has it. It takes no memory.
+    /// The native command with this identifier, or `None`.
     pub fn named(identifier: &str) -> Option<Native>
         ensures { result ≡ named identifier.now }
     {
@@ -109,7 +108,7 @@ impl Native {
         }
     }
 
-    /// What the command takes, in order. It takes no memory.
+    /// The parameters of the command, in order.
     pub fn params(self) -> &'static [NamedKind]
         ensures params { map declared result.now ≡ parameters_of self }
         ensures few { length result.now ≤ parameter_limit }
@@ -121,8 +120,8 @@ impl Native {
         }
     }
 
-    /// The arguments that a JSON value gives the command, as `Signature::read_args` reads them by the
-    /// command's signature. Only a text among them takes memory.
+    /// Reads the command's arguments from a JSON value, as `Signature::read_args` does. Error: `NoMemory`,
+    /// only if one of them is a text.
     pub fn read_args(self, alloc: Global, value: Option<&Value>) -> Result<Option<Args>, NoMemory>
         ensures value { let given = option_map (λ v. view v.now) value.entry in
             IfOk result (λ args. args ≡ arguments_for (parameters_of self) given) }
@@ -131,7 +130,7 @@ impl Native {
         arguments_for(alloc, self.params(), value)
     }
 
-    /// What the command declares. A native calls nothing, so its depth is 0.
+    /// The command's signature. A native command calls no others, so its depth is 0. Error: `NoMemory`.
     pub fn signature(self, alloc: Global) -> Result<Signature, NoMemory>
         ensures { IfOk result (λ signature. signature ≡ declaration_of self) }
     {
@@ -139,7 +138,7 @@ impl Native {
         Ok(Signature::new(params, self.budget(), 0))
     }
 
-    /// What a run of the command may cost at most, in instructions.
+    /// The maximum cost of a run of the command, in instructions.
     pub fn budget(self) -> u32
         ensures { result ≡ budget_of self }
     {
@@ -155,7 +154,7 @@ impl Native {
     }
 }
 
-/// Parameters with names of their own.
+/// The parameters, with names of their own. Error: `NoMemory`.
 fn owned(alloc: Global, params: &[NamedKind]) -> Result<Seq<Param>, NoMemory>
     ensures { IfOk result (λ owned. owned ≡ map declared params.now) }
 {

@@ -1,9 +1,9 @@
-//! What a command takes: a parameter that owns its name, or one of a table.
+//! Parameters of commands.
 ghost use Rattle.std.specs.Prelude.{◌≡◌, IfOk};
 ghost use Rattle.kb_core.specs.Parameter.{declared};
 
 use crate::arg::Kind;
-use kb_context::{NoMemory, Text};
+use kb_base::{NoMemory, Text};
 use std::alloc::Global;
 
 /// A parameter of a command.
@@ -13,7 +13,7 @@ pub struct Param {
     pub kind: Kind,
 }
 
-/// A parameter whose name stands in the program, as those of the native commands.
+/// A parameter with a static name, as those of native commands.
 #[derive(Clone, Copy, Debug)]
 pub struct NamedKind {
     pub name: &'static str,
@@ -21,7 +21,7 @@ pub struct NamedKind {
 }
 
 impl NamedKind {
-    /// The same parameter with a name of its own.
+    /// The same parameter with a name of its own. Error: `NoMemory`.
     pub fn owned(self, alloc: Global) -> Result<Param, NoMemory>
         ensures { IfOk result (λ param. param ≡ declared self) }
     {
@@ -32,7 +32,7 @@ impl NamedKind {
     }
 }
 
-/// What arguments are read by: a name and a kind.
+/// A parameter for which an argument can be read: it has a name and a kind.
 pub(crate) trait Parameter {
     ghost use Rattle.kb_core.specs.declared.parameter.Param.{Param};
 
@@ -42,7 +42,7 @@ pub(crate) trait Parameter {
     fn name(&self) -> &str
         ensures { result.now ≡ (declares self.now).name };
 
-    /// What the parameter takes.
+    /// The parameter's kind.
     fn kind(&self) -> Kind
         ensures { result ≡ (declares self.now).kind };
 }

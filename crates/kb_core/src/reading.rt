@@ -1,4 +1,4 @@
-//! The reading of arguments from JSON, by parameters.
+//! Reading arguments from JSON, by the parameters of a command.
 ghost use Rattle.std.specs.Prelude.{◌≡◌, ◌≤◌, IfOk, [], ◌∷◌, length, map, option_map, Some};
 ghost use Rattle.serde_json.specs.View.{view};
 ghost use Rattle.kb_core.specs.Arg.{empty_of};
@@ -9,11 +9,11 @@ ghost use Rattle.kb_core.specs.Signature.{fits};
 use crate::arg::{Arg, Kind};
 use crate::args::Args;
 use crate::parameter::{Param, Parameter};
-use kb_context::{NoMemory, Text};
+use kb_base::{NoMemory, Text};
 use serde_json::Value;
 use std::alloc::Global;
 
-/// Whether arguments fit parameters.
+/// Whether the arguments fit the parameters: one for each, of its kind.
 pub(crate) fn fits(params: &[Param], args: &[Arg]) -> bool
     ensures { result ≡ fits params.now args.now }
 {
@@ -28,7 +28,7 @@ pub(crate) fn fits(params: &[Param], args: &[Arg]) -> bool
     true
 }
 
-/// The argument that a text, a whole number or a truth value is.
+/// The argument for a text, an integer or a boolean; `None` for any other value. Error: `NoMemory`.
 fn plain_of(alloc: Global, value: &Value) -> Result<Option<Arg>, NoMemory>
     ensures { IfOk result (λ arg. arg ≡ plain_of (view value.now)) }
 {
@@ -40,7 +40,7 @@ fn plain_of(alloc: Global, value: &Value) -> Result<Option<Arg>, NoMemory>
     }
 }
 
-/// The argument that the value is, if it is of the kind.
+/// The argument for a value, or `None` if it is not of the kind. Error: `NoMemory`.
 fn arg_of(alloc: Global, kind: Kind, value: &Value) -> Result<Option<Arg>, NoMemory>
     ensures { IfOk result (λ arg. arg ≡ arg_of kind (view value.now)) }
 {
@@ -50,7 +50,8 @@ fn arg_of(alloc: Global, kind: Kind, value: &Value) -> Result<Option<Arg>, NoMem
     }
 }
 
-/// The argument of a parameter whose member of an object this is.
+/// The argument for a member of an object: the empty value of the kind if the member is absent or `null`,
+/// and `None` if it is not of the kind. Error: `NoMemory`.
 fn member_arg(alloc: Global, kind: Kind, member: Option<&Value>) -> Result<Option<Arg>, NoMemory>
     ensures { IfOk result (λ arg. arg ≡ member_arg kind (option_map (λ v. view v.now) member.entry)) }
 {
@@ -60,7 +61,7 @@ fn member_arg(alloc: Global, kind: Kind, member: Option<&Value>) -> Result<Optio
     }
 }
 
-/// For each parameter its member.
+/// The member of each parameter's name, or `None` if one is not of its kind. Error: `NoMemory`.
 fn object_args<P: Parameter>(
     alloc: Global,
     params: &[P],
@@ -80,7 +81,7 @@ fn object_args<P: Parameter>(
     Ok(Some(args))
 }
 
-/// For each parameter the empty value of its kind.
+/// The empty value for each parameter. Error: `NoMemory`.
 fn empty_args<P: Parameter>(alloc: Global, params: &[P]) -> Result<Args, NoMemory>
     requires { length params.now ≤ parameter_limit }
     ensures { IfOk result (λ args. args ≡ map (λ p. empty_of p.kind) (map P.declares params.now)) }
@@ -92,7 +93,7 @@ fn empty_args<P: Parameter>(alloc: Global, params: &[P]) -> Result<Args, NoMemor
     Ok(args)
 }
 
-/// The value as the only argument, if it is of the kind.
+/// The value as the only argument, or `None` if it is not of the kind. Error: `NoMemory`.
 fn only_arg(alloc: Global, kind: Kind, value: &Value) -> Result<Option<Args>, NoMemory>
     ensures { IfOk result (λ args. args ≡ option_map (λ a. a ∷ []) (arg_of kind (view value.now))) }
 {
@@ -104,7 +105,8 @@ fn only_arg(alloc: Global, kind: Kind, value: &Value) -> Result<Option<Args>, No
     Ok(Some(args))
 }
 
-/// A lone value, for a lone parameter.
+/// A text, an integer or a boolean for the only parameter; `None` if it does not fit or there are more
+/// parameters. Error: `NoMemory`.
 fn lone_arg<P: Parameter>(
     alloc: Global,
     params: &[P],
@@ -118,7 +120,7 @@ fn lone_arg<P: Parameter>(
     }
 }
 
-/// The arguments that the value gives the parameters.
+/// The arguments that a JSON value gives; see `Signature::read_args` for the rules. Error: `NoMemory`.
 pub(crate) fn arguments_for<P: Parameter>(
     alloc: Global,
     params: &[P],

@@ -1,9 +1,9 @@
-//! The plain implementation of the native commands.
+//! The default implementation of the native commands.
 ghost use Rattle.std.specs.Prelude.{◌≡◌, IsTrue, OnOk, OnErr, IfOk, None};
 ghost use Rattle.kb_core.specs.Core.{new_core, core_after};
 ghost use Rattle.kb_context.specs.Scopes.{set_fault_at, value_at};
 ghost use Rattle.kb_core.specs.Native.{text_of, value_of, with_root_key, parameters_of, MayLackMemory};
-ghost use Rattle.kb_core.specs.Native.{buffer_after, MayGrow};
+ghost use Rattle.kb_core.specs.Native.{buffer_after, budget_of, Fits, MayGrow};
 ghost use Rattle.kb_core.specs.Ran.{Does};
 ghost use Rattle.kb_core.specs.Signature.{fits};
 ghost use Rattle.kb_core.specs.declared.native.Native.TheVariants.{SetContext};
@@ -12,17 +12,18 @@ use crate::arg::Arg;
 use crate::args::Args;
 use crate::buffer::Buffer;
 use crate::native::Native;
-use kb_context::{ContextValue, Failure, NoMemory, Scopes};
+use kb_base::{Failure, NoMemory};
+use kb_context::{ContextValue, Scopes};
 use std::alloc::{AllocError, Global};
 
-/// What commands change: the text round the caret, and the scopes of context keys.
+/// What commands change: the text buffer, and the scopes of context keys.
 #[derive(Debug, Drop)]
 pub struct Core {
     pub buffer: Buffer,
     pub scopes: Scopes,
 }
 
-/// The core after a native command, and what the command cost, in instructions.
+/// The core after a native command, and the cost of the command in instructions.
 #[derive(Debug, Drop)]
 pub struct Ran {
     pub core: Core,
@@ -30,7 +31,7 @@ pub struct Ran {
 }
 
 impl Core {
-    /// The core at first: no text, and these scopes. It takes no memory.
+    /// The initial core: an empty buffer, and these scopes.
     pub fn new(alloc: Global, scopes: Scopes) -> Core
         ensures { result ≡ new_core scopes }
     {
@@ -41,8 +42,8 @@ impl Core {
     }
 }
 
-/// Runs a native command with arguments that fit it. It costs 1, or the core comes back unchanged
-/// with `NoMemory`, where a text may grow or a new context key is put in.
+/// Runs a native command with arguments that fit it. The cost is 1. Error: `NoMemory`, only if a text may
+/// grow or a context key is added; the core is then unchanged.
 pub fn plain(native: Native, core: Core, args: Args) -> Ran
     requires { IsTrue (fits (parameters_of native) args) }
     ensures ok { OnOk result.cost (result.core ≡ core_after native args core) }
@@ -59,7 +60,26 @@ pub fn plain(native: Native, core: Core, args: Args) -> Ran
     Ran { core, cost }
 }
 
-/// Changes the core as the command does, or not at all.
+/// Runs a native command like [`plain`], at the cost of its whole budget (our decision).
+pub fn at_budget(native: Native, core: Core, args: Args) -> Ran
+    requires { Fits native args }
+    ensures does { Does native core args result }
+    ensures cost { IfOk result.cost (λ cost. cost ≡ budget_of native) }
+{
+    let Ran { core, cost } = plain(native, core, args);
+    match cost {
+        Ok(_) => Ran {
+            core,
+            cost: Ok(native.budget()),
+        },
+        Err(refused) => Ran {
+            core,
+            cost: Err(refused),
+        },
+    }
+}
+
+/// Runs the command on the core. Error: `NoMemory`; the core is then unchanged.
 fn edit(native: Native, core: &mut Core, args: Args) -> Result<(), NoMemory>
     requires { IsTrue (fits (parameters_of native) args) }
     ensures ok { OnOk result (core.new ≡ core_after native args core.old) }
@@ -73,7 +93,8 @@ fn edit(native: Native, core: &mut Core, args: Args) -> Result<(), NoMemory>
     }
 }
 
-/// Changes the text as the command does, or not at all. A command that sets a context key leaves it.
+/// Runs the command on the buffer. `setContext` leaves it unchanged. Error: `NoMemory`; the buffer is then
+/// unchanged.
 fn edit_text(native: Native, buffer: &mut Buffer, args: &[Arg]) -> Result<(), NoMemory>
     ensures ok { OnOk result (buffer.new ≡ buffer_after native args.now buffer.old) }
     ensures err { OnErr result (buffer.new ≡ buffer.old) }
@@ -101,7 +122,8 @@ fn edit_text(native: Native, buffer: &mut Buffer, args: &[Arg]) -> Result<(), No
     }
 }
 
-/// Gives the key that the first argument is the value that the second one is.
+/// Sets the context key that the first argument names to the second argument. Error: `NoMemory`; the
+/// scopes are then unchanged.
 fn set_context(scopes: &mut Scopes, args: Args) -> Result<(), NoMemory>
     requires { IsTrue (fits (parameters_of SetContext) args) }
     ensures ok { OnOk result (scopes.new ≡ with_root_key (text_of args) (value_of args) scopes.old) }
@@ -114,9 +136,9 @@ fn set_context(scopes: &mut Scopes, args: Args) -> Result<(), NoMemory>
     set_root_key(scopes, text_of(args.as_slice()), ContextValue::from(value))
 }
 
-/// Gives a key a value in the outermost scope. Where the key is new there while as many keys stand as
-/// may, the scopes stay, and that is no refusal (our decision). Where memory is refused, which only a
-/// new key wants, the scopes stay too.
+/// Sets a context key in the outermost scope. If the scope lacks the key and the limit on keys is reached,
+/// it does nothing and returns `Ok` (our decision). Error: `NoMemory`, only for a new key; the scopes are
+/// then unchanged.
 fn set_root_key(scopes: &mut Scopes, key: &str, value: ContextValue) -> Result<(), NoMemory>
     ensures ok { OnOk result (scopes.new ≡ with_root_key key.now value scopes.old) }
     ensures err { OnErr result (scopes.new ≡ scopes.old) }
@@ -129,7 +151,7 @@ fn set_root_key(scopes: &mut Scopes, key: &str, value: ContextValue) -> Result<(
     }
 }
 
-/// The text that the first argument is.
+/// The first argument, if it is a text, or else an empty text.
 fn text_of(args: &[Arg]) -> &str
     ensures { result.now ≡ text_of args.now }
 {

@@ -1,3 +1,6 @@
 pub mod Elements
 pub mod ExtensionLemmas
+pub mod ExtensionsLemmas
+pub mod FileLemmas
+pub mod IdentifiersLemmas
 pub mod Window

@@ -1,9 +1,9 @@
 -- The value of a context key that a text is, or the refusal for the first fault of the text.
 use Rattle.std.specs.Prelude.{ℕ, List, Result}
-use Rattle.kb_context.specs.declared.refusal.Refusal.{Refusal}
+use Rattle.kb_base.specs.declared.refusal.Refusal.{Refusal}
 use Rattle.kb_context.specs.declared.value.ContextValue.{ContextValue}
-use Rattle.kb_context.specs.Reading.{◌>>=◌}
-use Rattle.kb_context.specs.Refusal.{numbered}
+use Rattle.kb_base.specs.Reading.{◌>>=◌}
+use Rattle.kb_base.specs.Refusal.{numbered}
 use Rattle.kb_manifest.specs.Context.{context_of}
 use Rattle.kb_json.specs.FileFault.{number_of}
 use Rattle.kb_files.specs.Value.{data_of}

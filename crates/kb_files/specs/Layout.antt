@@ -3,10 +3,10 @@ use Rattle.std.specs.Prelude.{ℕ, List, [], ◌∷◌, Option, Some, None, Resu
 use Rattle.std.specs.FinMap.{empty}
 use Rattle.kb_context.specs.declared.layout.Layout.{Layout}
 use Rattle.kb_context.specs.declared.fault.ScopeFault.{ScopeFault}
-use Rattle.kb_context.specs.declared.refusal.Refusal.{Refusal}
+use Rattle.kb_base.specs.declared.refusal.Refusal.{Refusal}
 use Rattle.kb_context.specs.Layout.{layout_fault, scopes_of}
-use Rattle.kb_context.specs.Reading.{◌>>=◌}
-use Rattle.kb_context.specs.Refusal.{numbered}
+use Rattle.kb_base.specs.Reading.{◌>>=◌}
+use Rattle.kb_base.specs.Refusal.{numbered}
 use Rattle.kb_context.specs.ScopeFault.{number_of}
 use Rattle.kb_context.specs.Scopes.{ScopesData}
 use Rattle.kb_json.specs.FileFault.{number_of as shape_number}

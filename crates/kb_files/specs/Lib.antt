@@ -1,6 +1,9 @@
 pub mod Context
 pub mod Extension
+pub mod Extensions
+pub mod Fault
 pub mod HandlerFile
+pub mod Identifiers
 pub mod Layout
 pub mod Marked
 pub mod RuleFile

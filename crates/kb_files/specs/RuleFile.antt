@@ -2,15 +2,15 @@
 -- for the first fault of the file, which doesn't hang on marks.
 use Rattle.std.specs.Prelude.{ℕ, List, None, Result}
 use Rattle.serde_json.specs.Data.{Data}
-use Rattle.kb_context.specs.declared.refusal.Refusal.{Refusal}
-use Rattle.kb_context.specs.Reading.{◌>>=◌, or_fault, seen}
-use Rattle.kb_context.specs.Refusal.{numbered}
+use Rattle.kb_base.specs.declared.refusal.Refusal.{Refusal}
+use Rattle.kb_base.specs.Reading.{◌>>=◌, or_fault, seen}
+use Rattle.kb_base.specs.Refusal.{numbered}
 use Rattle.kb_json.specs.declared.fault.FileFault.TheVariants.{WrongShape}
 use Rattle.kb_json.specs.FileFault.{number_of}
 use Rattle.kb_json.specs.Parts.{elements_of}
 use Rattle.kb_rules.specs.RuleList.{Listed, listed}
-use Rattle.kb_rules.specs.declared.origin.Origin.{Origin}
-use Rattle.kb_rules.specs.declared.unread.UnreadAt.{UnreadAt}
+use Rattle.kb_base.specs.declared.note.Origin.{Origin}
+use Rattle.kb_base.specs.declared.note.UnreadPattern.{UnreadPattern}
 use Rattle.kb_files.specs.Value.{data_of}
 
 -- the elements of a file, which has to be an array
@@ -21,8 +21,8 @@ abbrev pub elements_held : List ℕ → Result (List Data) Refusal
 elements_held bytes = data_of bytes >>= elements_in
 
 -- what these elements give, for these marks; a rule of a file has one key for all platforms
-abbrev pub rules_by : List UnreadAt → Origin → List Data → Listed
+abbrev pub rules_by : List UnreadPattern → Origin → List Data → Listed
 rules_by marks origin ds = listed marks origin None ds
 
-unfoldable pub rules_in : List UnreadAt → Origin → List ℕ → Result Listed Refusal
+unfoldable pub rules_in : List UnreadPattern → Origin → List ℕ → Result Listed Refusal
 rules_in marks origin bytes = seen (rules_by marks origin) (elements_held bytes)

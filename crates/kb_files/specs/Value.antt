@@ -1,10 +1,10 @@
 -- The JSON value that the bytes of a file hold, or the refusal for the first fault of its text.
 use Rattle.std.specs.Prelude.{ℕ, List, Result}
 use Rattle.serde_json.specs.Data.{Data}
-use Rattle.kb_context.specs.declared.failure.Failure.{Failure}
-use Rattle.kb_context.specs.declared.failure.Failure.TheVariants.{NoMemory, Fault}
-use Rattle.kb_context.specs.declared.refusal.Refusal.{Refusal}
-use Rattle.kb_context.specs.Refusal.{refused_for, numbered}
+use Rattle.kb_base.specs.declared.failure.Failure.{Failure}
+use Rattle.kb_base.specs.declared.failure.Failure.TheVariants.{NoMemory, Fault}
+use Rattle.kb_base.specs.declared.refusal.Refusal.{Refusal}
+use Rattle.kb_base.specs.Refusal.{refused_for, numbered}
 use Rattle.kb_jsonc.specs.Fault.{number_of}
 use Rattle.kb_jsonc.specs.Reader.{value_of}
 

@@ -1,10 +1,11 @@
 //! The value of a context key, read from a text.
-ghost use Rattle.kb_context.specs.Failure.{Gives};
+ghost use Rattle.kb_base.specs.Failure.{Gives};
 ghost use Rattle.kb_files.specs.Context.{context_in};
 
 use crate::failures::shape_failure;
 use crate::value::read_value;
-use kb_context::{ContextValue, Failure, Refusal};
+use kb_base::{Failure, Refusal};
+use kb_context::ContextValue;
 use kb_manifest::read_context;
 use std::alloc::Global;
 

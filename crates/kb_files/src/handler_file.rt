@@ -1,12 +1,12 @@
 //! The handlers of an extension, read from the bytes of its `handlers.json`.
-ghost use Rattle.kb_context.specs.Failure.{Gives};
+ghost use Rattle.kb_base.specs.Failure.{Gives};
 ghost use Rattle.kb_files.specs.HandlerFile.{handlers_in};
 
 use crate::failures::handlers_failure;
 use crate::value::read_value;
+use kb_base::{Failure, Refusal, Seq};
 use kb_code::Handler;
-use kb_context::{Failure, Refusal, Seq};
-use kb_handlers::HandlerFile;
+use kb_handler_file::HandlerFile;
 use std::alloc::Global;
 
 /// The handlers of a `handlers.json`, in file order: JSON with comments whose value is a file of handlers

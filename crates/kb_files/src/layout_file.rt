@@ -1,12 +1,13 @@
 //! The scopes of an engine, read from the bytes of a layout file.
 ghost use Rattle.std.specs.Prelude.{◌≡◌, Ok, IfOk, option_map};
-ghost use Rattle.kb_context.specs.Failure.{Gives};
+ghost use Rattle.kb_base.specs.Failure.{Gives};
 ghost use Rattle.kb_files.specs.Layout.{layout_in, layout_scopes, scopes_in, scopes_for};
 ghost use Rattle.kb_files.specs.Layout.{window_layout, window_scopes};
 
 use crate::failures::{scope_failure, shape_failure};
 use crate::value::read_value;
-use kb_context::{Failure, Layout, LayoutScope, NoMemory, Refusal, Scopes, Seq, Text, TextMap};
+use kb_base::{Failure, NoMemory, Refusal, Seq, Text, TextMap};
+use kb_context::{Layout, LayoutScope, Scopes};
 use kb_manifest::read_layout;
 use std::alloc::Global;
 
@@ -48,7 +49,7 @@ fn make_scopes(alloc: Global, layout: Layout) -> Result<Scopes, Failure<Refusal>
     Scopes::new(alloc, layout).map_err(scope_failure)
 }
 
-/// The one scope `window`, which is no layout's fault: only memory may be refused.
+/// The one scope `window`. Its layout has no fault, so that only memory can be refused.
 fn window(alloc: Global) -> Result<Scopes, Failure<Refusal>>
     ensures { Gives (λ scopes. scopes) result (Ok window_scopes) }
 {

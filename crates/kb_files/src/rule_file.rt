@@ -1,21 +1,20 @@
 //! Rules, read from the bytes of their file.
 ghost use Rattle.std.specs.Prelude.{◌≡◌, map, IfOk};
 ghost use Rattle.serde_json.specs.View.{view};
-ghost use Rattle.kb_context.specs.Failure.{Gives};
-ghost use Rattle.kb_context.specs.Reading.{seen};
+ghost use Rattle.kb_base.specs.Failure.{Gives};
+ghost use Rattle.kb_base.specs.Reading.{seen};
 ghost use Rattle.kb_rules.specs.RuleList.{AreRightlyMarked};
 ghost use Rattle.kb_files.specs.Marked.{ReadsBy};
 ghost use Rattle.kb_files.specs.RuleFile.{rules_in, rules_by, elements_in, elements_held};
 
 use crate::value::read_value;
-use kb_context::{Failure, NoMemory, Refusal};
+use kb_base::{Failure, NoMemory, Refusal};
 use kb_json::{FileFault, elements_in};
 use kb_rules::{Origin, RuleList, read_list};
 use serde_json::Value;
 use std::alloc::Global;
 
-/// The rules of a file, with a warning for each element that is dropped, and the patterns that
-/// aren't read: JSON with comments whose value is an array, as VS Code's `keybindings.json`.
+/// The rules of a file, with a warning for each dropped element, and the unread patterns: JSON with comments whose value is an array, as VS Code's `keybindings.json`.
 ///
 /// Errors: the first fault of the file, those of its text (1 to 4) and then another shape (41); or
 /// `NoMemory`.
@@ -23,7 +22,7 @@ use std::alloc::Global;
 pub fn read_rules(alloc: Global, bytes: &[u8], origin: Origin) -> Result<RuleList, Failure<Refusal>>
     ensures read { ReadsBy (λ marks. rules_in marks origin bytes.now) result }
 
-    // A pattern is marked exactly where `regex` doesn't read it.
+    // A pattern is marked as unread exactly where `regex` rejects it.
     ensures right { IfOk result AreRightlyMarked }
 {
     let elements = read_elements(alloc, bytes)?;
@@ -47,7 +46,7 @@ fn read_elements(alloc: Global, bytes: &[u8]) -> Result<Vec<Value>, Failure<Refu
     rule_elements(value).map_err(Failure::Fault)
 }
 
-/// The elements of a file, which has to be an array (else 41). It takes no memory.
+/// The elements of a file, which has to be an array (else 41).
 fn rule_elements(value: Value) -> Result<Vec<Value>, Refusal>
     ensures { seen (λ elements. map view elements.items) result ≡ elements_in (view value) }
 {

@@ -1,10 +1,10 @@
 //! The JSON value that the bytes of a file hold.
 ghost use Rattle.serde_json.specs.View.{view};
-ghost use Rattle.kb_context.specs.Failure.{Gives};
+ghost use Rattle.kb_base.specs.Failure.{Gives};
 ghost use Rattle.kb_files.specs.Value.{data_of};
 
 use crate::failures::text_failure;
-use kb_context::{Failure, Refusal};
+use kb_base::{Failure, Refusal};
 use serde_json::Value;
 use std::alloc::Global;
 

@@ -3,7 +3,7 @@
 use Rattle.std.specs.Prelude.{ℕ, List, Option, Some, None, Result, Ok}
 use Rattle.serde_json.specs.Data.{Data}
 use Rattle.serde_json.specs.Find.{as_str}
-use Rattle.kb_context.specs.Reading.{◌>>=◌, or_fault, or_default}
+use Rattle.kb_base.specs.Reading.{◌>>=◌, or_fault, or_default}
 use Rattle.kb_json.specs.declared.fault.FileFault.{FileFault}
 use Rattle.kb_json.specs.declared.fault.FileFault.TheVariants.{MissingMember, WrongShape}
 

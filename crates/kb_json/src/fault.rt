@@ -1,5 +1,5 @@
-//! What is wrong with a JSON value that is not what a file should hold.
-use kb_context::Failure;
+//! The faults of a JSON value that is not what a file should hold.
+use kb_base::Failure;
 use thiserror::Error;
 
 /// Why a JSON value was not read as what a file should hold. The numbers are our decision.
@@ -30,7 +30,7 @@ impl FileFault {
 
 impl From<FileFault> for Failure<FileFault> {
     ghost use Rattle.std.specs.Prelude.{◌≡◌};
-    ghost use Rattle.kb_context.specs.declared.failure.Failure.TheVariants.{Fault};
+    ghost use Rattle.kb_base.specs.declared.failure.Failure.TheVariants.{Fault};
 
     ghost from_gives = { λ fault failure. failure ≡ Fault fault };
 

@@ -1,5 +1,5 @@
-//! Shapes of JSON values: members, elements and texts, moved out of the values that have them, and what is
-//! wrong with a value that hasn't the shape of what a file should hold.
+//! Parts of JSON values: members, elements and texts, moved out of the values that contain them, and the
+//! faults of a value with the wrong shape.
 #![tactic(auto)]
 
 pub mod fault;
@@ -8,6 +8,6 @@ pub mod parts;
 pub mod texts;
 
 pub use fault::FileFault;
-pub use member::{optional_text, required_text};
+pub use member::{optional_text, required_text, text_of};
 pub use parts::{elements_in, members_in, take_member, text_in, word_in};
 pub use texts::read_texts;

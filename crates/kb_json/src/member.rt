@@ -1,21 +1,25 @@
-//! The texts that the members of an entry are.
+//! Members of an entry that are texts.
 ghost use Rattle.std.specs.Prelude.{◌≡◌, option_map};
 ghost use Rattle.serde_json.specs.View.{view};
 ghost use Rattle.kb_json.specs.Member.{text_of, required_text, optional_text};
 
 use crate::fault::FileFault;
 use crate::parts::text_in;
-use kb_context::Text;
+use kb_base::Text;
 use serde_json::Value;
 
-/// The text that a value is.
-fn text_of(value: Value) -> Result<Text, FileFault>
+/// The text that a value is, moved out of it.
+///
+/// Errors: `WrongShape` where the value is no text.
+pub fn text_of(value: Value) -> Result<Text, FileFault>
     ensures { result ≡ text_of (view value) }
 {
     text_in(value).ok_or(FileFault::WrongShape)
 }
 
-/// The text of a member that must be there. It takes no memory.
+/// The text of a member that must be there, moved out of it.
+///
+/// Errors: `MissingMember` where the member is absent, `WrongShape` where it is no text.
 pub fn required_text(member: Option<Value>) -> Result<Text, FileFault>
     ensures { result ≡ required_text (option_map view member) }
 {
@@ -25,7 +29,9 @@ pub fn required_text(member: Option<Value>) -> Result<Text, FileFault>
     }
 }
 
-/// The text of a member that may be absent. It takes no memory.
+/// The text of a member that may be absent, moved out of it.
+///
+/// Errors: `WrongShape` where the member is no text.
 pub fn optional_text(member: Option<Value>) -> Result<Option<Text>, FileFault>
     ensures { result ≡ optional_text (option_map view member) }
 {

@@ -4,10 +4,10 @@ ghost use Rattle.serde_json.specs.Find.{get_member, as_str, as_object};
 ghost use Rattle.serde_json.specs.View.{view, items_view, members_view};
 ghost use Rattle.kb_json.specs.Parts.{listed, elements_of, without_member, word_of};
 
-use kb_context::Text;
+use kb_base::Text;
 use serde_json::{Map, Value};
 
-/// The text that a value is, moved out of it, or `None` where it is something else. It takes no memory.
+/// The text that a value is, moved out of it, or `None` where it is something else.
 pub fn text_in(value: Value) -> Option<Text>
     ensures { result ≡ as_str (view value) }
 {
@@ -17,8 +17,7 @@ pub fn text_in(value: Value) -> Option<Text>
     }
 }
 
-/// The text that a value is, moved out of it, or `None` where it is something else or empty. It takes no
-/// memory.
+/// The text that a value is, moved out of it, or `None` where it is something else or empty.
 pub fn word_in(value: Value) -> Option<Text>
     ensures { result ≡ word_of (view value) }
 {
@@ -29,8 +28,8 @@ pub fn word_in(value: Value) -> Option<Text>
     Some(text)
 }
 
-/// The elements of the list that a value is, moved out of it in order, or `None` where it is something
-/// else. It takes no memory.
+/// The elements of the array that a value is, moved out of it in order, or `None` where it is something
+/// else.
 pub fn elements_in(value: Value) -> Option<Vec<Value>>
     ensures { option_map (λ list. listed (items_view list.items)) result ≡ elements_of (view value) }
 {
@@ -40,8 +39,7 @@ pub fn elements_in(value: Value) -> Option<Vec<Value>>
     }
 }
 
-/// The members of the object that a value is, moved out of it, or `None` where it is something else. It
-/// takes no memory.
+/// The members of the object that a value is, moved out of it, or `None` where it is something else.
 pub fn members_in(value: Value) -> Option<Map<String, Value>>
     ensures { option_map (λ members. members_view members.entries) result ≡ as_object (view value) }
 {
@@ -51,8 +49,7 @@ pub fn members_in(value: Value) -> Option<Map<String, Value>>
     }
 }
 
-/// A member, taken out of an object, or `None` where the object lacks it. The others stay. It takes no
-/// memory.
+/// A member, taken out of an object, or `None` where the object lacks it. The others stay.
 pub fn take_member(members: &mut Map<String, Value>, name: &str) -> Option<Value>
     ensures member { option_map view result ≡ get_member name.now (members_view members.old.entries) }
     ensures rest { members_view members.new.entries

@@ -1,14 +1,14 @@
 //! Lists of texts.
 ghost use Rattle.serde_json.specs.Find.{as_str};
 ghost use Rattle.serde_json.specs.View.{items_view};
-ghost use Rattle.kb_context.specs.Failure.{Gives};
-ghost use Rattle.kb_context.specs.Reading.{or_fault};
+ghost use Rattle.kb_base.specs.Failure.{Gives};
+ghost use Rattle.kb_base.specs.Reading.{or_fault};
 ghost use Rattle.kb_json.specs.declared.fault.FileFault.TheVariants.{WrongShape};
 ghost use Rattle.kb_json.specs.Parts.{each, listed};
 
 use crate::fault::FileFault;
 use crate::parts::text_in;
-use kb_context::{Failure, Seq, Text};
+use kb_base::{Failure, Seq, Text};
 use serde_json::Value;
 use std::alloc::Global;
 

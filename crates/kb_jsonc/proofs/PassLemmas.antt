@@ -1,7 +1,7 @@
--- What the pass over a text keeps, a piece at a time.
-use Rattle.std.proofs.Common.{◌≡◌, ◌≢◌, ℕ, zero, lit<, ◌+◌, ◌-◌, ◌<◌, ◌≤◌, suc, Bool, true, false, ◌&&◌, List}
-use Rattle.std.proofs.Common.{[], ◌∷◌, ◌++◌, length, get_or, set, take, drop, map, Option, Some, None, IfSome}
-use Rattle.std.proofs.Common.{Ok, Err, refl, sym, ap, ◌∙◌, arith, eqb}
+-- Each step of the pass keeps its invariant.
+use Rattle.std.proofs.Common.{◌≡◌, ◌≢◌, ℕ, zero, lit<, ◌+◌, ◌-◌, ◌<◌, ◌≤◌, suc, Bool, true, false, ◌&&◌}
+use Rattle.std.proofs.Common.{List, [], ◌∷◌, ◌++◌, length, get_or, set, take, drop, map, Option, Some, None}
+use Rattle.std.proofs.Common.{IfSome, Ok, Err, refl, sym, ap, ◌∙◌, arith, eqb}
 use Rattle.std.specs.Str.{IsUtf8, IsAscii}
 use Rattle.std.proofs.lemmas.Bool.{ne_eqb}
 use Rattle.std.proofs.lemmas.Bool.Decides.{nat_tests}
@@ -17,7 +17,7 @@ use borrow.Rule.Slice.PartMut.{put_mid}
 use Rattle.kb_jsonc.specs.declared.fault.JsoncFault.{JsoncFault}
 use Rattle.kb_jsonc.specs.declared.fault.JsoncFault.TheVariants.{OpenString}
 use Rattle.kb_jsonc.specs.declared.scan.Scan.{Scan}
-use Rattle.kb_context.specs.Blank.{is_blank}
+use Rattle.kb_base.specs.Blank.{is_blank}
 use Rattle.kb_jsonc.specs.Bytes.{space, comma, blanked, closes, ends_value}
 use Rattle.kb_jsonc.specs.Pieces.{Piece, quoted, comment, single, bytes_of, string_len, first_of}
 use Rattle.kb_jsonc.specs.Pieces.{OpensComment}

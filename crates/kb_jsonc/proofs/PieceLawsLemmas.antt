@@ -1,15 +1,15 @@
--- The laws of the pieces and of the plain text, for every text.
+-- The laws of the pieces and of the blanked text, for every text.
 use Rattle.std.proofs.Common.{◌≡◌, ℕ, zero, suc, cond, min, ◌+◌, ◌-◌, ◌<◌, ◌≤◌, ◌⊎◌, inl, inr, Bool, true}
-use Rattle.std.proofs.Common.{false, ◌&&◌, List, [], ◌∷◌, ◌++◌, length, get_or, take, drop, map, Option, Some}
-use Rattle.std.proofs.Common.{None, option_map, Result, Ok, Err, refl, sym, ap, ◌∙◌, subst, arith, eqb}
+use Rattle.std.proofs.Common.{false, ◌&&◌, List, [], ◌∷◌, ◌++◌, length, get_or, take, drop, map, Option}
+use Rattle.std.proofs.Common.{Some, None, option_map, Result, Ok, Err, refl, sym, ap, ◌∙◌, subst, arith, eqb}
 use Rattle.std.specs.List.{flat_map}
 use Rattle.std.proofs.lemmas.Bool.{false≢true}
 use Rattle.std.proofs.lemmas.Bool.Decides.{nat_tests}
 use Rattle.std.proofs.lemmas.List.{length-append, length-map, length-take, drop_min, take-append-drop}
 use Rattle.kb_jsonc.specs.declared.fault.JsoncFault.{JsoncFault}
 use Rattle.kb_jsonc.specs.declared.fault.JsoncFault.TheVariants.{OpenComment, OpenString}
-use Rattle.kb_context.specs.Reading.{◌>>=◌, or_fault}
-use Rattle.kb_context.specs.Blank.{is_blank}
+use Rattle.kb_base.specs.Reading.{◌>>=◌, or_fault}
+use Rattle.kb_base.specs.Blank.{is_blank}
 use Rattle.kb_jsonc.specs.Bytes.{is_line_end, blanked}
 use Rattle.kb_jsonc.specs.Pieces.{Piece, quoted, comment, single, bytes_of, begins, string_len, block_len}
 use Rattle.kb_jsonc.specs.Pieces.{line_len, first_piece, pieces_past, pieces}

@@ -1,4 +1,4 @@
--- How far a string or a comment goes, a step at a time, and what stands first.
+-- Lengths of strings and comments, one step at a time, and the first piece of a text.
 use Rattle.std.proofs.Common.{◌≡◌, ◌≢◌, ℕ, lit<, ◌+◌, ◌-◌, ◌<◌, ◌≤◌, true, false, List, [], ◌∷◌, length}
 use Rattle.std.proofs.Common.{get_or, take, drop, suc, Option, Some, None, option_map, Ok, Err, refl, ap}
 use Rattle.std.proofs.Common.{arith, eqb, ◌&&◌}

@@ -1,6 +1,6 @@
--- The value of a file, an equation for each exit.
-use Rattle.std.proofs.Common.{◌≡◌, ◌⊎◌, inl, inr, subst, arith, encode_utf8, ℕ, Bool, true, false, ◌&&◌, List}
-use Rattle.std.proofs.Common.{[], ◌∷◌, ◌++◌, Some, None, Result, Ok, Err, refl, sym, ap, ◌∙◌, eqb}
+-- The value of a file: one equation for each return of `read`.
+use Rattle.std.proofs.Common.{◌≡◌, ◌⊎◌, inl, inr, subst, arith, encode_utf8, ℕ, Bool, true, false, ◌&&◌}
+use Rattle.std.proofs.Common.{List, [], ◌∷◌, ◌++◌, Some, None, Result, Ok, Err, refl, sym, ap, ◌∙◌, eqb}
 use lib.Utf8.{encode}
 use Rattle.std.specs.Str.{IsUtf8, is_utf8}
 use Rattle.std.specs.List.{list_all}
@@ -13,11 +13,11 @@ use Rattle.serde_json.specs.Read.{read as read_text}
 use Rattle.serde_json.specs.declared.error.Error.{Error}
 use Rattle.kb_jsonc.specs.declared.fault.JsoncFault.{JsoncFault}
 use Rattle.kb_jsonc.specs.declared.fault.JsoncFault.TheVariants.{NotUtf8, Syntax}
-use Rattle.kb_context.specs.declared.failure.Failure.{Failure}
-use Rattle.kb_context.specs.declared.failure.Failure.TheVariants.{NoMemory, Fault}
-use Rattle.kb_context.specs.Failure.{Fails}
-use Rattle.kb_context.specs.Reading.{◌>>=◌, or_fault}
-use Rattle.kb_context.specs.Blank.{is_blank}
+use Rattle.kb_base.specs.declared.failure.Failure.{Failure}
+use Rattle.kb_base.specs.declared.failure.Failure.TheVariants.{NoMemory, Fault}
+use Rattle.kb_base.specs.Failure.{Fails}
+use Rattle.kb_base.specs.Reading.{◌>>=◌, or_fault}
+use Rattle.kb_base.specs.Blank.{is_blank}
 use Rattle.kb_jsonc.specs.Text.{plain_text}
 use Rattle.kb_jsonc.specs.Reader.{without_mark, plain_value, value_of, TellsError}
 

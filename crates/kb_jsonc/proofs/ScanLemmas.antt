@@ -1,4 +1,4 @@
--- The scan of a text: what is done, and what the rest still gives.
+-- The invariant of the pass: the bytes done, and the result of the rest.
 use Rattle.std.proofs.Common.{◌≡◌, ℕ, zero, ◌-◌, ◌<◌, suc, Bool, true, false, ◌&&◌, List, [], ◌∷◌, ◌++◌}
 use Rattle.std.proofs.Common.{length, get_or, set, drop, map, Option, Some, None, IfSome, Result, Ok, Err}
 use Rattle.std.proofs.Common.{refl, sym, ap, ◌∙◌, arith, eqb, append_assoc}
@@ -7,9 +7,9 @@ use Rattle.std.proofs.lemmas.Bool.{false≢true}
 use Rattle.std.proofs.lemmas.Bool.Decides.{nat_tests}
 use Rattle.std.proofs.lemmas.List.{set-append_left, set_at}
 use Rattle.kb_jsonc.specs.declared.fault.JsoncFault.{JsoncFault}
-use Rattle.kb_context.specs.Reading.{◌>>=◌}
+use Rattle.kb_base.specs.Reading.{◌>>=◌}
 use Rattle.kb_jsonc.specs.Scan.{settled, whole_of, continued}
-use Rattle.kb_context.specs.Blank.{is_blank}
+use Rattle.kb_base.specs.Blank.{is_blank}
 use Rattle.kb_jsonc.specs.Bytes.{space, blanked, closes, ends_value}
 use Rattle.kb_jsonc.specs.Pieces.{Piece, quoted, comment, single, bytes_of, first_piece, pieces_past, pieces}
 use Rattle.kb_jsonc.specs.Text.{next_of, plain_of}

@@ -1,4 +1,4 @@
--- The bytes of a text of JSON with comments.
+-- Bytes with a meaning in JSON with comments.
 use Rattle.std.specs.Prelude.{ℕ, ◌==◌, ◌||◌, not, Bool, false, if◌then◌else◌, Option, Some, None}
 
 abbrev pub quote : ℕ
@@ -23,16 +23,16 @@ space = 32
 abbrev pub is_line_end : ℕ → Bool
 is_line_end b = b == 13 || b == 10
 
--- what a byte of a comment becomes: line ends stay
+-- the byte that replaces a byte of a comment: line ends are kept
 abbrev pub blanked : ℕ → ℕ
 blanked b = if is_line_end b then b else space
 
--- a closing bracket comes next
+-- the next byte is a closing bracket
 abbrev pub closes : Option ℕ → Bool
 closes None = false
 closes (Some b) = b == 93 || b == 125
 
--- an element or a member ended last: there is a byte, and it is no opening bracket, comma or colon
+-- the last byte ends an element or a member: it is not an opening bracket, a comma or a colon
 abbrev pub ends_value : Option ℕ → Bool
 ends_value None = false
 ends_value (Some b) = not (b == 91 || b == 123 || b == comma || b == 58)

@@ -1,4 +1,4 @@
--- The numbers of the faults of a text.
+-- The numbers of the faults of JSON with comments.
 use Rattle.std.specs.Prelude.{ℕ}
 use Rattle.kb_jsonc.specs.declared.fault.JsoncFault.{JsoncFault}
 use Rattle.kb_jsonc.specs.declared.fault.JsoncFault.TheVariants.{NotUtf8, OpenComment, OpenString, Syntax}

@@ -5,7 +5,7 @@ pub mod PieceLaws
 pub mod Reader
 pub mod Scan
 pub mod Text
--- what the clauses of `read` cite
+-- definitions that the clauses of `read` use
 pub use Rattle.serde_json.specs.Data
 pub use Rattle.serde_json.specs.Read
 pub use Rattle.serde_json.specs.View

@@ -1,4 +1,4 @@
-//! The bytes that are blank, and those that become so.
+//! Classes of bytes, and blanking of bytes.
 ghost use Rattle.std.specs.Prelude.{◌≡◌, map};
 ghost use Rattle.kb_jsonc.specs.Bytes.{is_line_end, blanked, ends_value};
 
@@ -9,21 +9,23 @@ pub fn is_line_end(byte: u8) -> bool
     byte == b'\r' || byte == b'\n'
 }
 
-/// Whether an element or a member stands before a comma, from the last byte there that isn't blank.
+/// Whether a comma would follow an element or a member. `before` is the last non-blank byte before the
+/// comma.
 pub fn ends_value(before: Option<u8>) -> bool
     ensures { result ≡ ends_value before }
 {
     !matches!(before, None | Some(b'[' | b'{' | b',' | b':'))
 }
 
-/// What a byte of a comment becomes: line ends stay, so that lines keep their numbers.
+/// The byte that replaces a byte of a comment: a space, or the byte itself for a line end, so that line
+/// numbers stay the same.
 pub fn blanked(byte: u8) -> u8
     ensures { result ≡ blanked byte }
 {
     if is_line_end(byte) { byte } else { b' ' }
 }
 
-/// Makes the bytes of a comment blank.
+/// Replaces the bytes of a comment by blanks.
 #[tactic(auto, using(std::proofs::lemmas::List::Edits::map_over_more))]
 pub fn blank(bytes: &mut [u8])
     ensures { bytes.new ≡ map blanked bytes.old }

@@ -1,24 +1,23 @@
-//! What is wrong with a text of JSON with comments.
-use kb_context::Failure;
+//! Faults of a text of JSON with comments.
+use kb_base::Failure;
 use thiserror::Error;
 
-/// Why a file of JSON with comments could not be read.
+/// Why a file of JSON with comments cannot be read.
 ///
-/// The faults stand in the order in which they are looked for, so a file with several has the first
-/// of them. The order and the numbers are our decision.
+/// The variants are listed in the order in which they are checked; a file with several faults gets the
+/// first of them. The order and the numbers are our decision.
 #[derive(Clone, Copy, Debug, PartialEq, Eq, Error)]
 pub enum JsoncFault {
-    /// The bytes are no UTF-8 text.
+    /// The bytes are not UTF-8.
     #[error("the file is no UTF-8 text")]
     NotUtf8,
-    /// A block comment has no end.
+    /// A block comment is not closed.
     #[error("a block comment has no end")]
     OpenComment,
-    /// A string has no closing quote.
+    /// A string is not closed.
     #[error("a string has no end")]
     OpenString,
-    /// What is left without comments and trailing commas is no JSON text, or nests deeper than 127
-    /// levels.
+    /// The text without comments and trailing commas is not JSON, or nests deeper than 127 levels.
     #[error("the file is no JSON text")]
     Syntax,
 }
@@ -27,8 +26,7 @@ impl JsoncFault {
     ghost use Rattle.std.specs.Prelude.{◌≡◌};
     ghost use Rattle.kb_jsonc.specs.Fault.{number_of};
 
-    /// The fault's number, from 1 to 4 in the order of the variants, by which traces and messages
-    /// name it.
+    /// The fault's number in traces and messages: 1 to 4, in the order of the variants.
     pub fn number(self) -> u32
         ensures { result ≡ number_of self }
     {
@@ -43,7 +41,7 @@ impl JsoncFault {
 
 impl From<JsoncFault> for Failure<JsoncFault> {
     ghost use Rattle.std.specs.Prelude.{◌≡◌};
-    ghost use Rattle.kb_context.specs.declared.failure.Failure.TheVariants.{Fault};
+    ghost use Rattle.kb_base.specs.declared.failure.Failure.TheVariants.{Fault};
 
     ghost from_gives = { λ fault failure. failure ≡ Fault fault };
 

@@ -1,9 +1,9 @@
-//! JSON with comments: JSON in which line comments, block comments and trailing commas may stand, as
-//! in an editor's keybinding files.
+//! JSON with comments: JSON with line comments, block comments and trailing commas, as in VS Code's
+//! `keybindings.json`.
 //!
-//! [`plain`] makes them blank and keeps every other byte in its place, and [`read`] has `serde_json`
-//! read what is left. The definitions in `specs/` cut a text into pieces, and know nothing of the pass
-//! in `src/scan.rt` that is proved to do the same.
+//! [`plain`] replaces comments and trailing commas by blanks and keeps every other byte at its index.
+//! [`read`] passes the result to `serde_json`. The definitions in `specs/` cut a text into pieces. They do
+//! not depend on the one-pass algorithm in `src/scan.rt`, which is proved to give the same result.
 #![tactic(auto)]
 
 mod bytes;

@@ -1,4 +1,4 @@
-//! How far a string or a comment goes.
+//! Lengths of strings and comments.
 ghost use Rattle.std.specs.Prelude.{◌≡◌, ◌-◌, ◌<◌, ◌≤◌, length, slice_index, Ok, IfOk, IfErr, IfSome};
 ghost use Rattle.std.specs.Prelude.{MatchOption};
 ghost use Rattle.kb_jsonc.specs.Bytes.{slash};
@@ -7,9 +7,9 @@ ghost use Rattle.kb_jsonc.specs.Pieces.{single, string_len, block_len, line_len,
 use crate::bytes::is_line_end;
 use crate::fault::JsoncFault;
 
-/// How many bytes a string takes behind its opening quote, with the closing one.
+/// The number of bytes of a string after its opening quote, including the closing quote.
 ///
-/// `None` where it has none.
+/// `None` if the string is not closed.
 #[tactic(auto, using(crate::proofs::PiecesLemmas::string_steps))]
 pub fn string_len(bytes: &[u8]) -> Option<usize>
     ensures value { result ≡ string_len bytes.now }
@@ -26,9 +26,10 @@ pub fn string_len(bytes: &[u8]) -> Option<usize>
     None
 }
 
-/// How many bytes the comment takes whose slash stands first, or `None` where it opens none.
+/// The number of bytes of the comment that begins with the slash at index 0, or `None` if the slash does
+/// not begin a comment.
 ///
-/// `OpenComment` where it is a block comment without an end.
+/// Error: `OpenComment` for a block comment that is not closed.
 pub fn comment_len(bytes: &[u8]) -> Result<Option<usize>, JsoncFault>
     requires { slice_index bytes.now 0 ≡ slash }
     ensures ok { IfOk result
@@ -47,9 +48,9 @@ pub fn comment_len(bytes: &[u8]) -> Result<Option<usize>, JsoncFault>
     }
 }
 
-/// How many bytes a block comment takes behind its opening mark, with its end mark.
+/// The number of bytes of a block comment after `/*`, including `*/`.
 ///
-/// `None` where it has none.
+/// `None` if the comment is not closed.
 #[tactic(auto, using(crate::proofs::PiecesLemmas::block_steps))]
 fn block_len(bytes: &[u8]) -> Option<usize>
     ensures value { result ≡ block_len bytes.now }
@@ -66,7 +67,7 @@ fn block_len(bytes: &[u8]) -> Option<usize>
     None
 }
 
-/// How many bytes stand before the end of the line.
+/// The number of bytes before the end of the line.
 #[tactic(auto, using(crate::proofs::PiecesLemmas::line_steps))]
 fn line_len(bytes: &[u8]) -> usize
     ensures value { result ≡ line_len bytes.now }

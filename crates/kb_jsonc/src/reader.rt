@@ -1,28 +1,27 @@
-//! The value that a file of JSON with comments is.
+//! Reading a file of JSON with comments.
 ghost use Rattle.std.specs.Prelude.{◌≡◌, ◌≤◌, IfOk};
 ghost use Rattle.serde_json.specs.Data.{depth as nesting};
 ghost use Rattle.serde_json.specs.Read.{max_depth};
 ghost use Rattle.serde_json.specs.View.{view};
-ghost use Rattle.kb_context.specs.Failure.{Gives};
+ghost use Rattle.kb_base.specs.Failure.{Gives};
 ghost use Rattle.kb_jsonc.specs.Reader.{value_of, plain_value, without_mark, TellsError};
 
 use crate::fault::JsoncFault;
 use crate::text::plain;
-use kb_context::{Failure, is_blank_text};
+use kb_base::{Failure, is_blank_text};
 use serde_json::{Error, Value};
 use std::alloc::Global;
 
-/// The value that a file of JSON with comments is, from its bytes.
+/// Parses the bytes of a file of JSON with comments.
 ///
-/// The file is UTF-8 text in which line comments, block comments and trailing commas may stand, as VS
-/// Code's documentation has it for "JSON with Comments"; [`plain`] says where. Our decisions: one byte
-/// order mark at the start is dropped, a file of nothing but white space and comments is the empty
-/// list, and up to 127 brackets may stand open at once.
+/// The file is UTF-8 text that may have line comments, block comments and trailing commas, as VS Code's
+/// documentation describes for "JSON with Comments"; see [`plain`] for the rules. Our decisions: one byte
+/// order mark at the start is ignored, a file with only white space and comments is the empty list, and
+/// brackets may nest 127 levels deep.
 ///
-/// Errors: the first of these that holds: `NotUtf8` (1) where the bytes are no UTF-8 text; `OpenComment` (2)
-/// or `OpenString` (3) where a block comment or a string has no end, whichever stands first; `Syntax`
-/// (4) where what is left is no JSON text, has a number out of range, or nests deeper. `NoMemory` (5)
-/// where memory was refused on the way to that answer.
+/// Errors, in this order: `NotUtf8` (1) if the bytes are not UTF-8. `OpenComment` (2) or `OpenString` (3),
+/// for the first block comment or string that is not closed. `Syntax` (4) if the rest is not JSON, has a
+/// number out of range, or nests deeper. `NoMemory` (5) at any point.
 pub fn read(alloc: Global, bytes: &[u8]) -> Result<Value, Failure<JsoncFault>>
     ensures exact { Gives view result (value_of bytes.now) }
     ensures nests { IfOk result (λ value. nesting (view value) ≤ max_depth) }
@@ -34,7 +33,7 @@ pub fn read(alloc: Global, bytes: &[u8]) -> Result<Value, Failure<JsoncFault>>
     plain_value(alloc, plain.as_str())
 }
 
-/// The value that a plain text is.
+/// Parses a text without comments and trailing commas.
 fn plain_value(alloc: Global, text: &str) -> Result<Value, Failure<JsoncFault>>
     ensures exact { Gives view result (plain_value text.now) }
     ensures nests { IfOk result (λ value. nesting (view value) ≤ max_depth) }
@@ -48,7 +47,7 @@ fn plain_value(alloc: Global, text: &str) -> Result<Value, Failure<JsoncFault>>
     }
 }
 
-/// Why a plain text was not read: memory was refused, or the text is no JSON.
+/// The failure for an error of `serde_json`: `NoMemory` or `Syntax`.
 fn syntax_failure(error: &Error) -> Failure<JsoncFault>
     ensures { TellsError error.now result }
 {
@@ -58,7 +57,7 @@ fn syntax_failure(error: &Error) -> Failure<JsoncFault>
     Failure::Fault(JsoncFault::Syntax)
 }
 
-/// The bytes behind the byte order mark, if there is one.
+/// The bytes after the byte order mark, or all bytes if there is none.
 fn without_mark(bytes: &[u8]) -> &[u8]
     ensures { result.now ≡ without_mark bytes.now }
 {

@@ -1,12 +1,12 @@
-//! The pass over a text, from piece to piece, which makes comments and trailing commas blank in place.
+//! The pass over a text that replaces comments and trailing commas by blanks, in place.
 //!
-//! That a comma is trailing shows only at the next byte that isn't blank. So the pass remembers the
-//! place of the last comma that may be, and goes back to that place alone. Every other byte is passed
-//! once, and those of a comment a second time to make them blank: the time is linear.
+//! Whether a comma is trailing depends on the next non-blank byte. So the pass remembers the index of the
+//! last comma that may be trailing, and returns only to this index. Every other byte is visited once, and
+//! a byte of a comment a second time to blank it. The time is linear.
 ghost use Rattle.std.specs.Prelude.{◌≡◌, ◌<◌, length, slice_index, drop, Ok, Err, IfOk, IfErr, OnOk};
 ghost use Rattle.std.specs.Prelude.{true, false};
 ghost use Rattle.std.specs.Str.{IsUtf8};
-ghost use Rattle.kb_context.specs.Blank.{is_blank};
+ghost use Rattle.kb_base.specs.Blank.{is_blank};
 ghost use Rattle.kb_jsonc.specs.Bytes.{quote, slash, comma, closes};
 ghost use Rattle.kb_jsonc.specs.Pieces.{single, first_of};
 ghost use Rattle.kb_jsonc.specs.Text.{plain_text};
@@ -15,20 +15,21 @@ ghost use Rattle.kb_jsonc.specs.Scan.{StandsIn, GoesOn, IsOrdinary, outcome};
 use crate::bytes::{blank, ends_value};
 use crate::fault::JsoncFault;
 use crate::pieces::{comment_len, string_len};
-use kb_context::is_blank;
+use kb_base::is_blank;
 
-/// How far the pass has come.
+/// The state of the pass.
 #[derive(Clone, Copy, Debug)]
 struct Scan {
-    /// How many bytes are behind it.
+    /// The number of bytes visited.
     at: usize,
-    /// The last of them that isn't blank, where comments are.
+    /// The last of them that is not blank; comments count as blank.
     before: Option<u8>,
-    /// Where a comma waits among them that is trailing if a closing bracket comes next.
+    /// The index of the last comma, if it is trailing when a closing bracket comes next.
     comma: Option<usize>,
 }
 
-/// Makes the comments and the trailing commas of a text blank.
+/// Replaces the comments and trailing commas of a text by blanks. Errors: `OpenComment` and `OpenString`,
+/// for the first block comment or string that is not closed.
 pub fn make_plain(bytes: &mut [u8]) -> Result<(), JsoncFault>
     requires { IsUtf8 bytes.old }
     ensures ok { OnOk result (plain_text bytes.old ≡ Ok bytes.new) }
@@ -46,7 +47,7 @@ pub fn make_plain(bytes: &mut [u8]) -> Result<(), JsoncFault>
     Ok(())
 }
 
-/// Goes past what stands next: white space, a string, a comment or one other byte.
+/// Passes the next item: white space, a string, a comment, or one other byte.
 fn pass(bytes: &mut [u8], scan: Scan) -> Result<Scan, JsoncFault>
     requires stands { StandsIn bytes.old scan }
     requires within { scan.at < length bytes.old }
@@ -63,9 +64,9 @@ fn pass(bytes: &mut [u8], scan: Scan) -> Result<Scan, JsoncFault>
     }
 }
 
-/// Goes past white space, behind which a comma still waits.
+/// Passes white space and keeps the remembered comma.
 ///
-/// Indented files are full of it, so all that stands together is passed at once.
+/// Indented files have much white space, so a whole run is passed at once.
 fn pass_blanks(bytes: &[u8], scan: Scan) -> Scan
     requires stands { StandsIn bytes.now scan }
     requires within { scan.at < length bytes.now }
@@ -79,7 +80,7 @@ fn pass_blanks(bytes: &[u8], scan: Scan) -> Scan
     Scan { at, ..scan }
 }
 
-/// Goes past a string, whatever stands in it.
+/// Passes a string. Its content is not inspected, except for escapes.
 fn pass_string(bytes: &[u8], scan: Scan) -> Result<Scan, JsoncFault>
     requires stands { StandsIn bytes.now scan }
     requires within { scan.at < length bytes.now }
@@ -97,7 +98,7 @@ fn pass_string(bytes: &[u8], scan: Scan) -> Result<Scan, JsoncFault>
     })
 }
 
-/// Goes past the comment that a slash opens, if it opens one, and makes it blank.
+/// Passes a comment and blanks it, or passes the slash alone if it does not begin a comment.
 fn pass_slash(bytes: &mut [u8], scan: Scan) -> Result<Scan, JsoncFault>
     requires stands { StandsIn bytes.old scan }
     requires within { scan.at < length bytes.old }
@@ -113,7 +114,7 @@ fn pass_slash(bytes: &mut [u8], scan: Scan) -> Result<Scan, JsoncFault>
     Ok(Scan { at: end, ..scan })
 }
 
-/// Goes past a comma, which waits if an element or a member stands before it.
+/// Passes a comma, and remembers it if it follows an element or a member.
 fn pass_comma(bytes: &[u8], scan: Scan) -> Scan
     requires stands { StandsIn bytes.now scan }
     requires within { scan.at < length bytes.now }
@@ -130,7 +131,7 @@ fn pass_comma(bytes: &[u8], scan: Scan) -> Scan
     }
 }
 
-/// Goes past a closing bracket, and makes the comma blank that waited for one.
+/// Passes a closing bracket, and blanks the remembered comma.
 fn pass_closing(bytes: &mut [u8], scan: Scan) -> Scan
     requires stands { StandsIn bytes.old scan }
     requires within { scan.at < length bytes.old }
@@ -149,7 +150,8 @@ fn pass_closing(bytes: &mut [u8], scan: Scan) -> Scan
     }
 }
 
-/// Goes past a byte that stands for itself, and behind which no comma waits.
+/// Passes a byte that is not blank and begins neither a string nor a comment. Forgets the remembered
+/// comma.
 fn pass_byte(bytes: &[u8], scan: Scan) -> Scan
     requires stands { StandsIn bytes.now scan }
     requires within { scan.at < length bytes.now }

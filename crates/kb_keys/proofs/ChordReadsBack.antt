@@ -1,6 +1,6 @@
--- The canonical spelling of a chord is read as that chord.
-use Rattle.std.proofs.Common.{◌≡◌, ℕ, ◌<◌, ◌≤◌, List, [], ◌∷◌, ◌++◌, true, false, ◌==◌, not, length, refl, ap}
-use Rattle.std.proofs.Common.{sym, ◌∙◌, arith, filter, map, rules, tests, Ok, append_assoc, nat_lt}
+-- The canonical text of a chord is parsed as that chord.
+use Rattle.std.proofs.Common.{◌≡◌, ℕ, ◌<◌, ◌≤◌, List, [], ◌∷◌, ◌++◌, true, false, ◌==◌, not, length, refl}
+use Rattle.std.proofs.Common.{ap, sym, ◌∙◌, arith, filter, map, rules, tests, Ok, append_assoc, nat_lt}
 use Rattle.std.proofs.Common.{append-nil}
 use Rattle.std.proofs.lemmas.List.{length-map}
 use Rattle.std.proofs.lemmas.List.Sums.{AllPass-from_list_all}

@@ -1,4 +1,4 @@
--- Lemmas on the table of names, each by one computation over it.
+-- Lemmas on the table of names, each proved by one computation over the table.
 use Rattle.std.proofs.Common.{◌≡◌, ℕ, ◌<◌, ◌≤◌, List, [], ◌∷◌, Bor, Bool, true, false, ◌&&◌, Option, None}
 use Rattle.std.proofs.Common.{Some, zero, suc, refl, sym, ap, ◌∙◌, arith, tests, length, map, get_or, nat_eq}
 use Rattle.std.proofs.Common.{bytes_eq, position, not}

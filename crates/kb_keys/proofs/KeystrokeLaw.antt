@@ -1,4 +1,4 @@
--- The law of reading a key text.
+-- The law of parsing a key text (`ReadsFromLeft`).
 use Rattle.std.proofs.Common.{◌≡◌, ℕ, ◌+◌, ◌<◌, List, [], ◌∷◌, ◌++◌, Bool, true, false, cond, ◌||◌, not}
 use Rattle.std.proofs.Common.{Option, None, Some, refl, sym, ◌∙◌, arith, tests, drop, take, length, get_or}
 use Rattle.std.proofs.Common.{position, codes, bytes_eq, append_assoc, length-append}

@@ -1,4 +1,4 @@
--- Lemmas on the modifiers that a text begins with, and on equal keystrokes.
+-- Lemmas on the modifiers at the beginning of a text, and on equal keystrokes.
 use Rattle.std.proofs.Common.{◌≡◌, ℕ, ◌+◌, ◌<◌, ◌≤◌, List, [], ◌∷◌, false, Option, None, Some, refl, ap, sym}
 use Rattle.std.proofs.Common.{◌∙◌, arith, rules, tests, drop, take, length, option_map, position}
 use Rattle.std.specs.Bool.{Decides}

@@ -1,5 +1,5 @@
--- The canonical spelling of a keystroke is read as that keystroke, by one computation over the table for each
--- set of modifiers.
+-- The canonical text of a keystroke is parsed as that keystroke: for each set of modifiers, one
+-- computation over the table.
 use Rattle.std.proofs.Common.{◌≡◌, ℕ, ◌<◌, Bool, true, false, ◌&&◌, Result, Ok, Err, refl, ap, not, List}
 use Rattle.std.proofs.Common.{◌==◌}
 use Rattle.std.specs.List.{list_all}

@@ -1,4 +1,4 @@
--- What a chord text means, and the canonical text of a chord.
+-- The chord that a chord text denotes, and the canonical text of a chord.
 use Rattle.std.specs.Prelude.{ℕ, List, [], ◌∷◌, ◌++◌, Bool, cond, ◌==◌, not, map, filter, nat_lt, length}
 use Rattle.std.specs.Prelude.{Result, Ok, Err}
 use Rattle.std.specs.List.{slice_split, starts_with, join_with_byte}
@@ -8,62 +8,62 @@ use Rattle.kb_keys.specs.declared.key_fault.KeyFault.TheVariants.{TooManySteps, 
 use Rattle.kb_keys.specs.declared.keystroke.Keystroke.{Keystroke}
 use Rattle.kb_keys.specs.Keystroke.{keystroke_of, spelling, same_stroke}
 
--- how many keystrokes a chord may have
+-- the maximum number of keystrokes in a chord
 abbrev pub chord_limit : ℕ
 chord_limit = 2
 
--- the texts between spaces, without the empty ones
+-- the non-empty texts between spaces
 abbrev pub steps_of : List ℕ → List (List ℕ)
 steps_of text = filter (λ step. not (length step == 0)) (slice_split (λ byte. byte == 32) text)
 
--- a step before the others, if it isn't empty
+-- a step before the others, if it is not empty
 abbrev pub with_step : List ℕ → List (List ℕ) → List (List ℕ)
 with_step [] steps = steps
 with_step (b ∷ bs) steps = (b ∷ bs) ∷ steps
 
--- the keystrokes that were read, or the first fault
+-- the keystrokes, or the first fault
 abbrev pub Strokes : Type 0
 Strokes = Result (List Keystroke) KeyFault
 
--- one more keystroke in front, where the others were read
+-- one more keystroke at the front, if the others are valid
 abbrev pub prepend : Keystroke → Strokes → Strokes
 prepend stroke (Ok strokes) = Ok (stroke ∷ strokes)
 prepend stroke (Err fault) = Err fault
 
--- a step before the others: its fault comes before theirs
+-- one more step at the front, whose fault takes precedence over theirs
 abbrev pub if_read : Result Keystroke KeyFault → Strokes → Strokes
 if_read (Ok stroke) strokes = prepend stroke strokes
 if_read (Err fault) strokes = Err fault
 
--- each step read, or the fault of the first that isn't
+-- the keystroke of each step, or the fault of the first invalid step
 abbrev pub strokes_of : List (List ℕ) → Strokes
 strokes_of [] = Ok []
 strokes_of (step ∷ steps) = if_read (keystroke_of step) (strokes_of steps)
 
--- no step and too many steps come before a fault of a step
+-- the number of steps is checked before the steps themselves
 abbrev pub chord_from : List (List ℕ) → Strokes
 chord_from steps =
     cond (length steps == 0) (Err EmptyKey)
     (cond (nat_lt chord_limit (length steps)) (Err TooManySteps)
     (strokes_of steps))
 
--- the keystrokes that a text means, or the fault
+-- the keystrokes that a text denotes, or the fault
 abbrev pub chord_of : List ℕ → Strokes
 chord_of text = chord_from (steps_of text)
 
--- each canonical spelling after a space
+-- a space before each canonical text
 abbrev pub spelling_after : List Keystroke → List ℕ
 spelling_after [] = []
 spelling_after (stroke ∷ strokes) = 32 ∷ (spelling stroke ++ spelling_after strokes)
 
--- the canonical spellings with one space between them
+-- the canonical texts, with one space between them
 abbrev pub chord_spelling : List Keystroke → List ℕ
 chord_spelling strokes = join_with_byte 32 (map spelling strokes)
 
--- whether the first keystrokes are the pressed ones
+-- whether the chord begins with the pressed keystrokes
 abbrev pub begins_with : List Keystroke → List Keystroke → Bool
 begins_with chord pressed = starts_with same_stroke chord pressed
 
--- whether the keystrokes are the same, in the same order
+-- whether both have the same keystrokes in the same order
 abbrev pub same_keys : List Keystroke → List Keystroke → Bool
 same_keys one other = pointwise same_stroke one other

@@ -1,4 +1,4 @@
--- The numbers of the faults of a key text.
+-- The numbers of the faults of key texts and chord texts.
 use Rattle.std.specs.Prelude.{ℕ}
 use Rattle.kb_keys.specs.declared.key_fault.KeyFault.{KeyFault}
 use Rattle.kb_keys.specs.declared.key_fault.KeyFault.TheVariants.{UnknownKey, TooManySteps, EmptyKey}

@@ -1,17 +1,17 @@
--- The names of the keys, and the key that a text names.
+-- The names of the keys, and the lookup of a key by name.
 use Rattle.std.specs.Prelude.{ℕ, List, [], ◌∷◌, Option, slice_index_or, position, map, bytes_eq, codes}
 use Rattle.std.specs.Char.{to_ascii_lowercase}
 
--- how many keys there are
+-- the number of keys
 abbrev pub key_count : ℕ
 key_count = 99
 
--- how many bytes the longest name has
+-- the number of bytes in the longest name
 abbrev pub longest_name : ℕ
 longest_name = 16
 
--- The table of names: letters and digits, signs, moving, editing, others, function keys, number pad. A key
--- is the place of its name.
+-- The table of names: letters and digits, signs, cursor keys, editing keys, other keys, function keys,
+-- number pad. A key is the index of its name.
 unfoldable pub names : List (List ℕ)
 names =
     codes "a" ∷ codes "b" ∷ codes "c" ∷ codes "d" ∷ codes "e" ∷ codes "f" ∷ codes "g" ∷ codes "h" ∷
@@ -33,7 +33,7 @@ names =
     codes "numpad_multiply" ∷ codes "numpad_add" ∷ codes "numpad_separator" ∷ codes "numpad_subtract" ∷
     codes "numpad_decimal" ∷ codes "numpad_divide" ∷ []
 
--- the name at a place of the table
+-- the name at an index of the table
 abbrev pub name_of : ℕ → List ℕ
 name_of k = slice_index_or names k []
 
@@ -41,6 +41,6 @@ name_of k = slice_index_or names k []
 abbrev pub lowered : List ℕ → List ℕ
 lowered text = map to_ascii_lowercase text
 
--- the key that a text names, in any letter case
+-- the key with a name, in any ASCII letter case
 unfoldable pub key_named : List ℕ → Option ℕ
 key_named text = position (λ name. bytes_eq (lowered name) (lowered text)) names

@@ -1,4 +1,4 @@
--- Sets of modifiers, and how they are spelled.
+-- Sets of modifiers, and their canonical text.
 use Rattle.std.specs.Prelude.{ℕ, List, [], ◌++◌, Bool, true, false, cond, ◌&&◌, codes}
 use Rattle.std.proofs.Math.Bool.{beq}
 use Rattle.kb_keys.specs.declared.modifier.Modifier.{Modifier}
@@ -16,11 +16,11 @@ with_modifier Shift m = record m { shift = true }
 with_modifier Alt m = record m { alt = true }
 with_modifier Meta m = record m { meta = true }
 
--- a word, where its modifier is held
+-- the word, if its modifier is held
 abbrev pub spelled_if : Bool → List ℕ → List ℕ
 spelled_if held word = cond held word []
 
--- the held modifiers in one order, each followed by `+`
+-- the held modifiers in a fixed order, each followed by `+`
 abbrev pub spelled : Modifiers → List ℕ
 spelled m =
     spelled_if m.ctrl (codes "ctrl+")

@@ -11,6 +11,6 @@ platform_name Mac = codes "mac"
 platform_name Linux = codes "linux"
 platform_name Windows = codes "win"
 
--- the platform that has this name
+-- the platform with this name
 abbrev pub platform_named : List ℕ → Option Platform
 platform_named name = find (λ platform. bytes_eq name (platform_name platform)) platforms

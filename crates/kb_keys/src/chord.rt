@@ -1,4 +1,4 @@
-//! Keystrokes that are pressed one after another.
+//! Chords: keystrokes pressed one after another.
 ghost use Rattle.std.specs.Prelude.{◌≡◌, ◌<◌, ◌≤◌, ◌+◌, ◌↔◌, length, List, [], ◌∷◌, ◌++◌, IfOk, OnOk, Ok};
 ghost use Rattle.std.specs.Prelude.{string_bytes, option_to_list, IsTrue, IsSome};
 ghost use Rattle.std.specs.Str.{IsUtf8};
@@ -8,17 +8,17 @@ ghost use Rattle.kb_keys.specs.Chord.{spelling_after, begins_with, same_keys};
 
 use crate::key_fault::KeyFault;
 use crate::keystroke::Keystroke;
-use kb_context::NoMemory;
+use kb_base::NoMemory;
 use smallvec::SmallVec;
 use std::alloc::Global;
 use std::marker::Model;
 
-/// The largest number of keystrokes of a chord (our decision; VS Code's documentation describes
-/// chords of two).
+/// The maximum number of keystrokes in a chord (our decision; VS Code's documentation describes chords of
+/// two).
 pub const LIMIT: usize = 2;
 
-/// Up to `LIMIT` keystrokes in the order that they are pressed. They are kept inline, so a chord
-/// never takes memory. The allocator that some calls take is a value that the list inside wants.
+/// Up to `LIMIT` keystrokes, in the order in which they are pressed. They are stored inline, so a chord
+/// never allocates. Some calls take an allocator only because the inner list requires one.
 #[derive(Debug, Drop, PartialEq, Eq, Hash)]
 pub struct Chord {
     strokes: SmallVec<Keystroke, LIMIT, Global>,
@@ -44,7 +44,7 @@ impl Model for Chord {
 }
 
 impl Chord {
-    /// The chord without keystrokes, as before the first is pressed. No text means it.
+    /// The empty chord: no key has been pressed yet. No chord text denotes it.
     pub fn new(alloc: Global) -> Chord
         ensures { result ≡ [] }
     {
@@ -53,11 +53,11 @@ impl Chord {
         }
     }
 
-    /// Reads a chord text: key texts (`Keystroke::parse`) between spaces. Only U+0020 separates
-    /// them (our decision); several count as one, and those at the ends are ignored.
+    /// Parses a chord text: one or more key texts (see `Keystroke::parse`), separated by spaces. Only
+    /// U+0020 is a separator (our decision). Repeated, leading and trailing spaces are ignored.
     ///
-    /// Errors: `EmptyKey` (12) for a text that holds nothing but spaces; `TooManySteps` (11) for more
-    /// than `LIMIT` key texts; else that of the first key text that has one. It takes no memory.
+    /// Errors: `EmptyKey` (12) if the text has no key text, `TooManySteps` (11) if it has more than
+    /// `LIMIT`, otherwise the error of the first invalid key text.
     pub fn parse(alloc: Global, text: &str) -> Result<Chord, KeyFault>
         ensures { result ≡ chord_of text.now }
     {
@@ -80,8 +80,8 @@ impl Chord {
         Ok(chord)
     }
 
-    /// The canonical text: that of each keystroke, with one space between them. `parse` reads it
-    /// back, but for the chord without keystrokes, whose text is empty.
+    /// The canonical text: the canonical texts of the keystrokes, with one space between them. `parse`
+    /// reads it back, except for the empty chord, whose text is empty. Error: `NoMemory`.
     pub fn text(&self, alloc: Global) -> Result<String, NoMemory>
         ensures spelling { IfOk result (λ text. string_bytes text ≡ chord_spelling self.now) }
         ensures reads_back { 0 < length self.now
@@ -92,7 +92,7 @@ impl Chord {
         Ok(text)
     }
 
-    /// A second chord of the same keystrokes, which takes no memory.
+    /// A copy of the chord.
     pub fn copied(&self, alloc: Global) -> Chord
         ensures { result ≡ self.now }
     {
@@ -100,7 +100,7 @@ impl Chord {
         Chord { strokes }
     }
 
-    /// How many keystrokes the chord has.
+    /// The number of keystrokes.
     pub fn len(&self) -> usize
         ensures value { result ≡ length self.now }
         ensures fits { result ≤ chord_limit }
@@ -123,7 +123,7 @@ impl Chord {
         self.strokes.as_slice()
     }
 
-    /// Adds a keystroke at the end, which takes no memory.
+    /// Adds a keystroke at the end.
     pub fn push(&mut self, stroke: Keystroke)
         requires { length self.old < chord_limit }
         ensures { self.new ≡ self.old ++ stroke ∷ [] }
@@ -131,7 +131,7 @@ impl Chord {
         self.strokes.push_reserved(stroke);
     }
 
-    /// Takes the last keystroke off and gives it, or `None` where there is none.
+    /// Removes the last keystroke and returns it, or `None` if there is none.
     pub fn pop(&mut self) -> Option<Keystroke>
         ensures taken { self.old ≡ self.new ++ option_to_list result }
         ensures some { IsSome result ↔ (0 < length self.old) }
@@ -139,14 +139,14 @@ impl Chord {
         self.strokes.pop()
     }
 
-    /// Takes all keystrokes away.
+    /// Removes all keystrokes.
     pub fn clear(&mut self)
         ensures { self.new ≡ [] }
     {
         self.strokes.clear();
     }
 
-    /// Whether the chord's first keystrokes are these.
+    /// Whether the chord begins with these keystrokes.
     pub fn begins_with(&self, pressed: &[Keystroke]) -> bool
         ensures value { result ≡ begins_with self.now pressed.now }
         ensures front { IsTrue result ↔ ((more : List Keystroke) × (self.now ≡ pressed.now ++ more)) }
@@ -155,7 +155,7 @@ impl Chord {
         self.strokes.as_slice().starts_with(pressed)
     }
 
-    /// Whether the chords have the same keystrokes in the same order.
+    /// Whether both chords have the same keystrokes in the same order.
     pub fn same_keys(&self, other: &Chord) -> bool
         ensures value { result ≡ same_keys self.now other.now }
         ensures meaning { IsTrue result ↔ (self.now ≡ other.now) }
@@ -164,8 +164,8 @@ impl Chord {
     }
 }
 
-/// Appends the canonical text of keystrokes to a line, as `Chord::text` gives it. Without memory
-/// the line may have got a part of it.
+/// Appends the canonical text of keystrokes to a line, as `Chord::text` returns it. Error: `NoMemory`; the
+/// line may then have a part of the text.
 pub fn write_strokes(strokes: &[Keystroke], line: &mut String) -> Result<(), NoMemory>
     ensures spelling { OnOk result
         (string_bytes line.new ≡ string_bytes line.old ++ chord_spelling strokes.now) }
@@ -192,7 +192,7 @@ fn write_more(more: &[Keystroke], line: &mut String) -> Result<(), NoMemory>
     Ok(())
 }
 
-/// The number of steps of a chord text.
+/// The number of key texts in a chord text.
 fn count_steps(text: &str) -> usize
     ensures { result ≡ length (steps_of text.now) }
 {
@@ -208,7 +208,8 @@ fn count_steps(text: &str) -> usize
     count
 }
 
-/// What stands before the first space, and what follows it.
+/// The text before the first space and the text after it. Without a space, the whole text and an empty
+/// one.
 fn cut_at_space(text: &str) -> (&str, &str)
     requires { 0 < length text.now }
     ensures steps { steps_of text.now ≡ with_step result.0.now (steps_of result.1.now) }

@@ -7,11 +7,11 @@ use std::marker::Model;
 /// The number of keys.
 pub const KEYS: usize = 99;
 
-/// The number of bytes of the longest name.
+/// The number of bytes in the longest name.
 pub(crate) const LONGEST_NAME: usize = 16;
 
-/// The names that VS Code's documentation accepts, in lower case. The order is ours: a name is
-/// looked for from the front, so those that are typed most come first.
+/// The names that VS Code's documentation accepts, in lower case. The order is our decision: lookups
+/// search from the front, so the most frequent keys come first.
 pub const NAMES: [&str; KEYS] = [
     // Letters and digits.
     "a",
@@ -62,7 +62,7 @@ pub const NAMES: [&str; KEYS] = [
     ",",
     ".",
     "/",
-    // Moving.
+    // Cursor keys.
     "left",
     "up",
     "right",
@@ -71,14 +71,14 @@ pub const NAMES: [&str; KEYS] = [
     "pagedown",
     "end",
     "home",
-    // Editing.
+    // Editing keys.
     "tab",
     "enter",
     "escape",
     "space",
     "backspace",
     "delete",
-    // Others.
+    // Other keys.
     "pausebreak",
     "capslock",
     "insert",
@@ -121,7 +121,7 @@ pub const NAMES: [&str; KEYS] = [
     "numpad_divide",
 ];
 
-/// A key, by the place of its name in `NAMES`. Contracts see that place.
+/// A key, stored as the index of its name in `NAMES`. Contracts see this index.
 #[derive(Clone, Copy, Debug, Default, PartialEq, Eq, Hash)]
 pub struct KeyName {
     index: u8,
@@ -141,8 +141,8 @@ impl Model for KeyName {
 }
 
 impl KeyName {
-    /// The key that a text names, in any ASCII letter case, or `None` where it names no key. The
-    /// names by place on the keyboard, as `[KeyA]`, are not read (our decision).
+    /// The key with this name, in any ASCII letter case, or `None`. Names of physical keys, such as
+    /// `[KeyA]`, are not supported (our decision).
     pub fn named(text: &str) -> Option<KeyName>
         ensures { result ≡ key_named text.now }
     {

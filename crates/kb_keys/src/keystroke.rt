@@ -1,4 +1,4 @@
-//! A key with its modifiers.
+//! Keystrokes: a key with its modifiers.
 ghost use Rattle.std.specs.Prelude.{◌≡◌, ◌<◌, ◌≤◌, ◌+◌, [], ◌++◌, length, string_bytes, string_len, Ok};
 ghost use Rattle.std.specs.Prelude.{IfOk, OnOk, OnErr, if◌then◌else◌};
 ghost use Rattle.std.specs.String.{string_capacity};
@@ -9,14 +9,15 @@ use crate::key_fault::KeyFault;
 use crate::key_name::{KeyName, LONGEST_NAME};
 use crate::modifier::Modifier;
 use crate::modifiers::Modifiers;
-use kb_context::NoMemory;
+use kb_base::NoMemory;
 use std::alloc::Global;
 
 /// The number of bytes of the longest canonical text: all modifiers, then the longest name.
 const LONGEST: usize = "ctrl+shift+alt+meta+".len() + LONGEST_NAME;
 
-/// A key that is pressed while modifiers are held. Two are equal where both are.
-// `Default` has no meaning here: a chord's list wants one for the places that it has not filled.
+/// A key that is pressed while modifiers are held. Two keystrokes are equal if their keys and modifiers
+/// are.
+// `Default` has no meaning here. The list in a chord needs it for its unused slots.
 #[derive(Clone, Copy, Debug, Default, PartialEq, Eq, Hash)]
 pub struct Keystroke {
     pub mods: Modifiers,
@@ -24,20 +25,20 @@ pub struct Keystroke {
 }
 
 impl Keystroke {
-    /// Reads a key text: as often as it comes, a modifier (`ctrl`, `shift`, `alt`, `cmd`, `win`,
-    /// `meta`) followed by `+` or `-`, then the name of a key. Modifiers come in any order and
-    /// more than once, and ASCII letter case does not count (`-` as the sign and repeated
-    /// modifiers are our decision). The text is neither split at spaces nor trimmed.
+    /// Parses a key text: any number of modifiers (`ctrl`, `shift`, `alt`, `cmd`, `win`, `meta`), each
+    /// followed by `+` or `-`, then the name of a key. Modifiers may come in any order and more than once.
+    /// ASCII letter case is ignored. (`-` as a separator and repeated modifiers are our decision.) The
+    /// text is neither split at spaces nor trimmed.
     ///
-    /// Errors: `EmptyKey` (12) for an empty rest, and `UnknownKey` (10) for another one that is no key's
-    /// name. So `ctrl` alone is `UnknownKey`, `ctrl+` is `EmptyKey`, and `ctrl--` is `ctrl` with `-`. It
-    /// takes no memory.
+    /// Errors: `EmptyKey` (12) if no text follows the modifiers, and `UnknownKey` (10) if that text is not
+    /// the name of a key. So `ctrl` is `UnknownKey`, `ctrl+` is `EmptyKey`, and `ctrl--` is `ctrl` with
+    /// the key `-`.
     #[tactic(auto, unfolding(crate::specs::Keystroke::keystroke_of), using(crate::proofs::KeystrokeLaw::reads_from_left))]
     pub fn parse(text: &str) -> Result<Keystroke, KeyFault>
         ensures value { result ≡ keystroke_of text.now }
 
-        // What `value` cites, from the left: a modifier with its sign is added to what the text
-        // after them means.
+        // The meaning of `keystroke_of`, read from the left: a modifier and its separator add that
+        // modifier to the keystroke of the text after them.
         ensures law { ReadsFromLeft keystroke_of }
     {
         let (mods, rest) = split_modifiers(text);
@@ -50,8 +51,9 @@ impl Keystroke {
         }
     }
 
-    /// The canonical text, which `parse` reads back: in lower case, the modifiers in the order
-    /// `ctrl`, `shift`, `alt`, `meta`, each followed by `+`, then the key's name (our decision).
+    /// The canonical text, which `parse` reads back: lower case, the modifiers in the order `ctrl`,
+    /// `shift`, `alt`, `meta`, each followed by `+`, then the key's name (our decision). Error:
+    /// `NoMemory`.
     pub fn text(self, alloc: Global) -> Result<String, NoMemory>
         ensures spelling { IfOk result (λ text. string_bytes text ≡ spelling self) }
         ensures reads_back { IfOk result (λ text. keystroke_of (string_bytes text) ≡ Ok self) }
@@ -61,7 +63,7 @@ impl Keystroke {
         Ok(text)
     }
 
-    /// Appends the canonical text to a line. Without memory the line stays as it was.
+    /// Appends the canonical text to a line. Error: `NoMemory`; the line is then unchanged.
     pub fn write_to(self, line: &mut String) -> Result<(), NoMemory>
         ensures ok { OnOk result (string_bytes line.new ≡ string_bytes line.old ++ spelling self) }
         ensures err { OnErr result (string_bytes line.new ≡ string_bytes line.old) }
@@ -73,7 +75,7 @@ impl Keystroke {
         Ok(())
     }
 
-    /// Appends the canonical text to a line that has room for it, which takes no memory.
+    /// Appends the canonical text to a line that has enough reserved memory.
     fn write_reserved(self, line: &mut String)
         requires { string_len line.old + LONGEST ≤ string_capacity line.old }
         ensures spelling { string_bytes line.new ≡ string_bytes line.old ++ spelling self }
@@ -88,7 +90,7 @@ impl Keystroke {
     }
 }
 
-/// Appends a word to a line that has room for it, if its modifier is held.
+/// Appends `word` to a line that has enough reserved memory, if `held`.
 fn push_if(line: &mut String, held: bool, word: &str)
     requires { string_len line.old + length word.now ≤ string_capacity line.old }
     ensures spelling { string_bytes line.new ≡ string_bytes line.old ++ (if held then word.now else []) }
@@ -100,7 +102,7 @@ fn push_if(line: &mut String, held: bool, word: &str)
     }
 }
 
-/// The modifiers that a text begins with, and the rest.
+/// The modifiers at the beginning of a text, and the text after them.
 fn split_modifiers(text: &str) -> (Modifiers, &str)
     ensures mods { result.0 ≡ (split_of text.now).mods }
     ensures rest { result.1.now ≡ (split_of text.now).rest }

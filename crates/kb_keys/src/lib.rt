@@ -1,8 +1,7 @@
-//! Keystrokes and chords: what a key text means, and the canonical text of each.
+//! Keystrokes and chords: parsing of key texts and their canonical form.
 //!
-//! The modifiers, the names of the keys and the writing of a chord are those of VS Code's
-//! documentation of keyboard shortcuts. What it leaves open is our decision, and is said so where
-//! it is made.
+//! Modifiers, key names and the form of a chord text follow VS Code's documentation of keyboard shortcuts.
+//! Our own decisions are marked as such where they are made.
 #![tactic(auto)]
 
 pub mod chord;

@@ -1,10 +1,10 @@
-//! One modifier, as a key text names it.
+//! A single modifier of a key text.
 ghost use Rattle.std.specs.Prelude.{◌≡◌, ◌<◌, length, option_map, position, slice_index, IfSome};
 ghost use Rattle.std.specs.Str.{IsUtf8};
 ghost use Rattle.kb_keys.specs.Modifier.{modifier_named, first_modifier, is_sign};
 
-/// A modifier key. The key that macOS calls Command, Windows calls Windows and Linux calls Meta is
-/// one and the same (VS Code's documentation has one row for it).
+/// A modifier key. Command on macOS, the Windows key on Windows and Meta on Linux are one modifier,
+/// `Meta`, since VS Code's documentation has one row for them.
 #[derive(Clone, Copy, Debug, PartialEq, Eq)]
 pub(crate) enum Modifier {
     Ctrl,
@@ -14,8 +14,8 @@ pub(crate) enum Modifier {
 }
 
 impl Modifier {
-    /// The modifier that a word names, in any ASCII letter case. `cmd`, `win` and `meta` are read
-    /// on each platform (our decision).
+    /// The modifier with this name, in any ASCII letter case. `cmd`, `win` and `meta` are accepted on
+    /// every platform (our decision).
     pub(crate) fn named(word: &str) -> Option<Modifier>
         ensures { result ≡ modifier_named word.now }
     {
@@ -35,8 +35,8 @@ impl Modifier {
         }
     }
 
-    /// The modifier that a text begins with, before a `+` or a `-`, and what follows that sign.
-    // No modifier's name holds a sign, so the first sign of the text is the only one to look at.
+    /// The modifier at the beginning of a text, followed by `+` or `-`, and the text after that separator.
+    // No modifier's name contains a separator, so only the first separator of the text matters.
     #[tactic(auto, using(std::proofs::lemmas::Str::lead_after_ascii))]
     pub(crate) fn split(text: &str) -> Option<(Modifier, &str)>
         ensures first { option_map (λ p. (p.0, p.1.now)) result ≡ first_modifier text.now }
@@ -49,7 +49,7 @@ impl Modifier {
     }
 }
 
-/// Where the first `+` or `-` stands.
+/// The index of the first `+` or `-`.
 fn sign_at(text: &str) -> Option<usize>
     ensures place { result ≡ position is_sign text.now }
     ensures within { IfSome result (λ at. at < length text.now) }

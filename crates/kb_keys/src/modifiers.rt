@@ -1,11 +1,11 @@
-//! The modifiers that are held.
+//! Sets of modifiers.
 ghost use Rattle.std.specs.Prelude.{◌≡◌};
 ghost use Rattle.kb_keys.specs.Modifiers.{with_modifier};
 
 use crate::modifier::Modifier;
 
-/// Which of the four modifiers are held. `meta` is the Command key of macOS, the Windows key, and
-/// the Meta key of Linux.
+/// The set of modifiers that are held. `meta` is Command on macOS, the Windows key on Windows, and Meta on
+/// Linux.
 #[derive(Clone, Copy, Debug, Default, PartialEq, Eq, Hash)]
 pub struct Modifiers {
     pub ctrl: bool,
@@ -15,7 +15,7 @@ pub struct Modifiers {
 }
 
 impl Modifiers {
-    /// No modifier.
+    /// The empty set.
     pub const NONE: Modifiers = Modifiers {
         ctrl: false,
         shift: false,
@@ -23,7 +23,7 @@ impl Modifiers {
         meta: false,
     };
 
-    /// These modifiers and one more. One that is held already changes nothing.
+    /// These modifiers and one more. Adding one that is already held changes nothing.
     pub(crate) fn with(self, modifier: Modifier) -> Modifiers
         ensures { result ≡ with_modifier modifier self }
     {

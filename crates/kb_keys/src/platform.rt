@@ -1,8 +1,8 @@
-//! The platforms that a rule can name a key for.
+//! Platforms, for which a keybinding rule can name its own key.
 ghost use Rattle.std.specs.Prelude.{◌≡◌};
 ghost use Rattle.kb_keys.specs.Platform.{platform_name, platform_named};
 
-/// The system that the editor runs on. A rule of an extension may have a key of its own for each
+/// The operating system on which the editor runs. A rule of an extension can have a separate key for each
 /// (VS Code's documentation of extensions: `mac`, `linux`, `win`).
 #[derive(Clone, Copy, Debug, PartialEq, Eq, Hash)]
 pub enum Platform {
@@ -12,7 +12,7 @@ pub enum Platform {
 }
 
 impl Platform {
-    /// The name of the platform: `mac`, `linux` or `win` (VS Code's documentation of extensions).
+    /// The platform's name: `mac`, `linux` or `win`.
     pub fn name(self) -> &'static str
         ensures { result.now ≡ platform_name self }
     {
@@ -23,7 +23,7 @@ impl Platform {
         }
     }
 
-    /// The platform of a name, or `None` where no platform has it. Letter case counts (our decision).
+    /// The platform with this name, or `None`. Letter case is significant (our decision).
     pub fn named(name: &str) -> Option<Platform>
         ensures { result ≡ platform_named name.now }
     {

@@ -1,12 +1,12 @@
 //! `keyrun`: runs a script of events against the user's keybindings, and prints the trace.
 #![tactic(auto)]
 
-use kb_options::Program;
+use kb_cli::Program;
 use kb_program::run_host;
-use kb_run::Handlers;
+use kb_run::Verification;
 use std::process::ExitCode;
 
-// The program, as its help names and describes it.
+// The name and the description that the help text has.
 fn keyrun<'a>() -> Program<'a> {
     Program {
         name: "keyrun",
@@ -15,5 +15,5 @@ fn keyrun<'a>() -> Program<'a> {
 }
 
 fn main(rt: HostRuntime) -> ExitCode {
-    run_host(&rt, rt.alloc(), keyrun(), Handlers::Verified)
+    run_host(&rt, rt.alloc(), keyrun(), Verification::Verified)
 }

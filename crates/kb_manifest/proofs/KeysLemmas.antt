@@ -16,7 +16,7 @@ use Rattle.serde_json.proofs.Views.{Entry}
 use Rattle.serde_json.specs.Data.{Data}
 use Rattle.serde_json.specs.View.{members_view}
 use Rattle.kb_context.specs.declared.value.ContextValue.{ContextValue}
-use Rattle.kb_context.specs.Reading.{or_fault}
+use Rattle.kb_base.specs.Reading.{or_fault}
 use Rattle.kb_context.specs.Scopes.{Keys}
 use Rattle.kb_json.specs.declared.fault.FileFault.{FileFault}
 use Rattle.kb_json.specs.declared.fault.FileFault.TheVariants.{WrongShape}
@@ -35,7 +35,7 @@ abbrev pub inserted : Keys → List Pair → Keys
 inserted keys [] = keys
 inserted keys (e ∷ es) = inserted (insert keys e.0 e.1) es
 
--- no name stands twice
+-- no name occurs twice
 abbrev AreApart : List (List ℕ) → Type 0
 AreApart [] = Unit {0}
 AreApart (name ∷ names) = AllByRecursion (λ other. same_name name other ≡ false) names × AreApart names

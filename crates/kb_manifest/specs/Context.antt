@@ -2,11 +2,11 @@
 use Rattle.std.specs.Prelude.{Option, Some, None, option_map, Result}
 use Rattle.serde_json.specs.Data.{Data, null, boolean, number, string, array, object}
 use Rattle.serde_json.specs.Find.{as_i64, as_str}
-use Rattle.kb_context.specs.declared.failure.Failure.{Failure}
-use Rattle.kb_context.specs.declared.failure.Failure.TheVariants.{NoMemory, Fault}
+use Rattle.kb_base.specs.declared.failure.Failure.{Failure}
+use Rattle.kb_base.specs.declared.failure.Failure.TheVariants.{NoMemory, Fault}
 use Rattle.kb_context.specs.declared.value.ContextValue.{ContextValue}
 use Rattle.kb_context.specs.declared.value.ContextValue.TheVariants.{Truth, Number, Text, Texts, Names}
-use Rattle.kb_context.specs.Reading.{or_fault}
+use Rattle.kb_base.specs.Reading.{or_fault}
 use Rattle.kb_json.specs.declared.fault.FileFault.{FileFault}
 use Rattle.kb_json.specs.declared.fault.FileFault.TheVariants.{WrongShape}
 use Rattle.kb_json.specs.Parts.{each, listed, names_of}

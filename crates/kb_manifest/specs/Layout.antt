@@ -8,7 +8,7 @@ use Rattle.serde_json.specs.Find.{get, get_member, as_str, as_object}
 use Rattle.kb_context.specs.declared.layout.Layout.{Layout}
 use Rattle.kb_context.specs.declared.layout.LayoutScope.{LayoutScope}
 use Rattle.kb_context.specs.declared.value.ContextValue.{ContextValue}
-use Rattle.kb_context.specs.Reading.{or_fault}
+use Rattle.kb_base.specs.Reading.{or_fault}
 use Rattle.kb_context.specs.Scopes.{Keys}
 use Rattle.kb_json.specs.declared.fault.FileFault.{FileFault}
 use Rattle.kb_json.specs.declared.fault.FileFault.TheVariants.{MissingMember, WrongShape}
@@ -79,6 +79,6 @@ record_in ms = do
 unfoldable pub record_of : Data → Option Layout
 record_of d = as_object d >>= record_in
 
--- a member that is absent is the first fault, wherever it stands, and then any wrong shape
+-- an absent member is the first fault, at any place, and then any wrong shape
 abbrev pub layout_of : Data → Result Layout FileFault
 layout_of d = if lacks_member d then Err MissingMember else or_fault WrongShape (record_of d)

@@ -5,6 +5,6 @@ pub mod Context
 pub mod Judged
 pub mod Layout
 pub mod Manifest
+pub mod Notes
 pub mod PaletteItem
 pub mod Points
-pub mod Warning

@@ -5,18 +5,19 @@ use Rattle.std.specs.Prelude.{if◌then◌else◌}
 use Rattle.serde_json.specs.Data.{Data, Members}
 use Rattle.serde_json.specs.Find.{get_member, as_object}
 use Rattle.serde_json.specs.View.{items_view}
-use Rattle.kb_context.specs.Reading.{or_fault, seen}
-use Rattle.kb_manifest.specs.declared.command_table.Named.{Named}
+use Rattle.kb_base.specs.Reading.{or_fault, seen}
 use Rattle.kb_json.specs.declared.fault.FileFault.{FileFault}
 use Rattle.kb_json.specs.declared.fault.FileFault.TheVariants.{MissingMember, WrongShape}
 use Rattle.kb_manifest.specs.declared.manifest.Head.{Head}
 use Rattle.kb_manifest.specs.declared.manifest.Manifest.{Manifest}
-use Rattle.kb_manifest.specs.declared.palette_item.PaletteItem.{PaletteItem}
-use Rattle.kb_manifest.specs.declared.warning.Notes.{Notes}
-use Rattle.kb_manifest.specs.Warning.{patterns_at}
-use Rattle.kb_when.specs.declared.unread.UnreadPattern.{UnreadPattern}
-use Rattle.kb_context.specs.declared.failure.Failure.{Failure}
-use Rattle.kb_context.specs.Failure.{Fails}
+use Rattle.kb_manifest.specs.declared.manifest.Package.{Package}
+use Rattle.kb_base.specs.declared.note.Origin.{Origin}
+use Rattle.kb_base.specs.declared.note.Part.TheVariants.{Commands, Palette}
+use Rattle.kb_base.specs.declared.note.UnreadPattern.{UnreadPattern}
+use Rattle.kb_when.specs.Placed.{marks_at}
+use Rattle.kb_when.specs.declared.unread.ClausePattern.{ClausePattern}
+use Rattle.kb_base.specs.declared.failure.Failure.{Failure}
+use Rattle.kb_base.specs.Failure.{Fails}
 use Rattle.kb_manifest.specs.Command as command
 use Rattle.kb_manifest.specs.Judged.{AllRight}
 use Rattle.kb_manifest.specs.Layout.{lacks}
@@ -24,22 +25,17 @@ use Rattle.kb_manifest.specs.PaletteItem as item
 use Rattle.kb_json.specs.Parts.{◌>>=◌, optional, listed, texts_of, word_of}
 use Rattle.kb_manifest.specs.Points.{Held, no_points, points_in, seen_points}
 
--- what an extension's manifest says; its key rules stand as they were found
+-- what a package holds: the manifest, and the entries of its key rules as in the file
 pub record Stated : Type 0 where
-  pub id : List ℕ
-  pub dependencies : List (List ℕ)
-  pub commands : List Named
+  pub manifest : Manifest
   pub keybindings : List Data
-  pub palette : List PaletteItem
-  pub command_notes : Notes
-  pub palette_notes : Notes
 
--- which patterns aren't read, by the places of the commands and of the items of the palette
+-- the unread patterns, by the places of the commands and of the items of the palette
 pub record Told : Type 0 where
-  pub commands : ℕ → List UnreadPattern
-  pub palette : ℕ → List UnreadPattern
+  pub commands : ℕ → List ClausePattern
+  pub palette : ℕ → List ClausePattern
 
--- what it says before its entries are read
+-- a manifest before its entries are read
 pub record Outline : Type 0 where
   pub id : List ℕ
   pub dependencies : List (List ℕ)
@@ -72,55 +68,56 @@ unfoldable pub outline_of : Data → Result Outline FileFault
 outline_of d =
     if lacks (codes "name") d then Err MissingMember else or_fault WrongShape (head_of d)
 
--- the manifest of what it says: each entry is read by itself
-abbrev pub contributed : Told → Outline → Stated
-contributed told o = record {
-  id = o.id;
-  dependencies = o.dependencies;
-  commands = (command.commands_by told.commands o.points.commands).0;
+-- the package of an outline: each entry is read by itself
+abbrev pub contributed : Origin → Told → Outline → Stated
+contributed origin told o = record {
+  manifest = record {
+    id = o.id;
+    dependencies = o.dependencies;
+    commands = (command.commands_by origin told.commands o.points.commands).0;
+    palette = (item.items_by origin told.palette o.points.palette).0;
+    command_notes = (command.commands_by origin told.commands o.points.commands).1;
+    palette_notes = (item.items_by origin told.palette o.points.palette).1;
+  };
   keybindings = o.points.keybindings;
-  palette = (item.items_by told.palette o.points.palette).0;
-  command_notes = (command.commands_by told.commands o.points.commands).1;
-  palette_notes = (item.items_by told.palette o.points.palette).1;
 }
 
-abbrev pub manifest_of : Told → Data → Result Stated FileFault
-manifest_of told d = seen (contributed told) (outline_of d)
+abbrev pub package_of : Origin → Told → Data → Result Stated FileFault
+package_of origin told d = seen (contributed origin told) (outline_of d)
 
 -- the same of what the code makes
 abbrev pub seen_head : Head → Outline
 seen_head h = record { id = h.id; dependencies = h.dependencies; points = seen_points h.points }
 
-abbrev pub seen_manifest : Manifest → Stated
-seen_manifest m = record {
-  id = m.id;
-  dependencies = m.dependencies;
-  commands = m.commands;
-  keybindings = listed (items_view m.keybindings.items);
-  palette = m.palette;
-  command_notes = m.command_notes;
-  palette_notes = m.palette_notes;
+abbrev pub seen_package : Package → Stated
+seen_package p = record { manifest = p.manifest; keybindings = listed (items_view p.keybindings.items) }
+
+-- which patterns of a manifest of this origin a list has
+abbrev pub told_in : Origin → List UnreadPattern → Told
+told_in origin unread = record {
+  commands = marks_at origin Commands unread;
+  palette = marks_at origin Palette unread;
 }
 
--- what a manifest tells of patterns that aren't read
-abbrev pub told_by : Manifest → Told
-told_by m = record {
-  commands = patterns_at m.command_notes.unread;
-  palette = patterns_at m.palette_notes.unread;
+-- which patterns the notes of a manifest have
+abbrev pub told_by : Origin → Manifest → Told
+told_by origin m = record {
+  commands = marks_at origin Commands m.command_notes.unread;
+  palette = marks_at origin Palette m.palette_notes.unread;
 }
 
--- the answer is the manifest that is meant for what it tells itself, or the fault, whatever is told
-abbrev pub IsRead : {F : Type 0} → (Told → Result Stated F) → Result Manifest (Failure F) → Type 0
-IsRead meant (Ok m) = meant (told_by m) ≡ Ok (seen_manifest m)
-IsRead meant (Err failure) = (told : Told) → Fails failure (meant told)
+-- the answer is the package that is meant for the patterns of its own notes, or the fault for any patterns
+abbrev pub IsRead : {F : Type 0} → Origin → (Told → Result Stated F) → Result Package (Failure F) → Type 0
+IsRead origin meant (Ok p) = meant (told_by origin p.manifest) ≡ Ok (seen_package p)
+IsRead origin meant (Err failure) = (told : Told) → Fails failure (meant told)
 
--- what is told of the patterns of all entries is right
+-- the unread patterns of all entries are right
 abbrev pub IsRightIn : Told → Outline → Type 0
 IsRightIn told o =
     AllRight command.IsRightAt told.commands 0 o.points.commands
     × AllRight item.IsRightAt told.palette 0 o.points.palette
 
--- the same where something is said
+-- the same of an outline that was read
 abbrev pub IsRightBy : {F : Type 0} → Told → Result Outline F → Type 0
 IsRightBy told (Ok o) = IsRightIn told o
 IsRightBy told (Err fault) = Unit {0}

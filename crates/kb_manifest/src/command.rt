@@ -7,13 +7,15 @@ ghost use Rattle.kb_manifest.specs.Command.{texts_of, texts_in, extras_of, comma
 ghost use Rattle.kb_manifest.specs.Command.{commands_by, IsRightAt};
 ghost use Rattle.kb_manifest.specs.Condition.{IsOptionalRight};
 ghost use Rattle.kb_manifest.specs.Judged.{AllRight};
-ghost use Rattle.kb_manifest.specs.Warning.{no_notes, patterns_at};
+ghost use Rattle.kb_base.specs.declared.note.Part.TheVariants.{Commands};
+ghost use Rattle.kb_manifest.specs.Notes.{no_notes};
+ghost use Rattle.kb_when.specs.Placed.{marks_at};
 
 use crate::command_table::{CommandTable, Named};
 use crate::condition::optional_condition;
 use crate::judged::Judged;
-use crate::warning::{Notes, Part};
-use kb_context::{NoMemory, Seq, Text};
+use crate::notes::Notes;
+use kb_base::{NoMemory, Origin, Part, Seq, Text};
 use kb_json::{FileFault, members_in, optional_text, required_text, take_member};
 use kb_when::SharedClause;
 use serde_json::{Map, Value};
@@ -23,15 +25,15 @@ use std::alloc::Global;
 /// contribution points.
 #[derive(Debug, Drop)]
 pub struct Command {
-    /// What people read of it in the palette.
+    /// Its text in the palette.
     pub title: Text,
-    /// What stands in front of the title, if there is anything; it may be empty.
+    /// The text before the title, if there is one; it may be empty.
     pub category: Option<Text>,
     /// The clause without which no key starts the command, if there is one. One that can't be read
     /// is the clause `false` (our decision).
     pub enablement: Option<SharedClause>,
-    /// Where the entry stands among the contributed commands: the number of entries above it,
-    /// dropped ones too.
+    /// The place of the entry among the contributed commands: the number of entries above it, including
+    /// dropped ones.
     pub place: usize,
 }
 
@@ -44,7 +46,7 @@ struct Texts {
     enablement: Option<Text>,
 }
 
-/// The texts of an entry, moved out of it. It takes no memory.
+/// The texts of an entry, moved out of it.
 #[tactic(auto, unfolding(crate::specs::Command::texts_of))]
 fn texts_of(entry: Value) -> Result<Texts, FileFault>
     ensures { result ≡ texts_of (view entry) }
@@ -78,7 +80,7 @@ fn extras_in(members: &mut Map<String, Value>) -> Result<(Option<Text>, Option<T
     Ok((category, enablement))
 }
 
-/// The command of these texts, and what is said of its clause.
+/// The command of these texts, with the warning of its clause.
 fn command_of(alloc: Global, texts: Texts, place: usize) -> Result<Judged<Named>, NoMemory>
     ensures read { IfOk result (λ judged. judged ≡ command_of judged.unread place texts) }
     ensures right { IfOk result (λ judged. IsOptionalRight judged.unread texts.enablement) }
@@ -103,7 +105,7 @@ fn command_of(alloc: Global, texts: Texts, place: usize) -> Result<Judged<Named>
     })
 }
 
-/// What becomes of the entry at a place.
+/// Reads the entry at a place.
 fn read_command(alloc: Global, entry: Value, place: usize) -> Result<Judged<Named>, NoMemory>
     ensures read { IfOk result (λ judged. judged ≡ judged_at judged.unread place (view entry)) }
     ensures right { IfOk result (λ judged. IsRightAt judged.unread (view entry)) }
@@ -118,41 +120,43 @@ fn read_command(alloc: Global, entry: Value, place: usize) -> Result<Judged<Name
     }
 }
 
-/// The commands of the entries of a manifest, and what is said of these.
+/// The commands of the entries of a manifest, and the notes of the entries.
 pub(crate) fn read_commands(
     alloc: Global,
     entries: Vec<Value>,
+    origin: Origin,
 ) -> Result<(CommandTable, Notes), NoMemory>
     ensures read { IfOk result (λ r.
-        r ≡ commands_by (patterns_at r.1.unread) (listed (items_view entries.items))) }
+        r ≡ commands_by origin (marks_at origin Commands r.1.unread) (listed (items_view entries.items))) }
     ensures right { IfOk result (λ r.
-        AllRight IsRightAt (patterns_at r.1.unread) 0 (listed (items_view entries.items))) }
+        AllRight IsRightAt (marks_at origin Commands r.1.unread) 0 (listed (items_view entries.items))) }
 {
     let mut commands = CommandTable::new(alloc);
     let mut notes = Notes::new(alloc);
-    read_each(alloc, entries, &mut commands, &mut notes)?;
+    read_each(alloc, entries, origin, &mut commands, &mut notes)?;
     Ok((commands, notes))
 }
 
-/// Adds the commands of entries to none, and what is said of these to nothing.
+/// Reads all entries into the empty table `commands` and the empty `notes`.
 fn read_each(
     alloc: Global,
     entries: Vec<Value>,
+    origin: Origin,
     commands: &mut CommandTable,
     notes: &mut Notes,
 ) -> Result<(), NoMemory>
     requires commands { commands.old ≡ [] }
     requires notes { notes.old ≡ no_notes }
     ensures read { OnOk result ((commands.new, notes.new)
-        ≡ commands_by (patterns_at notes.new.unread) (listed (items_view entries.items))) }
+        ≡ commands_by origin (marks_at origin Commands notes.new.unread) (listed (items_view entries.items))) }
     ensures right { OnOk result
-        (AllRight IsRightAt (patterns_at notes.new.unread) 0 (listed (items_view entries.items))) }
+        (AllRight IsRightAt (marks_at origin Commands notes.new.unread) 0 (listed (items_view entries.items))) }
 {
     let mut place = 0;
     for entry in entries {
         let judged = read_command(alloc, entry, place)?;
         commands.keep(judged.kept)?;
-        notes.add(Part::Commands, place, judged.number, judged.unread)?;
+        notes.add(origin, Part::Commands, place, judged.number, judged.unread)?;
         place += 1;
     }
     Ok(())

@@ -4,7 +4,7 @@ ghost use Rattle.kb_manifest.specs.CommandTable.{command_named, with_first, with
 
 use crate::command::Command;
 use indexmap::IndexMap;
-use kb_context::{NoMemory, Text};
+use kb_base::{NoMemory, Text};
 use std::alloc::Global;
 use std::marker::Model;
 
@@ -39,7 +39,7 @@ impl Model for CommandTable {
 }
 
 impl CommandTable {
-    /// The table without commands. It takes no memory.
+    /// The table without commands.
     pub(crate) fn new(alloc: Global) -> CommandTable
         ensures { result ≡ [] }
     {

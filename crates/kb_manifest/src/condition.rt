@@ -1,6 +1,6 @@
 //! The clauses of a manifest.
 ghost use Rattle.std.specs.Prelude.{◌≡◌, ◌++◌, Ok, IfOk, option_map};
-ghost use Rattle.kb_context.specs.Failure.{Gives};
+ghost use Rattle.kb_base.specs.Failure.{Gives};
 ghost use Rattle.kb_when.specs.ClauseText.{clause_in};
 ghost use Rattle.kb_pattern.specs.Pattern.{AreRight};
 ghost use Rattle.kb_when.specs.Clause.{patterns_of};
@@ -8,33 +8,33 @@ ghost use Rattle.kb_when.specs.Unread.{unread_of, marked_by};
 ghost use Rattle.kb_manifest.specs.Condition.{number_by, never_holds, condition_by, condition_of};
 ghost use Rattle.kb_manifest.specs.Condition.{optional_condition, IsRightBy, IsRightOf, IsOptionalRight};
 
-use kb_context::{Failure, NoMemory, Seq, Text};
-use kb_when::{Clause, SharedClause, UnreadPattern, WhenFault};
+use kb_base::{Failure, NoMemory, Seq, Text};
+use kb_when::{Clause, ClausePattern, SharedClause, WhenFault};
 use std::alloc::{AllocError, Global};
 
-/// A clause of a manifest, the number of what is said of it, and its patterns that aren't read.
+/// A clause of a manifest, the number of its warning, and its unread patterns.
 #[derive(Drop)]
 pub(crate) struct Condition {
     pub(crate) clause: Option<SharedClause>,
     pub(crate) number: Option<u32>,
-    pub(crate) unread: Seq<UnreadPattern>,
+    pub(crate) unread: Seq<ClausePattern>,
 }
 
 /// A copy of patterns.
-fn copied(alloc: Global, patterns: &[UnreadPattern]) -> Result<Seq<UnreadPattern>, NoMemory>
+fn copied(alloc: Global, patterns: &[ClausePattern]) -> Result<Seq<ClausePattern>, NoMemory>
     ensures { IfOk result (λ made. made ≡ patterns.now) }
 {
     let mut made = Seq::new(alloc);
     for unread in patterns {
         let number = unread.number;
         let pattern = unread.pattern.copied()?;
-        made.push(UnreadPattern { number, pattern })?;
+        made.push(ClausePattern { number, pattern })?;
     }
     Ok(made)
 }
 
 /// The number of the warning of a clause with these patterns that aren't read, if it has one.
-fn number_by(unread: &[UnreadPattern]) -> Option<u32>
+fn number_by(unread: &[ClausePattern]) -> Option<u32>
     ensures { result ≡ number_by unread.now }
 {
     match unread {
@@ -44,7 +44,7 @@ fn number_by(unread: &[UnreadPattern]) -> Option<u32>
 }
 
 /// A copy of a clause's patterns that aren't read.
-fn told_of(alloc: Global, clause: &Clause) -> Result<Seq<UnreadPattern>, NoMemory>
+fn told_of(alloc: Global, clause: &Clause) -> Result<Seq<ClausePattern>, NoMemory>
     ensures told { IfOk result (λ told. told ≡ unread_of clause.now) }
     ensures whole { marked_by (unread_of clause.now) clause.now.tree ≡ clause.now }
     ensures right { AreRight (patterns_of clause.now.tree) clause.now.marks }
@@ -52,7 +52,7 @@ fn told_of(alloc: Global, clause: &Clause) -> Result<Seq<UnreadPattern>, NoMemor
     copied(alloc, clause.unread())
 }
 
-/// A clause that was read, and what is said of it.
+/// The condition of a clause that was read.
 fn marked_condition(alloc: Global, clause: Clause) -> Result<Condition, NoMemory>
     ensures read { IfOk result (λ condition.
         condition ≡ condition_by condition.unread (Ok clause.tree)) }
@@ -71,8 +71,8 @@ fn marked_condition(alloc: Global, clause: Clause) -> Result<Condition, NoMemory
     })
 }
 
-/// The clause `false` in place of one that can't be read, and what is said of it: a command must
-/// not start where its clause was to forbid it (our decision).
+/// The condition of a clause that can't be read: the clause `false`, so that a command never starts where
+/// its clause was meant to prevent that (our decision).
 fn never_holds(alloc: Global, fault: WhenFault) -> Result<Condition, NoMemory>
     ensures { IfOk result (λ condition. condition ≡ never_holds fault) }
 {

@@ -2,11 +2,12 @@
 ghost use Rattle.std.specs.Prelude.{◌≡◌, IfOk, IfErr};
 ghost use Rattle.serde_json.specs.Data.{array, number as json_number};
 ghost use Rattle.serde_json.specs.View.{view, items_view, members_view, number_view};
-ghost use Rattle.kb_context.specs.Failure.{Gives};
+ghost use Rattle.kb_base.specs.Failure.{Gives};
 ghost use Rattle.kb_json.specs.Parts.{names_of};
 ghost use Rattle.kb_manifest.specs.Context.{context_of, MayFail};
 
-use kb_context::{ContextValue, Failure, NoMemory, Seq, Text};
+use kb_base::{Failure, NoMemory, Seq, Text};
+use kb_context::ContextValue;
 use kb_json::{FileFault, read_texts};
 use serde_json::{Map, Number, Value};
 use std::alloc::Global;
@@ -31,7 +32,7 @@ pub fn read_context(alloc: Global, value: Value) -> Result<ContextValue, Failure
     }
 }
 
-/// The context value of a number. It takes no memory.
+/// The context value of a number.
 fn read_number(number: Number) -> Result<ContextValue, FileFault>
     ensures { result ≡ context_of (json_number (number_view number)) }
 {

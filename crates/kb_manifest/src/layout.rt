@@ -5,8 +5,8 @@ ghost use Rattle.std.specs.FinMap.{empty, insert};
 ghost use Rattle.serde_json.specs.Data.{object};
 ghost use Rattle.serde_json.specs.Find.{as_str, get_member};
 ghost use Rattle.serde_json.specs.View.{view, items_view, members_view};
-ghost use Rattle.kb_context.specs.Failure.{Gives};
-ghost use Rattle.kb_context.specs.Reading.{or_fault, seen};
+ghost use Rattle.kb_base.specs.Failure.{Gives};
+ghost use Rattle.kb_base.specs.Reading.{or_fault, seen};
 ghost use Rattle.kb_json.specs.declared.fault.FileFault.TheVariants.{WrongShape};
 ghost use Rattle.kb_json.specs.Parts.{each, optional, listed};
 ghost use Rattle.kb_manifest.specs.Context.{value_of};
@@ -15,7 +15,8 @@ ghost use Rattle.kb_manifest.specs.Layout.{names_of, scope_in, scope_of};
 ghost use Rattle.kb_manifest.specs.Layout.{first_name, record_in, record_of, layout_of};
 
 use crate::context::read_context;
-use kb_context::{ContextValue, Failure, Layout, LayoutScope, NoMemory, Seq, Text, TextMap};
+use kb_base::{Failure, NoMemory, Seq, Text, TextMap};
+use kb_context::{ContextValue, Layout, LayoutScope};
 use kb_json::{FileFault, elements_in, members_in, take_member, text_in};
 use serde_json::{Map, Value};
 use std::alloc::Global;
@@ -27,7 +28,7 @@ use std::alloc::Global;
 /// the empty text where there is no scope. Other members are ignored. Whether the scopes are a tree
 /// is asked by `Scopes::new`.
 ///
-/// Errors: `MissingMember` (40) where `scopes` or a `name` is absent, whatever else is wrong; what is no
+/// Errors: `MissingMember` (40) where `scopes` or a `name` is absent, with or without other faults; what is no
 /// object or no list lacks nothing. Then `WrongShape` (41) where the layout, a scope or `keys` is no
 /// object, `scopes` no list, a `name`, a `parent` or the `focus` no text, or a key's value no context
 /// value: `null` is there, and is none of these; or `NoMemory`.
@@ -93,7 +94,7 @@ fn record_in(alloc: Global, members: &mut Map<String, Value>) -> Result<Layout, 
     Ok(Layout { scopes, focus })
 }
 
-/// The elements of the list that a member is. It takes no memory.
+/// The elements of a member that is an array.
 fn read_list(member: Option<Value>) -> Result<Vec<Value>, FileFault>
     ensures { seen (λ elements. listed (items_view elements.items)) result
         ≡ or_fault WrongShape (list_of (option_map view member)) }

@@ -9,14 +9,14 @@ pub mod context;
 mod judged;
 pub mod layout;
 pub mod manifest;
+pub mod notes;
 pub mod palette_item;
 mod points;
-pub mod warning;
 
 pub use command::Command;
 pub use command_table::{CommandTable, Named};
 pub use context::read_context;
 pub use layout::read_layout;
-pub use manifest::Manifest;
+pub use manifest::{Manifest, Package};
+pub use notes::Notes;
 pub use palette_item::PaletteItem;
-pub use warning::{Notes, Part, Unread, Warning};

@@ -2,26 +2,26 @@
 ghost use Rattle.std.specs.Prelude.{◌≡◌, ◌++◌, [], IfOk, OnOk, option_map, codes};
 ghost use Rattle.serde_json.specs.Find.{get_member};
 ghost use Rattle.serde_json.specs.View.{view, items_view, members_view};
-ghost use Rattle.kb_context.specs.Failure.{Gives};
-ghost use Rattle.kb_context.specs.Reading.{or_fault};
+ghost use Rattle.kb_base.specs.Failure.{Gives};
+ghost use Rattle.kb_base.specs.Reading.{or_fault};
 ghost use Rattle.kb_json.specs.declared.fault.FileFault.TheVariants.{WrongShape};
 ghost use Rattle.kb_json.specs.Parts.{optional, texts_of};
 ghost use Rattle.kb_manifest.specs.Manifest.{publisher_of, id_of, seen_head, head_in, head_of};
-ghost use Rattle.kb_manifest.specs.Manifest.{seen_manifest, told_by, contributed, manifest_of, IsRead};
+ghost use Rattle.kb_manifest.specs.Manifest.{seen_package, told_by, contributed, package_of, IsRead};
 ghost use Rattle.kb_manifest.specs.Manifest.{outline_of, IsRightIn, IsRightBy};
 
 use crate::command::read_commands;
 use crate::command_table::CommandTable;
 use crate::layout::lacks;
+use crate::notes::Notes;
 use crate::palette_item::{PaletteItem, read_items};
 use crate::points::{Points, read_points};
-use crate::warning::Notes;
-use kb_context::{Failure, NoMemory, Seq, Text};
+use kb_base::{Failure, NoMemory, Origin, Seq, Text};
 use kb_json::{FileFault, elements_in, members_in, read_texts, take_member, word_in};
 use serde_json::{Map, Value};
 use std::alloc::Global;
 
-/// What an extension's `package.json` says, as far as this engine reads it.
+/// What an extension's `package.json` contributes, as far as this engine reads it.
 #[derive(Drop)]
 pub struct Manifest {
     /// The extension's identifier, `publisher.name` (VS Code's documentation), as the file spells
@@ -31,18 +31,24 @@ pub struct Manifest {
     pub dependencies: Seq<Text>,
     /// The commands that it contributes, each identifier once.
     pub commands: CommandTable,
-    /// The entries of its key rules, as they stand in the file: `read_list` of `kb_rules` reads
-    /// them by a platform.
-    pub keybindings: Vec<Value>,
     /// The items of the palette's menu.
     pub palette: Seq<PaletteItem>,
-    /// What is said of the entries of its commands.
+    /// What is reported of the entries of its commands.
     pub command_notes: Notes,
-    /// What is said of the items of the palette.
+    /// What is reported of the items of the palette.
     pub palette_notes: Notes,
 }
 
-/// What a manifest says before its entries are read.
+/// What a `package.json` holds.
+#[derive(Drop)]
+pub struct Package {
+    /// The manifest, without its key rules.
+    pub manifest: Manifest,
+    /// The entries of its key rules, as in the file: `read_list` of `kb_rules` reads them for a platform.
+    pub keybindings: Vec<Value>,
+}
+
+/// A manifest before its entries are read.
 #[derive(Drop)]
 struct Head {
     id: Text,
@@ -50,9 +56,9 @@ struct Head {
     points: Points,
 }
 
-impl Manifest {
-    /// The manifest that a JSON value is. `name` has to be there. Other members that this engine
-    /// doesn't know are ignored, as VS Code does.
+impl Package {
+    /// The package that a JSON value is, with the origin that its notes get. `name` has to be there. Other
+    /// members that this engine doesn't know are ignored, as VS Code does.
     ///
     /// A lone object in place of a list is read as a list of one (our decision). An entry of
     /// `commands` needs `command` and `title`, and may have `category` and `enablement`; of several
@@ -60,26 +66,26 @@ impl Manifest {
     /// `command` and may have `when`. An entry that is no object (41), lacks a member (40) or has
     /// one that is no text (41) is dropped, and has a warning of its first fault in this order. A
     /// clause there that can't be read (30 to 33) has a warning, and counts as `false`; one with a
-    /// pattern that isn't read has the warning 34, once. Which patterns aren't read is told by
-    /// `kb_when`, and the notes list them.
+    /// pattern that `regex` rejects has the warning 34, once. The notes list these patterns.
     ///
-    /// Errors: `MissingMember` (40) where an object lacks `name`, whatever else is wrong. Then
+    /// Errors: `MissingMember` (40) where an object lacks `name`, with or without other faults. Then
     /// `WrongShape` (41) where the value, `contributes` or `menus` is no object, `name` or
     /// `publisher` no text or empty, `extensionDependencies` no list of texts, or `commands`,
     /// `keybindings` or `menus.commandPalette` neither a list nor an object: `null` is there, and
     /// is none of these; or `NoMemory`.
     #[tactic(auto, unfolding(crate::specs::Manifest::outline_of))]
-    pub fn read(alloc: Global, value: Value) -> Result<Manifest, Failure<FileFault>>
-        ensures read { IsRead (λ told. manifest_of told (view value)) result }
+    pub fn read(alloc: Global, value: Value, origin: Origin) -> Result<Package, Failure<FileFault>>
+        ensures read { IsRead origin (λ told. package_of origin told (view value)) result }
 
-        // A pattern is listed only where `regex` doesn't read it, and isn't listed only where it does.
-        ensures right { IfOk result (λ manifest. IsRightBy (told_by manifest) (outline_of (view value))) }
+        // A pattern is listed as unread exactly where `regex` rejects it.
+        ensures right { IfOk result (λ contents.
+            IsRightBy (told_by origin contents.manifest) (outline_of (view value))) }
     {
         if lacks(&value, "name") {
             return Err(Failure::Fault(FileFault::MissingMember));
         }
         let head = read_head(alloc, value)?;
-        Ok(contribute(alloc, head)?)
+        Ok(contribute(alloc, head, origin)?)
     }
 }
 
@@ -137,7 +143,7 @@ fn read_dependencies(
     }
 }
 
-/// What a manifest says before its entries are read.
+/// A manifest before its entries are read.
 #[tactic(auto, unfolding(crate::specs::Manifest::head_of))]
 fn read_head(alloc: Global, value: Value) -> Result<Head, Failure<FileFault>>
     ensures { Gives seen_head result (or_fault WrongShape (head_of (view value))) }
@@ -146,7 +152,7 @@ fn read_head(alloc: Global, value: Value) -> Result<Head, Failure<FileFault>>
     head_in(alloc, &mut members)
 }
 
-/// What the members of a manifest say before its entries are read, taken out of them.
+/// A manifest before its entries are read, taken out of its members.
 fn head_in(alloc: Global, members: &mut Map<String, Value>) -> Result<Head, Failure<FileFault>>
     ensures { Gives seen_head result (or_fault WrongShape (head_in (members_view members.old.entries))) }
 {
@@ -161,20 +167,24 @@ fn head_in(alloc: Global, members: &mut Map<String, Value>) -> Result<Head, Fail
     })
 }
 
-/// The manifest whose entries these are.
-fn contribute(alloc: Global, head: Head) -> Result<Manifest, NoMemory>
-    ensures read { IfOk result (λ manifest.
-        contributed (told_by manifest) (seen_head head) ≡ seen_manifest manifest) }
-    ensures right { IfOk result (λ manifest. IsRightIn (told_by manifest) (seen_head head)) }
+/// The package whose entries these are.
+fn contribute(alloc: Global, head: Head, origin: Origin) -> Result<Package, NoMemory>
+    ensures read { IfOk result (λ contents.
+        contributed origin (told_by origin contents.manifest) (seen_head head) ≡ seen_package contents) }
+    ensures right { IfOk result (λ contents.
+        IsRightIn (told_by origin contents.manifest) (seen_head head)) }
 {
     let Head {
         id,
         dependencies,
         points,
     } = head;
-    let commands = read_commands(alloc, points.commands)?;
-    let palette = read_items(alloc, points.palette)?;
-    Ok(joined(id, dependencies, commands, points.keybindings, palette))
+    let commands = read_commands(alloc, points.commands, origin)?;
+    let palette = read_items(alloc, points.palette, origin)?;
+    Ok(Package {
+        manifest: joined(id, dependencies, commands, palette),
+        keybindings: points.keybindings,
+    })
 }
 
 /// The manifest of these parts, of which commands and palette come with their notes.
@@ -182,14 +192,12 @@ fn joined(
     id: Text,
     dependencies: Seq<Text>,
     commands: (CommandTable, Notes),
-    keybindings: Vec<Value>,
     palette: (Seq<PaletteItem>, Notes),
 ) -> Manifest
     ensures { result ≡ record {
       id = id;
       dependencies = dependencies;
       commands = commands.0;
-      keybindings = keybindings;
       palette = palette.0;
       command_notes = commands.1;
       palette_notes = palette.1;
@@ -201,7 +209,6 @@ fn joined(
         id,
         dependencies,
         commands,
-        keybindings,
         palette,
         command_notes,
         palette_notes,

@@ -1,4 +1,4 @@
-//! The entries of a manifest that say where the palette shows a command.
+//! The entries of a manifest that control where the palette shows a command.
 ghost use Rattle.std.specs.Prelude.{◌≡◌, ◌++◌, [], IfOk, OnOk};
 ghost use Rattle.serde_json.specs.View.{view, items_view, members_view};
 ghost use Rattle.kb_manifest.specs.Judged.{kept_in, AllRight};
@@ -6,12 +6,14 @@ ghost use Rattle.kb_json.specs.Parts.{listed};
 ghost use Rattle.kb_manifest.specs.PaletteItem.{texts_of, texts_in, said, item_of, judged_at, items_by};
 ghost use Rattle.kb_manifest.specs.PaletteItem.{IsRightAt};
 ghost use Rattle.kb_manifest.specs.Condition.{IsOptionalRight};
-ghost use Rattle.kb_manifest.specs.Warning.{no_notes, patterns_at};
+ghost use Rattle.kb_base.specs.declared.note.Part.TheVariants.{Palette};
+ghost use Rattle.kb_manifest.specs.Notes.{no_notes};
+ghost use Rattle.kb_when.specs.Placed.{marks_at};
 
 use crate::condition::optional_condition;
 use crate::judged::Judged;
-use crate::warning::{Notes, Part};
-use kb_context::{NoMemory, Seq, Text, is_blank_text};
+use crate::notes::Notes;
+use kb_base::{NoMemory, Origin, Part, Seq, Text, is_blank_text};
 use kb_json::{FileFault, members_in, optional_text, required_text, take_member};
 use kb_when::SharedClause;
 use serde_json::{Map, Value};
@@ -21,12 +23,12 @@ use std::alloc::Global;
 /// of contribution points.
 #[derive(Debug, Drop)]
 pub struct PaletteItem {
-    /// The identifier of the command that it speaks of, which need not exist.
+    /// The identifier of its command, which need not exist.
     pub command: Text,
     /// The clause where the palette shows the command, if there is one: an item without one holds.
     /// One that can't be read is the clause `false`, and a blank one is absent (our decisions).
     pub when: Option<SharedClause>,
-    /// Where the entry stands among the items: the number of entries above it, dropped ones too.
+    /// The place of the entry among the items: the number of entries above it, including dropped ones.
     pub place: usize,
 }
 
@@ -37,7 +39,7 @@ struct ItemTexts {
     when: Option<Text>,
 }
 
-/// A text that says something, if there is one.
+/// A text that isn't blank, if there is one.
 fn said(text: Option<Text>) -> Option<Text>
     ensures { result ≡ said text }
 {
@@ -52,7 +54,7 @@ fn said(text: Option<Text>) -> Option<Text>
     }
 }
 
-/// The texts of an entry, moved out of it. It takes no memory.
+/// The texts of an entry, moved out of it.
 #[tactic(auto, unfolding(crate::specs::PaletteItem::texts_of))]
 fn texts_of(entry: Value) -> Result<ItemTexts, FileFault>
     ensures { result ≡ texts_of (view entry) }
@@ -73,7 +75,7 @@ fn texts_in(members: &mut Map<String, Value>) -> Result<ItemTexts, FileFault>
     })
 }
 
-/// The item of these texts, and what is said of its clause.
+/// The item of these texts, with the warning of its clause.
 fn item_of(alloc: Global, texts: ItemTexts, place: usize) -> Result<Judged<PaletteItem>, NoMemory>
     ensures read { IfOk result (λ judged. judged ≡ item_of judged.unread place texts) }
     ensures right { IfOk result (λ judged. IsOptionalRight judged.unread texts.when) }
@@ -92,7 +94,7 @@ fn item_of(alloc: Global, texts: ItemTexts, place: usize) -> Result<Judged<Palet
     })
 }
 
-/// What becomes of the entry at a place.
+/// Reads the entry at a place.
 fn read_item(alloc: Global, entry: Value, place: usize) -> Result<Judged<PaletteItem>, NoMemory>
     ensures read { IfOk result (λ judged. judged ≡ judged_at judged.unread place (view entry)) }
     ensures right { IfOk result (λ judged. IsRightAt judged.unread (view entry)) }
@@ -117,41 +119,43 @@ fn keep(items: &mut Seq<PaletteItem>, kept: Option<PaletteItem>) -> Result<(), N
     }
 }
 
-/// The items of the entries of a manifest, and what is said of these.
+/// The items of the entries of a manifest, and the notes of the entries.
 pub(crate) fn read_items(
     alloc: Global,
     entries: Vec<Value>,
+    origin: Origin,
 ) -> Result<(Seq<PaletteItem>, Notes), NoMemory>
     ensures read { IfOk result (λ r.
-        r ≡ items_by (patterns_at r.1.unread) (listed (items_view entries.items))) }
+        r ≡ items_by origin (marks_at origin Palette r.1.unread) (listed (items_view entries.items))) }
     ensures right { IfOk result (λ r.
-        AllRight IsRightAt (patterns_at r.1.unread) 0 (listed (items_view entries.items))) }
+        AllRight IsRightAt (marks_at origin Palette r.1.unread) 0 (listed (items_view entries.items))) }
 {
     let mut items = Seq::new(alloc);
     let mut notes = Notes::new(alloc);
-    read_each(alloc, entries, &mut items, &mut notes)?;
+    read_each(alloc, entries, origin, &mut items, &mut notes)?;
     Ok((items, notes))
 }
 
-/// Adds the items of entries to none, and what is said of these to nothing.
+/// Reads all entries into the empty list `items` and the empty `notes`.
 fn read_each(
     alloc: Global,
     entries: Vec<Value>,
+    origin: Origin,
     items: &mut Seq<PaletteItem>,
     notes: &mut Notes,
 ) -> Result<(), NoMemory>
     requires items { items.old ≡ [] }
     requires notes { notes.old ≡ no_notes }
     ensures read { OnOk result ((items.new, notes.new)
-        ≡ items_by (patterns_at notes.new.unread) (listed (items_view entries.items))) }
+        ≡ items_by origin (marks_at origin Palette notes.new.unread) (listed (items_view entries.items))) }
     ensures right { OnOk result
-        (AllRight IsRightAt (patterns_at notes.new.unread) 0 (listed (items_view entries.items))) }
+        (AllRight IsRightAt (marks_at origin Palette notes.new.unread) 0 (listed (items_view entries.items))) }
 {
     let mut place = 0;
     for entry in entries {
         let judged = read_item(alloc, entry, place)?;
         keep(items, judged.kept)?;
-        notes.add(Part::Palette, place, judged.number, judged.unread)?;
+        notes.add(origin, Part::Palette, place, judged.number, judged.unread)?;
         place += 1;
     }
     Ok(())

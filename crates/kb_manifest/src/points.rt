@@ -1,14 +1,14 @@
 //! What the contribution points of a manifest hold.
 ghost use Rattle.std.specs.Prelude.{[], option_map, IfOk, ◌≡◌, ◌∷◌};
 ghost use Rattle.serde_json.specs.View.{view, items_view, members_view};
-ghost use Rattle.kb_context.specs.Failure.{Gives};
-ghost use Rattle.kb_context.specs.Reading.{or_fault};
+ghost use Rattle.kb_base.specs.Failure.{Gives};
+ghost use Rattle.kb_base.specs.Reading.{or_fault};
 ghost use Rattle.kb_json.specs.declared.fault.FileFault.TheVariants.{WrongShape};
 ghost use Rattle.kb_json.specs.Parts.{optional, listed};
 ghost use Rattle.kb_manifest.specs.Points.{entries_of, palette_of, no_points, points_by, points_in};
 ghost use Rattle.kb_manifest.specs.Points.{seen_points};
 
-use kb_context::{Failure, NoMemory};
+use kb_base::{Failure, NoMemory};
 use kb_json::{FileFault, members_in, take_member};
 use serde_json::{Map, Value};
 use std::alloc::Global;

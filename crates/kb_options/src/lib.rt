@@ -1,8 +1,7 @@
-//! The command line of a program: the options that its words give, as `clap` reads them.
+//! The options of a run. They are a crate of their own, so that code that runs them does not depend on
+//! `clap`.
 #![tactic(auto)]
 
-pub mod command_line;
 pub mod given;
 
-pub use command_line::{not_text, options};
-pub use given::{OptionsFault, Program, WordsFault, line_status, words_fault};
+pub use given::Options;

@@ -1,4 +1,4 @@
--- What `regex` ensures of a pattern, in the words of this crate.
+-- The guarantees of `regex` for a pattern, stated with the definitions of this crate.
 use Rattle.std.proofs.Common.{◌≡◌, ◌≢◌, inl, inr, ℕ, ◌≤◌, ◌<◌, List, Bool, true, false, Option, Some}
 use Rattle.std.proofs.Common.{None, is_some, is_none, not, IsSomeAnd, IfSome, get_or, refl, sym, ◌∙◌, ap}
 use Rattle.std.proofs.Common.{subst, arith, option_map, Result, Ok, Err, IfOk, IfErr}

@@ -1,23 +1,23 @@
-//! The flags of patterns.
+//! Flags of patterns.
 ghost use Rattle.std.specs.Prelude.{◌≡◌, nat_eq};
 ghost use Rattle.std.specs.List.{list_any};
 
-/// Which flags a pattern has: of the letters behind it the set of `i`, `m` and `s` counts (JavaScript's
-/// flags; that others are ignored is our decision).
+/// The flags of a pattern: which of the letters `i`, `m` and `s` follow it. These are JavaScript's flags.
+/// Other letters are ignored (our decision).
 #[derive(Clone, Copy, Debug, PartialEq, Eq)]
 pub struct Flags {
-    /// `i`: letters match in either case.
+    /// `i`: letters match in upper and lower case.
     pub ignore_case: bool,
-    /// `m`: `^` and `$` match at the lines' ends too.
+    /// `m`: `^` and `$` also match at the start and the end of each line.
     pub multi_line: bool,
-    /// `s`: `.` matches a line feed too.
+    /// `s`: `.` also matches a line feed.
     pub dot_all: bool,
 }
 
 impl Flags {
     ghost use Rattle.kb_pattern.specs.Pattern.{flags_of, same_flags};
 
-    /// The flags of a pattern's letters. It takes no memory.
+    /// The flags for the letters after a pattern.
     pub fn of(letters: &str) -> Flags
         ensures { result ≡ flags_of letters.now }
     {
@@ -29,7 +29,7 @@ impl Flags {
         }
     }
 
-    /// Whether both are the same flags. It takes no memory.
+    /// Whether both sets of flags are equal.
     pub fn is(self, other: Flags) -> bool
         ensures { result ≡ same_flags self other }
     {
@@ -39,7 +39,7 @@ impl Flags {
     }
 }
 
-/// Whether a letter is among these.
+/// Whether `letters` contains a letter.
 fn has(letters: &[u8], letter: u8) -> bool
     ensures { result ≡ list_any (nat_eq letter) letters.now }
 {

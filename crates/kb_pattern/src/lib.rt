@@ -1,4 +1,4 @@
-//! Patterns of when clauses, as `regex` reads them.
+//! Regular expressions of when clauses, compiled by `regex`.
 #![tactic(auto)]
 
 pub mod flags;

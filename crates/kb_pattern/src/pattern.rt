@@ -1,17 +1,17 @@
-//! Patterns that `regex` reads, or doesn't.
+//! Compiled patterns.
 ghost use Rattle.std.specs.Prelude.{◌≡◌, IfOk, not, option_map};
 ghost use Rattle.regex.specs.Views.{builder_source, builder_config};
 ghost use Rattle.kb_pattern.specs.Pattern.{config_of, is_read, pattern_holds, Stands, compiled_of};
 
 use crate::flags::Flags;
-use kb_context::{NoMemory, Text};
+use kb_base::{NoMemory, Text};
 use regex::{Error, Regex, RegexBuilder};
 use std::alloc::{AllocError, Global};
 use std::fmt;
 use std::marker::Model;
 
-/// A pattern with its flags, compiled once. One that `regex` doesn't read is marked, and matches
-/// nothing. What is compiled takes more than a kilobyte, so it stands apart: most clauses have no pattern.
+/// A pattern with its flags, compiled once. A pattern that `regex` rejects is marked as unread and never
+/// matches. The compiled form has more than a kilobyte, so it is boxed: most clauses have no pattern.
 #[derive(Drop)]
 pub struct Pattern {
     text: Text,
@@ -33,8 +33,8 @@ impl Model for Pattern {
 impl Pattern {
     ghost use Rattle.kb_pattern.specs.Pattern.{marked_pattern, HasRightMark};
 
-    /// Compiles a pattern, or marks it where the grammar of `regex` doesn't read it. Want of memory, and
-    /// what is too large for `regex`, which counts as such.
+    /// Compiles a pattern, or marks it as unread if `regex` rejects its syntax. Error: `NoMemory`, also if
+    /// the pattern is too large for `regex`.
     pub fn new(alloc: Global, text: Text, flags: Flags) -> Result<Pattern, NoMemory>
         ensures { IfOk result (λ pattern. pattern ≡ marked_pattern text flags) }
     {
@@ -46,7 +46,7 @@ impl Pattern {
         })
     }
 
-    /// Whether the pattern is marked as one that `regex` doesn't read.
+    /// Whether the pattern is marked as unread, because `regex` rejects its syntax.
     pub fn is_unread(&self) -> bool
         ensures value { result ≡ self.now.unread }
         ensures right { HasRightMark self.now }
@@ -54,14 +54,14 @@ impl Pattern {
         self.compiled.is_none()
     }
 
-    /// The pattern itself, lent.
+    /// The source text of the pattern.
     pub fn text(&self) -> &Text
         ensures { result.now ≡ self.now.text }
     {
         &self.text
     }
 
-    /// Whether the pattern matches somewhere in a text.
+    /// Whether the pattern matches somewhere in a text; `false` for an unread pattern. Error: `NoMemory`.
     pub fn matches(&self, alloc: Global, text: &str) -> Result<bool, NoMemory>
         ensures { IfOk result (λ holds. holds ≡ pattern_holds self.now text.now) }
     {
@@ -80,7 +80,7 @@ impl Pattern {
     ghost use Rattle.std.specs.Str.{bytes_eq};
     ghost use Rattle.kb_pattern.specs.Pattern.{same_flags};
 
-    /// Whether both are the same text with the same flags; marks don't count. It takes no memory.
+    /// Whether both patterns have the same text and the same flags. The marks are not compared.
     pub fn is(&self, other: &Pattern) -> bool
         ensures { result ≡
             bytes_eq self.now.text other.now.text && same_flags self.now.flags other.now.flags }
@@ -95,9 +95,8 @@ impl fmt::Debug for Pattern {
     }
 }
 
-/// What becomes of a pattern, by how `regex` took it: one of a syntax that it doesn't read is no fault, and
-/// any other refusal is want of memory, also that of a pattern which is too large (our decision). It
-/// takes no memory.
+/// The outcome of a build by `regex`: an unsupported syntax is not an error. Any other refusal counts as
+/// `NoMemory`, also that of a pattern that is too large (our decision).
 fn compiled_of(built: Result<Regex, Error>) -> Result<Option<Regex>, NoMemory>
     ensures { result ≡ compiled_of built }
 {
@@ -110,14 +109,14 @@ fn compiled_of(built: Result<Regex, Error>) -> Result<Option<Regex>, NoMemory>
     }
 }
 
-/// The compiled pattern, or nothing where the grammar of `regex` doesn't read it.
+/// The compiled pattern, or `None` if `regex` rejects its syntax. Error: `NoMemory`.
 fn compile(alloc: Global, text: &str, flags: Flags) -> Result<Option<Regex>, NoMemory>
     ensures { IfOk result (Stands text.now flags) }
 {
     compiled_of(builder(text, flags).build(alloc))
 }
 
-/// The same in a place of its own.
+/// Moves the compiled pattern into a box. Error: `NoMemory`.
 fn set_apart(alloc: Global, compiled: Option<Regex>) -> Result<Option<Box<Regex>>, NoMemory>
     ensures { IfOk result (λ apart. option_map (λ b. b.value) apart ≡ compiled) }
 {

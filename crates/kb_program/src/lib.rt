@@ -1,4 +1,4 @@
-//! A program from its command line to its exit status, with the closures of its host.
+//! A program from its command line to its exit status, with closures of its own for the native commands.
 #![tactic(auto)]
 
 pub mod host;

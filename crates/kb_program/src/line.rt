@@ -1,20 +1,19 @@
-//! A program from its words on.
+//! Runs a program from its command line on.
 ghost use Rattle.std.specs.Prelude.{IfOk, IfErr};
 ghost use Rattle.std.specs.Process.{exit_status};
 ghost use Rattle.kb_program.specs.Line.{HasNoWords, IsNoWords};
-ghost use Rattle.kb_run.specs.System.{IsStatus};
+ghost use Rattle.kb_run.specs.Report.{IsStatus};
 
-use kb_context::NoMemory;
-use kb_natives::HostClosures;
-use kb_options::{OptionsFault, Program, WordsFault, line_status, not_text, options, words_fault};
+use kb_base::NoMemory;
+use kb_cli::{OptionsFault, Program, WordsFault, line_status, not_text, options, words_fault};
 use kb_registry::HostCommand;
-use kb_run::{Handlers, run_on_system, without_memory};
+use kb_run::{Setup, run_on_system, without_memory};
 use std::alloc::Global;
 use std::env;
 use std::process::ExitCode;
 use std::rt::{Env, Files};
 
-// Why there are no words.
+/// The fault of a command line whose words could not be read.
 fn no_words(
     alloc: Global,
     program: Program<'_>,
@@ -28,8 +27,8 @@ fn no_words(
     }
 }
 
-// The words of the command line, of which the first is the program's name. They are pushed one by one,
-// since `collect` goes on where its guess at the length finds no memory, and each want ends the run.
+/// The words of the command line, of which the first is the program's name. They are pushed one by one:
+/// `collect` continues if its first reservation is refused, and each refused allocation must end the run.
 fn line_words<R: Env + Alloc<A = Global>>(
     rt: &R,
     alloc: Global,
@@ -48,50 +47,48 @@ fn line_words<R: Env + Alloc<A = Global>>(
     Ok(words)
 }
 
-// Reads the words, and runs what they ask for.
+/// Parses the words, and runs what they ask for.
 fn run_words<R: Files + Print + Eprint + Input, H: HostCommand>(
     rt: &R,
     alloc: Global,
     program: Program<'_>,
-    handlers: Handlers,
     words: &[String],
-    closures: HostClosures<H>,
+    setup: Setup<H>,
 ) -> Result<u8, OptionsFault>
-    ensures { IfOk result IsStatus }
+    ensures { IfOk result (IsStatus setup.verification) }
 {
     let mut texts = Vec::new(alloc);
     for word in words {
         texts.push(word.as_str()).map_err(NoMemory::from)?;
     }
     let given = options(alloc, program, texts.as_slice())?;
-    Ok(run_on_system(rt, alloc, handlers, given, closures))
+    Ok(run_on_system(rt, alloc, setup, given))
 }
 
+/// Runs what the command line asks for.
 fn run_line<R: Alloc<A = Global> + Env + Files + Print + Eprint + Input, H: HostCommand>(
     rt: &R,
     alloc: Global,
     program: Program<'_>,
-    handlers: Handlers,
-    closures: HostClosures<H>,
+    setup: Setup<H>,
 ) -> Result<u8, OptionsFault>
-    ensures { IfOk result IsStatus }
+    ensures { IfOk result (IsStatus setup.verification) }
 {
     let words = line_words(rt, alloc, program)?;
-    run_words(rt, alloc, program, handlers, words.as_slice(), closures)
+    run_words(rt, alloc, program, words.as_slice(), setup)
 }
 
-/// Runs a program: reads the command line and the files that it names, loads a session with the host's
-/// closures, and runs the script.
+/// Runs a program: parses the command line, reads the files that it names, loads a session with the host's
+/// closures, and runs the script. The exit status is 0, 2, 3 or 4, or 5 with raw handlers.
 pub fn run_program<R: Alloc<A = Global> + Env + Files + Print + Eprint + Input, H: HostCommand>(
     rt: &R,
     alloc: Global,
     program: Program<'_>,
-    handlers: Handlers,
-    closures: HostClosures<H>,
+    setup: Setup<H>,
 ) -> ExitCode
-    ensures { IsStatus (exit_status result) }
+    ensures { IsStatus setup.verification (exit_status result) }
 {
-    match run_line(rt, alloc, program, handlers, closures) {
+    match run_line(rt, alloc, program, setup) {
         Ok(status) => ExitCode::from(status),
         Err(OptionsFault::Line(error)) => {
             let _ = error.print(rt);

@@ -1,6 +1,7 @@
 -- Lemmas on the plain view of a registry's entries.
 use Rattle.std.proofs.Common.{◌≡◌, ◌∙◌, ℕ, Bool, true, false, cond, List, [], ◌∷◌, ◌++◌, find, Option}
-use Rattle.std.proofs.Common.{Some, None, IfSome, IfNone, is_some, option_map, nat_eq, refl, sym, ap, zero, suc}
+use Rattle.std.proofs.Common.{Some, None, IfSome, IfNone, is_some, option_map, nat_eq, refl, sym, ap}
+use Rattle.std.proofs.Common.{zero, suc}
 use Rattle.std.proofs.Common.{slice_get, remove, length, option_copied, Bor, arith}
 use Rattle.std.proofs.lemmas.List.{map-append}
 use Rattle.std.proofs.lemmas.Bool.Decides.{Decides-eqb}
@@ -10,18 +11,18 @@ use Rattle.std.specs.Map.{keys_of, lookup}
 use Rattle.indexmap.specs.IndexMap.{IndexMap, get, insert_entry, Updates, IsUnchanged}
 use Rattle.indexmap.proofs.CallerLemmas.{insert_entry-new}
 use Rattle.kb_core.specs.declared.native.Native.{Native}
-use Rattle.kb_codes.specs.Live.{Group, same_native}
+use Rattle.kb_handler_table.specs.Live.{Group, same_native}
 use Rattle.kb_registry.specs.Live.{natives_of, is_live, without}
 use Rattle.kb_registry.specs.Place.{NoneBelow}
 use Rattle.kb_registry.specs.Sound.{plain_entries}
 
 module _ {E : Type 0} (ticket : E → ℕ) where
-  -- the natives that are live are the keys of the table
+  -- the live natives are the keys of the table
   pub natives-plain : (es : List (Native × E)) → natives_of (plain_entries ticket es) ≡ keys_of es
   natives-plain [] = refl
   natives-plain (e ∷ es) = ap (λ natives. e.0 ∷ natives) (natives-plain es)
 
-  -- a native is live where the table has an entry for it
+  -- a native is live exactly if the table has an entry for it
   pub live-get : {S : Type 0} (limit made : ℕ) (code : List Group) (m : IndexMap Native E S) (native : Native)
       → is_live native
       (record { limit = limit; made = made; commands = plain_entries ticket m.entries; code = code })
@@ -30,7 +31,7 @@ module _ {E : Type 0} (ticket : E → ℕ) where
       ap (list_any (same_native native)) (natives-plain m.entries)
       ∙ sym (is_some-lookup (same_native native) m.entries)
 
-  -- one more entry goes last
+  -- a new entry goes last
   pub plain_entries-push : (es : List (Native × E)) (native : Native) (e : E) → plain_entries ticket (es ++ (native, e) ∷ [])
       ≡ plain_entries ticket es ++ record { native = native; ticket = ticket e } ∷ []
   plain_entries-push es native e = map-append (λ e. record { native = e.0; ticket = ticket e.1 }) es ((native, e) ∷ [])
@@ -50,7 +51,7 @@ registered-entries ticket m after native e none put =
     ∙ plain_entries-push ticket m.entries native e
 
 module _ {E : Type 0} (ticket : E → ℕ) (t : ℕ) where
-  -- the entries past the first
+  -- the entries after the first
   tail_none : (e : Native × E) (es : List (Native × E)) (i : ℕ) → NoneBelow ticket (e ∷ es) t (suc i)
       → NoneBelow ticket es t i
   tail_none e es i none k h = none (suc k) (omega arith)
@@ -69,7 +70,7 @@ module _ {E : Type 0} (ticket : E → ℕ) (t : ℕ) where
   abbrev holder_in : List (Native × E) → Option Native
   holder_in es = option_map (λ c. c.native) (find (λ c. nat_eq c.ticket t) (plain_entries ticket es))
 
-  -- what is found in the entries, by whether the first has the ticket
+  -- the holder of the ticket, by whether the first entry has it
   holder_by : (e : Native × E) (es : List (Native × E)) (b : Bool) → nat_eq (ticket e.1) t ≡ b
       → holder_in (e ∷ es) ≡ cond b (Some e.0) (holder_in es)
   holder_by e es true h =
@@ -118,19 +119,19 @@ kept m n k u q e h = by (same_native k q) refl
     by true is = let gone : get same_native n q ≡ None = u.0 q ∙ ap (λ b. cond b None (get same_native m q)) is in cc
     by false is = sym (u.0 q ∙ ap (λ b. cond b None (get same_native m q)) is) ∙ h
 
--- the same, whatever was taken out
+-- the same for any removed entry
 pub kept_after : {E S : Type 0} (m n : IndexMap Native E S) (r : Option (Native × E))
     → IfSome r (λ p. Updates same_native m n p.0 None) → IfNone r (IsUnchanged m n)
     → (q : Native) (e : E) → get same_native n q ≡ Some e → get same_native m q ≡ Some e
 kept_after m n None u same q e h = sym (ap (lookup (same_native q)) same) ∙ h
 kept_after m n (Some p) u same q e h = kept m n p.0 u q e h
 
--- what is lent of a value is there where the value is
+-- a borrowed option has a value exactly if the option has one
 pub is_some-lent : {X : Type 0} (r : Option (Bor X)) → is_some (option_copied r) ≡ is_some r
 is_some-lent None = refl
 is_some-lent (Some x) = refl
 
--- what holds of the value that is there holds of what is lent
+-- a property of an option's value holds for the borrowed value
 pub holds_lent : {X : Type 0} {P : X → Type 0} (r : Option (Bor X)) (o : Option X) → option_copied r ≡ o
     → ((x : X) → o ≡ Some x → P x) → IfSome r (λ x. P x.now)
 holds_lent None o is holds = tt

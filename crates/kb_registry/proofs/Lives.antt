@@ -1,11 +1,12 @@
--- A native that stands for a live command is live.
-use Rattle.std.proofs.Common.{◌≡◌, Bool, true, false, List, ℕ, Option, Some, None, refl, ap, sym, subst, is_some}
+-- A native that is the live command of its identifier has a registered closure.
+use Rattle.std.proofs.Common.{◌≡◌, Bool, true, false, List, ℕ, Option, Some, None, refl, ap, sym, subst}
+use Rattle.std.proofs.Common.{is_some}
 use Rattle.std.proofs.Common.{true≢false, option_map, cond}
 use Rattle.kb_core.specs.declared.native.Native.{Native}
 use Rattle.kb_core.specs.Native.{named}
 use Rattle.kb_code.specs.Handler.{HandlerData}
-use Rattle.kb_codes.specs.Callee.{Callee, Plain, Coded, IsLive}
-use Rattle.kb_codes.specs.Live.{handlers_in, handler_named}
+use Rattle.kb_code.specs.Commands.{Callee, Plain, Coded, IsLive}
+use Rattle.kb_handler_table.specs.Live.{handlers_in, handler_named}
 use Rattle.kb_registry.specs.Live.{Live, is_live, callee_by, table_of}
 
 -- the native of a callee

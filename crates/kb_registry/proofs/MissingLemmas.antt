@@ -1,5 +1,6 @@
--- Lemmas on the first callee that is missing, handler by handler.
-use Rattle.std.proofs.Common.{◌≡◌, ◌∙◌, ℕ, zero, suc, ◌+◌, ◌<◌, List, [], ◌∷◌, Some, None, refl, sym, ap, drop}
+-- Lemmas on the search for a missing callee, handler by handler.
+use Rattle.std.proofs.Common.{◌≡◌, ◌∙◌, ℕ, zero, suc, ◌+◌, ◌<◌, List, [], ◌∷◌, Some, None, refl, sym}
+use Rattle.std.proofs.Common.{ap, drop}
 use Rattle.std.proofs.Common.{length, get_or, arith, ◌≤◌}
 use Rattle.std.specs.Prelude.{slice_get}
 use Rattle.std.specs.Option.{option_or}
@@ -13,7 +14,7 @@ module _ (among : List HandlerData) (live : Live) where
   empty [] = refl
   empty (h ∷ hs) = refl
 
-  -- at a place, what is missing from there on
+  -- the search from a place on
   at : (hs : List HandlerData) (all : List (List Callee)) (i : ℕ) (h : HandlerData) (cs : List Callee)
       → i < length hs → h ≡ get_or hs i h → Some cs ≡ slice_get all i
       → missing_from among live (drop i hs) (drop i all)
@@ -23,7 +24,7 @@ module _ (among : List HandlerData) (live : Live) where
   at (x ∷ hs) (ys ∷ all) zero h cs below is its = cc (is, its)
   at (x ∷ hs) (ys ∷ all) (suc i) h cs below is its = at hs all i h cs (omega (arith, below)) is its
 
-  -- where none is missing in a handler, what is missing behind it
+  -- a handler without a missing callee is skipped
   pub next_handler : (hs : List HandlerData) (all : List (List Callee)) (i : ℕ) (h : HandlerData) (cs : List Callee)
       → i < length hs → h ≡ get_or hs i h → Some cs ≡ slice_get all i → None ≡ missing_in among live h cs
       → missing_from among live (drop (i + 1) hs) (drop (i + 1) all) ≡ missing_from among live (drop i hs) (drop i all)
@@ -33,7 +34,7 @@ module _ (among : List HandlerData) (live : Live) where
       ∙ sym (at hs all i h cs below is its ∙ ap (λ o. option_or o (missing_from among live (drop (suc i) hs)
       (drop (suc i) all))) (sym none))
 
-  -- where one is, it is the first
+  -- the first missing callee of a handler ends the search
   pub found_here : (hs : List HandlerData) (all : List (List Callee)) (i : ℕ) (h : HandlerData) (cs : List Callee)
       (name : List ℕ) → i < length hs → h ≡ get_or hs i h → Some cs ≡ slice_get all i
       → Some name ≡ missing_in among live h cs → Some name ≡ missing_from among live (drop i hs) (drop i all)
@@ -41,7 +42,7 @@ module _ (among : List HandlerData) (live : Live) where
       sym (at hs all i h cs below is its ∙ ap (λ o. option_or o (missing_from among live (drop (suc i) hs)
       (drop (suc i) all))) (sym some))
 
-  -- and where no callees are left, none is missing
+  -- without further lists of callees none is missing
   pub no_callees : (hs : List HandlerData) (all : List (List Callee)) (i : ℕ) → length all ≤ i
       → None ≡ missing_from among live (drop i hs) (drop i all)
   no_callees hs [] zero above = empty hs

@@ -1,5 +1,6 @@
--- What is true of the fields of a registry stays true.
-use Rattle.std.proofs.Common.{◌≡◌, ◌∙◌, ℕ, ◌+◌, ◌<◌, Bool, true, false, cond, [], ◌∷◌, ◌++◌, Option, Some, None, IfSome, IfNone}
+-- The invariant of a registry's fields is preserved.
+use Rattle.std.proofs.Common.{◌≡◌, ◌∙◌, ℕ, ◌+◌, ◌<◌, Bool, true, false, cond, [], ◌∷◌, ◌++◌, Option}
+use Rattle.std.proofs.Common.{Some, None, IfSome, IfNone}
 use Rattle.std.proofs.Common.{refl, sym, ap, subst, arith}
 use denote.Enum.Bare.{same_true}
 use Rattle.indexmap.specs.IndexMap.{IndexMap, get, Updates, IsUnchanged}
@@ -7,7 +8,7 @@ use Rattle.kb_core.specs.contracts.native.Native.{the_type}
 use Rattle.kb_core.specs.declared.native.Native.{Native}
 use Rattle.kb_core.specs.Declaration.{Declaration}
 use Rattle.kb_core.specs.Native.{declaration_of}
-use Rattle.kb_codes.specs.Live.{same_native}
+use Rattle.kb_handler_table.specs.Live.{same_native}
 use Rattle.kb_registry.specs.Live.{AreNumbered, without}
 use Rattle.kb_registry.specs.Sound.{Sound, plain_entries}
 use Rattle.kb_registry.proofs.Entries.{kept_after}
@@ -15,7 +16,7 @@ use Rattle.kb_registry.proofs.Tickets.{numbered_more, numbered_without}
 
 module _ {E S : Type 0} (native : E → Native) (declares : E → Declaration) (ticket : E → ℕ) (limit made : ℕ)
     (m n : IndexMap Native E S) where
-  -- after a registration
+  -- by a registration
   pub sound_inserted : (k : Native) (e : E) → Sound native declares ticket limit made m → native e ≡ k
       → declares e ≡ declaration_of k → made < limit → Updates same_native m n k (Some e)
       → plain_entries ticket n.entries ≡ plain_entries ticket m.entries ++ record { native = k; ticket = made + 1 } ∷ []
@@ -44,7 +45,7 @@ module _ {E S : Type 0} (native : E → Native) (declares : E → Declaration) (
           ap declares (put q x h t) ∙ says ∙ ap declaration_of (same_true the_type tt k q t)
       declared q x h false t = s.declared q x (sym (found q false t) ∙ h)
 
-  -- after a removal
+  -- by a removal
   pub sound_removed : (t : ℕ) (r : Option (Native × E)) → Sound native declares ticket limit made m
       → IfSome r (λ p. Updates same_native m n p.0 None) → IfNone r (IsUnchanged m n)
       → plain_entries ticket n.entries ≡ without t (plain_entries ticket m.entries) → Sound native declares ticket limit made n
@@ -55,7 +56,7 @@ module _ {E S : Type 0} (native : E → Native) (declares : E → Declaration) (
     numbered = subst (AreNumbered made) (sym left) (numbered_without made t (plain_entries ticket m.entries) s.numbered);
   }
 
-  -- and where nothing changes
+  -- where nothing changes
   pub sound_same : Sound native declares ticket limit made m → IsUnchanged m n → Sound native declares ticket limit made n
   sound_same s same = record {
     keyed = λ q e h. s.keyed q e (kept_after m n None tt same q e h);

@@ -1,5 +1,6 @@
--- Lemmas on tickets: each stands once, and none comes again.
-use Rattle.std.proofs.Common.{◌≡◌, ◌∙◌, ℕ, ◌+◌, ◌≤◌, Bool, true, false, cond, List, [], ◌∷◌, ◌++◌, find, Some, None}
+-- Lemmas on tickets: they are distinct, and none is used again.
+use Rattle.std.proofs.Common.{◌≡◌, ◌∙◌, ℕ, ◌+◌, ◌≤◌, Bool, true, false, cond, List, [], ◌∷◌, ◌++◌, find}
+use Rattle.std.proofs.Common.{Some, None}
 use Rattle.std.proofs.Common.{option_map, nat_eq, refl, sym, ap, subst, arith}
 use Rattle.std.proofs.lemmas.Bool.Decides.{Decides-eqb}
 use Rattle.kb_core.specs.declared.native.Native.{Native}
@@ -12,7 +13,7 @@ differs n t ne = by (nat_eq n t) refl
     by true e = absurd (ne ((Decides-eqb n t).0 e))
     by false e = e
 
--- the holder of a ticket, by whether the first has it
+-- the holder of a ticket, by whether the first closure has it
 holder_by : (t : ℕ) (c : Registered) (cs : List Registered) (b : Bool) → nat_eq c.ticket t ≡ b
     → holder_in t (c ∷ cs) ≡ cond b (Some c.native) (holder_in t cs)
 holder_by t c cs true h =
@@ -24,7 +25,7 @@ without_by : (t : ℕ) (c : Registered) (cs : List Registered) (b : Bool) → na
     → without t (c ∷ cs) ≡ cond b cs (c ∷ without t cs)
 without_by t c cs b h = ap (λ b. cond b cs (c ∷ without t cs)) h
 
--- one more with another ticket changes no holder
+-- a new closure with another ticket changes no holder
 pub holder_behind : (t : ℕ) (cs : List Registered) (new : Registered) → nat_eq new.ticket t ≡ false
     → holder_in t (cs ++ new ∷ []) ≡ holder_in t cs
 holder_behind t [] new other = holder_by t new [] false other
@@ -35,14 +36,14 @@ holder_behind t (c ∷ cs) new other = by (nat_eq c.ticket t) refl (holder_behin
     by true h rest = holder_by t c (cs ++ new ∷ []) true h ∙ sym (holder_by t c cs true h)
     by false h rest = holder_by t c (cs ++ new ∷ []) false h ∙ rest ∙ sym (holder_by t c cs false h)
 
--- a registration changes no holder of a ticket that was given before
+-- a registration changes no holder of an earlier ticket
 pub holder_lasts : (native : Native) (live : Live) (t : ℕ) → t ≤ live.made
     → holder t (registered native live) ≡ holder t live
 holder_lasts native live t given =
     holder_behind t live.commands (record { native = native; ticket = live.made + 1 })
     (differs (live.made + 1) t (λ same. omega (arith, same, given)))
 
--- what is taken away changes no holder of another ticket
+-- a removal changes no holder of another ticket
 pub holder_of_another : (t u : ℕ) (cs : List Registered) → (u ≡ t → ⊥) → holder_in u (without t cs) ≡ holder_in u cs
 holder_of_another t u [] other = refl
 holder_of_another t u (c ∷ cs) other = by (nat_eq c.ticket t) refl (holder_of_another t u cs other)
@@ -60,7 +61,7 @@ holder_of_another t u (c ∷ cs) other = by (nat_eq c.ticket t) refl (holder_of_
         ∙ sym (holder_by u c cs false (differs c.ticket u (λ same. other (sym same ∙ its))))
     by false h rest = ap (holder_in u) (without_by t c cs false h) ∙ kept (nat_eq c.ticket u) refl rest
 
--- a ticket that was taken away has no holder
+-- a removed ticket has no holder
 pub holder_gone : (made t : ℕ) (cs : List Registered) → AreNumbered made cs → holder_in t (without t cs) ≡ None
 holder_gone made t [] numbered = refl
 holder_gone made t (c ∷ cs) numbered = by (nat_eq c.ticket t) refl (holder_gone made t cs numbered.2)
@@ -72,7 +73,7 @@ holder_gone made t (c ∷ cs) numbered = by (nat_eq c.ticket t) refl (holder_gon
         ∙ subst (λ n. holder_in n cs ≡ None) ((Decides-eqb c.ticket t).0 h) numbered.1
     by false h rest = ap (holder_in t) (without_by t c cs false h) ∙ holder_by t c (without t cs) false h ∙ rest
 
--- numbers stay right when one is taken away
+-- the numbering stays right after a removal
 pub numbered_without : (made t : ℕ) (cs : List Registered) → AreNumbered made cs → AreNumbered made (without t cs)
 numbered_without made t [] numbered = tt
 numbered_without made t (c ∷ cs) numbered =
@@ -88,7 +89,7 @@ numbered_without made t (c ∷ cs) numbered =
         subst (AreNumbered made) (sym (without_by t c cs false h))
         (numbered.0, holder_of_another t c.ticket cs (apart h) ∙ numbered.1, rest)
 
--- and when one more comes, whose ticket is the next number
+-- and after a registration, whose ticket is the next number
 pub numbered_more : (made : ℕ) (native : Native) (cs : List Registered) → AreNumbered made cs
     → AreNumbered (made + 1) (cs ++ record { native = native; ticket = made + 1 } ∷ [])
 numbered_more made native [] numbered = (omega arith, refl, tt)

@@ -1,4 +1,4 @@
--- The handlers of code that is to be live.
+-- The handlers of code that is about to be added.
 use Rattle.std.specs.Prelude.{List}
 use Rattle.kb_code.specs.Handler.{HandlerData}
 use Rattle.kb_registry.specs.declared.missing.Among.{Among}

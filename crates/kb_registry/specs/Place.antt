@@ -1,4 +1,4 @@
--- Where a ticket stands in a table.
+-- The place of a ticket in a table.
 use Rattle.std.specs.Prelude.{◌≡◌, ℕ, ◌<◌, List, Option, Some, MatchOption, length, slice_get}
 use Rattle.kb_core.specs.declared.native.Native.{Native}
 

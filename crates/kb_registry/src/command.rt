@@ -1,4 +1,4 @@
-//! A native command with the closure that a host gives for it.
+//! Native commands with the closures that a host provides for them.
 ghost use Rattle.std.specs.Prelude.{◌≡◌, List};
 ghost use Rattle.std.proofs.Props.{props};
 ghost use Rattle.kb_core.specs.contracts.run.Core as whole;
@@ -11,11 +11,11 @@ ghost use Rattle.kb_core.specs.Ran.{Does};
 
 use kb_core::{Args, Core, Native, Ran};
 
-/// The closure that a host gives for a native command: it takes the core and the arguments, and gives
-/// the core back with what the run cost, in instructions, or with `NoMemory`.
+/// The closure that a host provides for a native command. It takes the core and the arguments. It
+/// returns the core and the cost of the run, in instructions, or the unchanged core and `NoMemory`.
 pub type Run = Box<dyn Fn(Core, Args) -> Ran>;
 
-/// A native command with the host's closure for it.
+/// A native command with the host's closure.
 #[derive(Drop)]
 pub struct NativeCommand {
     native: Native,
@@ -27,9 +27,9 @@ pub struct NativeCommand {
 }
 
 impl NativeCommand {
-    /// A native command that runs a closure. The closure has to take every core with arguments that fit
-    /// the native, and to answer what the native does to them, at a cost within the native's budget, or
-    /// the core as it was with `NoMemory` (our decision). It takes no memory.
+    /// A native command that runs a closure. The closure must accept every core with arguments that fit
+    /// the native command. It must do what the native command does, at a cost within the native
+    /// command's budget, or return the unchanged core with `NoMemory` (our decision).
     pub fn new(native: Native, run: Run) -> NativeCommand
         requires callable { (core : Core) (args : List Arg) → Fits native args → Run.pre run core args }
         requires does { (core : Core) (args : List Arg) (ran : Ran) → Fits native args
@@ -38,19 +38,26 @@ impl NativeCommand {
     {
         NativeCommand { native, run }
     }
+
+    /// The native command that the closure implements.
+    pub fn native(&self) -> Native
+        ensures { result ≡ self.now.native }
+    {
+        self.native
+    }
 }
 
-/// What the engine knows of a host's command, and no more: which native it stands for, and that it does
-/// what that native does.
+/// The interface of a host's command to the engine: which native command it implements, and the
+/// guarantee that it does what that native command does.
 pub trait HostCommand: Drop {
     ghost stands_for: { Self → Native };
 
-    /// The native that the command stands for. It takes no memory.
+    /// The native command that this command implements.
     fn native(&self) -> Native
         ensures { result ≡ stands_for self.now };
 
-    /// Runs the command on a core, with arguments that fit its native. It costs at most the native's
-    /// budget, in instructions, or the core comes back as it was with `NoMemory`.
+    /// Runs the command on a core, with arguments that fit its native command. The run costs at most
+    /// the native command's budget, in instructions, or it returns the unchanged core with `NoMemory`.
     fn call(&self, core: Core, args: Args) -> Ran
         requires { Fits (stands_for self.now) args }
         ensures { Does (stands_for self.now) core args result };

@@ -1,4 +1,5 @@
-//! The closures that a host gives for native commands, what each has to be, and which commands are live.
+//! The registry of live commands: the contract of a host's closures, the registered closures, and the
+//! live handlers.
 #![tactic(auto)]
 
 pub mod command;

@@ -1,4 +1,5 @@
-//! Which callee of verified code isn't there as it was declared when the code was verified.
+//! The search for a callee of verified code that is not live, or whose signature changed since the
+//! verification.
 ghost use Rattle.std.specs.Prelude.{◌≡◌, option_copied, option_map, slice_get, None, Some};
 ghost use Rattle.kb_core.specs.Declaration.{Declaration};
 ghost use Rattle.kb_registry.specs.Among.{handlers_among};
@@ -7,14 +8,14 @@ ghost use Rattle.kb_registry.specs.Missing.{missing_callee, missing_from, missin
 
 use crate::command::HostCommand;
 use crate::registry::Registry;
+use kb_base::{Seq, Text};
 use kb_code::Handler;
-use kb_codes::{Codes, Group};
-use kb_context::{Seq, Text};
 use kb_core::Signature;
+use kb_handler_table::{Codes, Group};
 use kb_verify::{Callee, SharedSignature};
 
-/// The handlers of code that is to be live: by their names, or as a list alone, in which a name is looked
-/// for from the first on.
+/// The handlers of code that is about to be added: as a group, which finds a handler by its name in a
+/// map, or as a list, which is searched in order.
 #[derive(Drop)]
 pub(crate) enum Among<'a> {
     Group(&'a Group),
@@ -22,7 +23,7 @@ pub(crate) enum Among<'a> {
 }
 
 impl<'a> Among<'a> {
-    /// What the handler of a name declares. It takes no memory.
+    /// The signature of the handler with a name.
     fn signature(&self, name: &str) -> Option<&Signature>
         ensures { option_copied result ≡ declared_among (handlers_among self.now) name.now }
     {
@@ -33,7 +34,7 @@ impl<'a> Among<'a> {
     }
 }
 
-/// What the first handler of a name declares.
+/// The signature of the first handler with a name.
 fn signature_in<'a>(handlers: &'a [Handler], name: &str) -> Option<&'a Signature>
     ensures { option_copied result ≡ declared_among handlers.now name.now }
 {
@@ -45,7 +46,7 @@ fn signature_in<'a>(handlers: &'a [Handler], name: &str) -> Option<&'a Signature
     None
 }
 
-/// Whether a command is there, and declares this.
+/// Whether a command exists and declares this signature.
 fn declares(signature: Option<&Signature>, declared: &SharedSignature) -> bool
     ensures { result ≡ declares (option_copied signature.entry) declared.now }
 {
@@ -56,16 +57,17 @@ fn declares(signature: Option<&Signature>, declared: &SharedSignature) -> bool
 }
 
 impl<C: HostCommand> Registry<C> {
-    /// Of the callees of code, in file order and in order of place, the first that is neither live nor among
-    /// its own handlers, as it was declared when the code was verified; its name is lent. `None` where there
-    /// is none, or where the code wasn't verified. It takes no memory.
+    /// The name of the first callee of the code, in file order and order of place, that is missing. A
+    /// callee is missing if neither the live command nor the code's own handler of its name has the
+    /// signature that was declared when the code was verified. `None` if no callee is missing, or if
+    /// the code was not verified.
     pub fn missing_callee<'a>(&self, codes: &'a Codes) -> Option<&'a Text>
         ensures { option_copied result ≡ missing_callee codes.now self.now }
     {
         self.missing_among(&Among::List(codes.handlers()), codes)
     }
 
-    /// The same, where the code's handlers are looked up among these, which they are.
+    /// The same, with the code's own handlers looked up in `among`.
     pub(crate) fn missing_among<'a>(&self, among: &Among<'_>, codes: &'a Codes) -> Option<&'a Text>
         requires { handlers_among among.now ≡ codes.now.handlers }
         ensures { option_copied result ≡ missing_callee codes.now self.now }
@@ -76,7 +78,7 @@ impl<C: HostCommand> Registry<C> {
         }
     }
 
-    /// Of the callees of handlers the first that isn't there.
+    /// The name of the first missing callee of handlers.
     #[tactic(auto, using(crate::proofs::MissingLemmas::next_handler, crate::proofs::MissingLemmas::found_here))]
     fn missing_from<'a>(
         &self,
@@ -99,7 +101,7 @@ impl<C: HostCommand> Registry<C> {
         None
     }
 
-    /// Of the callees of a handler the first that isn't there.
+    /// The name of the first missing callee of a handler.
     fn missing_in<'a>(
         &self,
         among: &Among<'_>,
@@ -118,7 +120,7 @@ impl<C: HostCommand> Registry<C> {
         None
     }
 
-    /// The name of a handler's callee, unless its command is there.
+    /// The name of a handler's callee if it is missing, else `None`.
     fn unless_there<'a>(
         &self,
         among: &Among<'_>,
@@ -134,7 +136,7 @@ impl<C: HostCommand> Registry<C> {
         }
     }
 
-    /// Whether the command of a name is live or among these handlers, and declares this.
+    /// Whether the live command or the handler of a name has this signature.
     fn is_there(&self, among: &Among<'_>, declared: &SharedSignature, name: &str) -> bool
         ensures { result ≡ is_there (handlers_among among.now) self.now declared.now name.now }
     {

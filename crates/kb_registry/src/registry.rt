@@ -1,15 +1,15 @@
-//! Which commands are live: closures of the host, by native and by ticket, and handlers.
+//! The live commands: closures of the host, by native command and by ticket, and handlers.
 ghost use Rattle.std.specs.Prelude.{◌≡◌, ◌≢◌, ℕ, ◌+◌, ◌<◌, ◌≤◌, false, slice_get, Some, None, IsTrue};
 ghost use Rattle.std.specs.Prelude.{is_some, option_map, option_copied, IfOk, IfSome, IfErr, IfNone, OnOk};
 ghost use Rattle.std.specs.Prelude.{OnErr, IsSome};
 ghost use Rattle.indexmap.specs.IndexMap.{get, index_map_len};
-ghost use Rattle.kb_context.specs.Failure.{IsRefusalOrMemory};
+ghost use Rattle.kb_base.specs.Failure.{IsRefusalOrMemory};
 ghost use Rattle.kb_core.specs.Native.{Fits, declaration_of};
 ghost use Rattle.kb_core.specs.Ran.{Does};
-ghost use Rattle.kb_codes.specs.Callee.{declared_by};
-ghost use Rattle.kb_codes.specs.Found.{callee_of};
-ghost use Rattle.kb_codes.specs.Live.{handlers_in, handler_named, caller_of, group_of, codes_fault};
-ghost use Rattle.kb_codes.specs.Live.{same_native};
+ghost use Rattle.kb_code.specs.Commands.{declared_by};
+ghost use Rattle.kb_code.specs.Found.{callee_of};
+ghost use Rattle.kb_handler_table.specs.Live.{handlers_in, handler_named, caller_of, group_of, codes_fault};
+ghost use Rattle.kb_handler_table.specs.Live.{same_native};
 ghost use Rattle.kb_registry.specs.Live.{fresh, is_live, live_native, registration_fault, registered};
 ghost use Rattle.kb_registry.specs.Live.{holder, disposed, disposal_fault, callee, callee_by, table_of};
 ghost use Rattle.kb_registry.specs.CodeFault.{callee_fault, code_fault};
@@ -21,22 +21,22 @@ use crate::command::HostCommand;
 use crate::fault::RegistryFault;
 use crate::missing::Among;
 use indexmap::IndexMap;
-use kb_code::Handler;
-use kb_codes::{CodeTable, Codes, CodesFault, Commands, Found, Group, Linked, Target};
-use kb_context::{Failure, NoMemory};
+use kb_base::{Failure, NoMemory};
+use kb_code::{Commands, Found, Handler, Linked, Target};
 use kb_core::{Args, Core, Native, Ran, Signature};
+use kb_handler_table::{CodeTable, Codes, CodesFault, Group};
 use std::alloc::Global;
 use std::marker::Model;
 
-/// How many native commands there are, and so how many closures can be live.
+/// The number of native commands. No more closures than these can be registered at a time.
 const NATIVES: usize = 9;
 
-/// The number of a registration, counted from 1, by which the closure is taken back. No number is given
-/// twice, so the ticket of a closure that was taken back stays without one (our decision).
+/// The number of a registration, from 1. `dispose` takes it to end the registration. No number is used
+/// twice, so the ticket of an ended registration stays invalid (our decision).
 #[derive(Clone, Copy, Debug, PartialEq, Eq)]
 pub struct Ticket(pub u64);
 
-/// A live closure, with its ticket and with what its native declares.
+/// A registered closure, with its ticket and the signature of its native command.
 #[derive(Drop)]
 pub struct Entry<C> {
     ticket: u64,
@@ -44,9 +44,9 @@ pub struct Entry<C> {
     command: C,
 }
 
-/// The live closures of a host, at most one for each native, and the live handlers. Contracts see which
-/// natives are live under which tickets, how many registrations were made and may be, and which handlers are
-/// live.
+/// The registered closures of a host, at most one for each native command, and the live handlers.
+/// Contracts see the native command and the ticket of each registered closure, the number of
+/// registrations so far and its limit, and the live handlers.
 #[derive(Drop)]
 pub struct Registry<C: HostCommand> {
     alloc: Global,
@@ -73,7 +73,7 @@ impl<C: HostCommand> Model for Registry<C> {
         r.limit r.made r.table };
 }
 
-/// The number that follows one below a limit.
+/// The number after `number`.
 fn following(number: u64, limit: u64) -> u64
     requires { number < limit }
     ensures { result ≡ number + 1 }
@@ -92,7 +92,7 @@ fn ticket_at<C>(table: &IndexMap<Native, Entry<C>>, place: usize) -> u64
     entry.ticket
 }
 
-/// The place of a ticket in the table.
+/// The place of a ticket in the table, or `None`.
 fn place_of<C>(table: &IndexMap<Native, Entry<C>>, ticket: u64) -> Option<usize>
     ensures place { IsPlace (λ e. e.ticket) table.now.entries ticket result }
     ensures got { IfSome result (λ i. (e : _) → slice_get table.now.entries i ≡ Some e
@@ -107,8 +107,8 @@ fn place_of<C>(table: &IndexMap<Native, Entry<C>>, ticket: u64) -> Option<usize>
 }
 
 impl<C: HostCommand> Registry<C> {
-    /// The registry in which nothing is registered yet and `limit` registrations may be made. It takes memory
-    /// for all closures that can be live.
+    /// An empty registry that allows `limit` registrations. It allocates the table of closures at its
+    /// full size.
     pub fn new(alloc: Global, limit: u64) -> Result<Registry<C>, NoMemory>
         ensures { IfOk result (λ r. r ≡ fresh limit) }
     {
@@ -122,8 +122,8 @@ impl<C: HostCommand> Registry<C> {
         })
     }
 
-    /// Why no closure can be registered for a native now, or `None` where one can: 70 where one is live
-    /// for it, then 71 where as many registrations were made as may be. It takes no memory.
+    /// The reason why no closure can be registered for a native command now, or `None` if one can be.
+    /// 70 if one is registered already, else 71 if the limit of registrations is reached.
     pub fn registration_fault(&self, native: Native) -> Option<RegistryFault>
         ensures fault { result ≡ registration_fault native self.now }
         ensures free { IfNone result (is_live native self.now ≡ false) }
@@ -138,7 +138,7 @@ impl<C: HostCommand> Registry<C> {
         None
     }
 
-    /// The ticket that the next registration gets. It takes no memory.
+    /// The ticket that the next registration will have.
     pub fn next_ticket(&self) -> Ticket
         requires { self.now.made < self.now.limit }
         ensures { result.0 ≡ self.now.made + 1 }
@@ -146,9 +146,9 @@ impl<C: HostCommand> Registry<C> {
         Ticket(following(self.made, self.limit))
     }
 
-    /// Makes a closure live for its native, and gives its ticket. It is handed back where it is refused, by
-    /// 70 or 71 as `registration_fault` says, or where memory is refused; then the registry stays as it was.
-    /// Tickets that were given before mean what they meant.
+    /// Registers a closure for its native command, and returns its ticket. On an error the closure is
+    /// returned and the registry is unchanged: the fault of `registration_fault` (70 or 71), or
+    /// `NoMemory`. Earlier tickets keep their meaning.
     #[tactic(auto, using(crate::proofs::Tickets::holder_lasts))]
     pub fn register(&mut self, command: C) -> Result<Ticket, (C, Failure<RegistryFault>)>
         ensures allowed { OnOk result (registration_fault (C.stands_for command) self.old ≡ None) }
@@ -172,7 +172,7 @@ impl<C: HostCommand> Registry<C> {
         }
     }
 
-    /// Puts a closure behind the others, and gives its ticket. It is handed back where memory is refused.
+    /// Appends a closure to the table, and returns its ticket, or the closure itself on refused memory.
     fn admit(&mut self, native: Native, signature: Signature, command: C) -> Result<Ticket, C>
         requires native { native ≡ C.stands_for command }
         requires signature { signature ≡ declaration_of native }
@@ -202,7 +202,7 @@ impl<C: HostCommand> Registry<C> {
         }
     }
 
-    /// The entry of a native, where it is live.
+    /// The entry of a native command, or `None` if no closure is registered for it.
     fn entry(&self, native: Native) -> Option<&Entry<C>>
         ensures live { is_some result ≡ is_live native self.now }
         ensures native { IfSome result (λ e. C.stands_for e.now.command ≡ native) }
@@ -211,7 +211,7 @@ impl<C: HostCommand> Registry<C> {
         self.table.get(&native)
     }
 
-    /// The native of the live closure that has a ticket, or `None` where none has it. It takes no memory.
+    /// The native command of the registered closure with a ticket, or `None` if no closure has it.
     pub fn holder(&self, ticket: Ticket) -> Option<Native>
         ensures { result ≡ holder ticket.0 self.now }
     {
@@ -224,8 +224,8 @@ impl<C: HostCommand> Registry<C> {
         }
     }
 
-    /// Why the registration that has a ticket can't be ended now, or `None` where it can: 72 where no live
-    /// closure has the ticket, 73 where a live handler calls its native. It takes no memory.
+    /// The reason why the registration with a ticket can't be ended now, or `None` if it can be. 72 if
+    /// no registered closure has the ticket, 73 if a live handler calls its native command.
     pub fn disposal_fault(&self, ticket: Ticket) -> Option<RegistryFault>
         ensures { result ≡ disposal_fault ticket.0 self.now }
     {
@@ -236,17 +236,16 @@ impl<C: HostCommand> Registry<C> {
         }
     }
 
-    /// The first live handler, in load and file order, that calls a native, or `None` where none does. It
-    /// takes no memory.
+    /// The first live handler, in load and file order, that calls a native command, or `None`.
     pub fn caller_of(&self, native: Native) -> Option<&Handler>
         ensures { option_copied result ≡ caller_of native self.now.code }
     {
         self.code.caller_of(native)
     }
 
-    /// Takes the closure with a ticket away and gives it back; the ticket is without one from then on, and
-    /// other tickets mean what they meant. Refused by 72 or 73 as `disposal_fault` says; then the registry
-    /// stays as it was. It takes no memory.
+    /// Ends the registration with a ticket and returns its closure. The ticket is invalid from then on,
+    /// and other tickets keep their meaning. On the fault of `disposal_fault` (72 or 73) the registry
+    /// is unchanged.
     pub fn dispose(&mut self, ticket: Ticket) -> Result<C, RegistryFault>
         ensures closure { IfOk result (λ command. holder ticket.0 self.old ≡ Some (C.stands_for command)) }
         ensures allowed { OnOk result (disposal_fault ticket.0 self.old ≡ None) }
@@ -262,7 +261,7 @@ impl<C: HostCommand> Registry<C> {
         }
     }
 
-    /// Takes the closure with a ticket out.
+    /// Removes the closure with a ticket.
     fn take(&mut self, ticket: Ticket) -> C
         requires { IsSome (holder ticket.0 self.old) }
         ensures closure { holder ticket.0 self.old ≡ Some (C.stands_for result) }
@@ -280,8 +279,9 @@ impl<C: HostCommand> Registry<C> {
         }
     }
 
-    /// Runs the live closure of a native, with arguments that fit it. It costs at most the native's budget,
-    /// in instructions, or the core comes back as it was with `NoMemory`.
+    /// Runs the registered closure of a native command, with arguments that fit it. The run costs at
+    /// most the native command's budget, in instructions, or it returns the unchanged core with
+    /// `NoMemory`.
     pub fn call(&self, native: Native, core: Core, args: Args) -> Ran
         requires live { IsTrue (is_live native self.now) }
         requires fits { Fits native args }
@@ -293,16 +293,16 @@ impl<C: HostCommand> Registry<C> {
         }
     }
 
-    /// Whether a command of this identifier is live: a closure for the native that has it, or a handler.
-    /// It takes no memory.
+    /// Whether a command with this identifier is live: a native command with a registered closure, or a
+    /// handler.
     pub fn is_live(&self, command: &str) -> bool
         ensures { result ≡ is_some (callee command.now self.now) }
     {
         self.signature(command).is_some()
     }
 
-    /// The live closure for the native command of an identifier, lent, or `None` where no native has it or
-    /// no closure is live for the one that does. It takes no memory.
+    /// The registered closure of the native command with an identifier. `None` if no native command has
+    /// the identifier, or if it has no registered closure.
     pub fn live_command(&self, command: &str) -> Option<&C>
         ensures native { option_map (λ c. C.stands_for c.now) result ≡ live_native command.now self.now }
         ensures live { IfSome result (λ c. IsTrue (is_live (C.stands_for c.now) self.now)) }
@@ -313,7 +313,7 @@ impl<C: HostCommand> Registry<C> {
         }
     }
 
-    /// What the live command of an identifier declares, or `None` where none is live. It takes no memory.
+    /// The signature of the live command with an identifier, or `None` if none is live.
     pub fn signature(&self, command: &str) -> Option<&Signature>
         ensures { option_copied result ≡ option_map declared_by (callee command.now self.now) }
     {
@@ -329,7 +329,7 @@ impl<C: HostCommand> Registry<C> {
         }
     }
 
-    /// What a native declares, or `None` where no closure is live for it. It takes no memory.
+    /// The signature of a native command, or `None` if it has no registered closure.
     pub fn native_signature(&self, native: Native) -> Option<&Signature>
         ensures { option_copied result ≡ option_map declaration_of (where_live (Some native) self.now) }
     {
@@ -339,32 +339,32 @@ impl<C: HostCommand> Registry<C> {
         }
     }
 
-    /// The code of an extension, lent, or `None` where the extension holds none. It takes no memory.
+    /// The code of an extension, or `None` if it has no live code.
     pub fn codes(&self, extension: u32) -> Option<&Codes>
         ensures { option_copied result ≡ group_of extension self.now.code }
     {
         self.code.codes(extension)
     }
 
-    /// The live handler of a name, with what its calls are, lent. It takes no memory.
+    /// The live handler with a name, with its call targets, or `None`.
     pub fn linked(&self, command: &str) -> Option<Linked<'_>>
         ensures { result ≡ handler_named command.now (handlers_in self.now.code) }
     {
         self.code.linked(command)
     }
 
-    /// The live handler of a name, lent. It takes no memory.
+    /// The live handler with a name, or `None`.
     pub fn handler(&self, command: &str) -> Option<&Handler>
         ensures { option_copied result ≡ handler_named command.now (handlers_in self.now.code) }
     {
         self.code.handler(command)
     }
 
-    /// Makes the code of an extension live, which is numbered in load order. It is handed back as refused
-    /// where a handler has the name of a native command, of `runCommands`, or of another handler that is live
-    /// or comes with it (70), then where a callee of verified code is neither live nor of that code, as it
-    /// was declared when the code was verified (74), or where memory is refused; then the registry stays as
-    /// it was.
+    /// Adds the code of an extension to the live handlers; extensions are numbered in load order. On an
+    /// error the code is returned and the registry is unchanged. 70 if a handler has the name of a
+    /// native command, of `runCommands`, of a live handler or of another handler of the code; else 74
+    /// if a callee of verified code is neither live nor one of the code's own handlers, with the
+    /// signature that it had when the code was verified; or `NoMemory`.
     pub fn register_code(
         &mut self,
         extension: u32,
@@ -388,7 +388,7 @@ impl<C: HostCommand> Registry<C> {
         }
     }
 
-    /// Makes code live whose names are free.
+    /// Adds code with free names to the live handlers.
     fn admit_code(&mut self, group: Group) -> Result<(), (Codes, Failure<RegistryFault>)>
         requires { codes_fault group.codes.handlers self.old.code ≡ None }
         ensures allowed { OnOk result (callee_fault (missing_callee group.codes self.old) ≡ None) }
@@ -411,7 +411,7 @@ impl<C: HostCommand> Registry<C> {
         }
     }
 
-    /// Why code can't be live for which memory was refused: for a callee that is missing, or for want of
+    /// The reason why code can't be added when memory was refused: a missing callee, or else refused
     /// memory.
     fn callee_failure(&self, codes: &Codes) -> Failure<RegistryFault>
         ensures { IsRefusalOrMemory (callee_fault (missing_callee codes.now self.now)) result }
@@ -422,8 +422,7 @@ impl<C: HostCommand> Registry<C> {
         }
     }
 
-    /// Takes the code of an extension away and gives it back, or `None` where the extension holds none.
-    /// It takes no memory.
+    /// Removes the live code of an extension and returns it, or `None` if it has none.
     pub fn dispose_code(&mut self, extension: u32) -> Option<Codes>
         ensures codes { result ≡ group_of extension self.old.code }
         ensures table { self.new ≡ without_code extension self.old }
@@ -431,7 +430,7 @@ impl<C: HostCommand> Registry<C> {
         self.code.dispose(extension)
     }
 
-    /// The entry of the native command of an identifier, where it is live.
+    /// The entry of the native command with an identifier, or `None` if it has no registered closure.
     fn entry_of(&self, command: &str) -> Option<&Entry<C>>
         ensures live { IfSome result (λ e. IsTrue (is_live (C.stands_for e.now.command) self.now)) }
         ensures native { option_map (λ e. C.stands_for e.now.command) result
@@ -443,7 +442,7 @@ impl<C: HostCommand> Registry<C> {
         }
     }
 
-    /// The live command of an identifier, by what it is the identifier of.
+    /// The live command with an identifier, found by its resolved target.
     fn found(&self, command: &str, target: Target) -> Option<Found<'_>>
         ensures { option_map callee_of result ≡ callee_by target.native command.now self.now }
     {

@@ -1,4 +1,4 @@
--- The rule that is chosen is the last that matches, and a search from the bottom finds it.
+-- The chosen rule is the last one that matches, and a search from the bottom finds it.
 use Rattle.std.proofs.Common.{◌≡◌, ◌≤◌, List, [], ◌∷◌, ◌++◌, length, drop, map, Bool, true, false, nat_lt}
 use Rattle.std.proofs.Common.{Option, None, Some, if◌then◌else◌, refl, ap, ◌∙◌, arith, length-append}
 use Rattle.std.proofs.Common.{append-nil}
@@ -26,7 +26,7 @@ not_both : (a b : Bool) → (a && b) ≡ false → a ≡ true → b ≡ true →
 not_both true b h p q = cc
 not_both false b h p q = cc
 
--- the test is the relation
+-- the test decides the relation
 matching : (pressed : List Keystroke) (keys : Keys) (enablement : Enabling) (rule : Rule)
     → matches keys enablement pressed rule ≡ true → Matches pressed keys enablement rule
 matching pressed keys enablement rule h =
@@ -85,7 +85,7 @@ chosen_is_last pressed keys enablement (rule ∷ below) =
     last_step pressed keys enablement rule below (chosen pressed keys enablement below)
     (matches keys enablement pressed rule) (chosen_is_last pressed keys enablement below) refl
 
--- nothing follows the pressed keystrokes in a rule that isn't longer
+-- a rule that isn't longer has exactly the pressed keystrokes
 whole_chord : (pressed rest chord : List Keystroke) → chord ≡ pressed ++ rest
     → length chord ≤ length pressed → chord ≡ pressed
 whole_chord pressed rest chord e h =
@@ -128,7 +128,7 @@ last_where-push p value (x ∷ above) lowest =
     ap (λ (later : Option Rule). option_or later other) (last_where-push p value above lowest)
     ∙ behind (value lowest) (last_where p (map value above)) other (p (value lowest))
 
--- a search from the bottom is done where the lowest rule passes the test, and else goes on above it
+-- a search from the bottom ends at the lowest rule if it passes the test, and else continues above it
 pub lowest_passes : {X : Type 0} (p : Rule → Bool) (value : X → Rule) (items above : List X) (lowest : X)
     → items ≡ above ++ lowest ∷ [] → p (value lowest) ≡ true
     → last_where p (map value items) ≡ Some (value lowest)

@@ -1,4 +1,4 @@
--- The enablements of commands, by their identifiers.
+-- The enablements of commands, by identifier.
 use Rattle.std.specs.Prelude.{ℕ, List, [], ◌∷◌, if◌then◌else◌, Option, None, unwrap_or, bytes_eq}
 use Rattle.std.specs.HashMap.{get_by_text}
 use Rattle.kb_when.specs.Marks.{MarkedClause}
@@ -15,6 +15,6 @@ enablement_of [] command = None
 enablement_of (c ∷ cs) command =
     if bytes_eq command c.command then c.enablement else enablement_of cs command
 
--- what a table has for a command
+-- the enablement of a command in a table
 unfoldable pub enablement_in : Enablements → Enabling
 enablement_in enablements command = unwrap_or (get_by_text enablements.table command) None

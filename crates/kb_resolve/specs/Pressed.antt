@@ -1,4 +1,4 @@
--- What a key press does, with the rule in place of the loan of it.
+-- The result of a key press, with the rule itself instead of a reference.
 use Rattle.kb_rules.specs.declared.rule.Rule.{Rule}
 use Rattle.kb_resolve.specs.declared.pressed.Pressed.{Pressed}
 use Rattle.kb_resolve.specs.declared.pressed.Pressed.TheVariants.{Start, More, Left, Unbound}

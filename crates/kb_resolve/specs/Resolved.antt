@@ -1,4 +1,4 @@
--- What a search finds, with the rule in place of the loan of it.
+-- The result of a search, with the rule itself instead of a reference.
 use Rattle.kb_rules.specs.declared.rule.Rule.{Rule}
 use Rattle.kb_resolve.specs.declared.resolved.Resolved.{Resolved}
 use Rattle.kb_resolve.specs.declared.resolved.Resolved.TheVariants.{Found, More, Nothing}

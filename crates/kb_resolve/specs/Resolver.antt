@@ -1,4 +1,4 @@
--- The rule that pressed keystrokes choose.
+-- The rule that matches pressed keystrokes.
 use Rattle.std.specs.Prelude.{◌≡◌, ◌<◌, ◌⊎◌, List, [], ◌∷◌, ◌++◌, length, Bool, true, ◌&&◌, nat_lt}
 use Rattle.std.specs.Prelude.{if◌then◌else◌, Option, None, Some, All}
 use Rattle.std.specs.Option.{option_or}
@@ -12,7 +12,7 @@ use Rattle.kb_rules.specs.declared.rule.Rule.{Rule}
 use Rattle.kb_resolve.specs.Enablements.{Enabling}
 use Rattle.kb_resolve.specs.Resolved.{Resolution, found, more, nothing}
 
--- a clause, if there is one, holds over these keys by the marks of its patterns
+-- a clause holds for these context keys, with the marks of its patterns; a missing clause holds
 abbrev pub when_holds : Keys → Option MarkedClause → Bool
 when_holds keys None = true
 when_holds keys (Some clause) = value keys clause.marks clause.tree
@@ -23,7 +23,7 @@ may_start keys enablement rule =
     when_holds keys rule.when && when_holds keys (enablement rule.command)
 
 -- the rule's keystrokes begin with the pressed ones, and its clause and the enablement of its command
--- hold; it doesn't matter whose rule it is
+-- hold; the origin of the rule doesn't matter
 abbrev pub matches : Keys → Enabling → List Keystroke → Rule → Bool
 matches keys enablement pressed rule =
     begins_with rule.chord pressed && may_start keys enablement rule
@@ -33,19 +33,19 @@ abbrev pub HasPattern : Option MarkedClause → Type 0
 HasPattern None = ⊥
 HasPattern (Some clause) = 0 < length (patterns_of clause.tree)
 
--- the rule's clause has a pattern, or it holds, so that the enablement of the rule's command is asked, and
--- that has one
+-- the rule's clause has a pattern; or the clause holds, so the enablement of the rule's command is
+-- evaluated, and that has a pattern
 abbrev pub HasPatterns : Keys → Enabling → Rule → Type 0
 HasPatterns keys enablement rule =
     HasPattern rule.when
     ⊎ ((when_holds keys rule.when ≡ true) × HasPattern (enablement rule.command))
 
--- the rule's keystrokes begin with the pressed ones, so a clause is asked that has a pattern
+-- the rule's keystrokes begin with the pressed ones, so a clause with a pattern is evaluated
 abbrev pub AsksPattern : Keys → Enabling → List Keystroke → Rule → Type 0
 AsksPattern keys enablement pressed rule =
     (begins_with rule.chord pressed ≡ true) × HasPatterns keys enablement rule
 
--- of the rules that pass a test the one of greatest position, or none
+-- the last rule that passes a test, or none
 abbrev pub last_where : (Rule → Bool) → List Rule → Option Rule
 last_where p [] = None
 last_where p (rule ∷ below) = option_or (last_where p below) (if p rule then Some rule else None)
@@ -59,18 +59,18 @@ resolution_by pressed None = nothing
 resolution_by pressed (Some rule) =
     if nat_lt (length pressed) (length rule.chord) then more else found rule
 
--- what a search for the pressed keystrokes finds, where the focus sees these keys
+-- the result of a search for the pressed keystrokes, with the context keys that the focus sees
 abbrev pub resolved : List Keystroke → Keys → Enabling → List Rule → Resolution
 resolved pressed keys enablement rules = resolution_by pressed (chosen pressed keys enablement rules)
 
--- some keystrokes after the pressed ones are the rule's, and its clause and the enablement of its command
--- hold
+-- the rule's keystrokes are the pressed ones and maybe more, and its clause and the enablement of its
+-- command hold
 abbrev pub Matches : List Keystroke → Keys → Enabling → Rule → Type 0
 Matches pressed keys enablement rule =
     (rest : List Keystroke) × (rule.chord ≡ pressed ++ rest) × (when_holds keys rule.when ≡ true)
     × (when_holds keys (enablement rule.command) ≡ true)
 
--- the rule stands at a position and matches, and none below it does
+-- the rule matches, and no rule below it does
 pub record IsLastMatch (pressed : List Keystroke) (keys : Keys) (enablement : Enabling)
     (rules : List Rule) (rule : Rule) : Type 0 where
   pub above : List Rule
@@ -79,8 +79,8 @@ pub record IsLastMatch (pressed : List Keystroke) (keys : Keys) (enablement : En
   pub matching : Matches pressed keys enablement rule
   pub rest_fails : All (λ other. ¬ Matches pressed keys enablement other) below
 
--- what is found is the last rule that matches, and has the pressed keystrokes alone or more of
--- them; nothing is found where no rule matches
+-- the chosen rule is the last one that matches, and has exactly the pressed keystrokes or more; nothing
+-- is found if no rule matches
 abbrev pub IsGreatest : List Keystroke → Keys → Enabling → List Rule → Resolution → Type 0
 IsGreatest pressed keys enablement rules (found rule) =
     IsLastMatch pressed keys enablement rules rule × (rule.chord ≡ pressed)

@@ -1,4 +1,4 @@
-//! The chord that is open.
+//! The state of an open chord.
 ghost use Rattle.std.specs.Prelude.{◌≡◌, ◌≢◌, ◌<◌, ◌↔◌, [], length, IfOk, OnOk, OnErr, IsTrue};
 ghost use Rattle.kb_context.specs.Scopes.{context};
 ghost use Rattle.kb_resolve.specs.ChordState.{step, pressed_after};
@@ -9,13 +9,14 @@ use crate::enablements::Enablements;
 use crate::pressed::Pressed;
 use crate::resolved::Resolved;
 use crate::resolver::Resolver;
-use kb_context::{NoMemory, Scopes};
+use kb_base::NoMemory;
+use kb_context::Scopes;
 use kb_keys::{Chord, Keystroke, LIMIT};
 use std::alloc::Global;
 use std::marker::Model;
 
-/// The keystrokes that were pressed and wait for more: fewer than `LIMIT`, and none where no chord
-/// is open. Contracts see their list.
+/// The keystrokes of the open chord: fewer than `LIMIT`, and none if no chord is open. Contracts see
+/// their list.
 #[derive(Debug, Drop)]
 pub struct ChordState {
     pressed: Chord,
@@ -34,7 +35,7 @@ impl Model for ChordState {
 }
 
 impl ChordState {
-    /// No chord is open. It takes no memory: the allocator is a value that the list inside wants.
+    /// No open chord. It allocates nothing: the list only keeps the allocator.
     pub fn new(alloc: Global) -> ChordState
         ensures { result ≡ [] }
     {
@@ -43,8 +44,7 @@ impl ChordState {
         }
     }
 
-    /// The keystrokes of the chord that is open, in order; none where no chord is. It takes no
-    /// memory.
+    /// The keystrokes of the open chord, in order, or none if no chord is open.
     pub fn pressed(&self) -> &[Keystroke]
         ensures strokes { result.now ≡ self.now }
         ensures fits { length self.now < LIMIT }
@@ -52,7 +52,7 @@ impl ChordState {
         self.pressed.as_slice()
     }
 
-    /// Leaves the chord, and says whether one was open. It takes no memory.
+    /// Ends the open chord, if there is one, and returns whether there was one.
     pub fn leave(&mut self) -> bool
         ensures was_open { IsTrue result ↔ (self.old ≢ []) }
         ensures left { self.new ≡ [] }
@@ -62,14 +62,16 @@ impl ChordState {
         was_open
     }
 
-    /// Presses a key: what it does is what a search for the keystrokes pressed so far with this one
-    /// finds, over what the focus sees now and these enablements. A longer rule keeps them pressed (VS
-    /// Code's documentation of chords); after the other answers no chord is open, and a key that ends a
-    /// chord without a rule does nothing else (our decision). So is that each press asks the clauses and
-    /// the enablements anew: what the focus saw at the presses before doesn't count.
+    /// Presses a key. The result is that of the search for the keystrokes of the open chord followed by
+    /// this one, with the context keys that the focus sees now and with these enablements.
+    /// - If the chosen rule has more keystrokes, the chord stays open with this keystroke (VS Code's
+    ///   documentation of chords).
+    /// - Otherwise no chord is open afterwards. A key that ends a chord without a rule has no other
+    ///   effect (our decision).
     ///
-    /// The rule to be started is lent. Want of memory as for `Resolver::resolve`; the chord then stays
-    /// as it was. Nothing else takes memory.
+    /// Each press evaluates the clauses and enablements anew, with no regard to their values at earlier
+    /// presses of the chord (our decision). The rule is borrowed. `NoMemory` is that of
+    /// `Resolver::resolve`, and the chord is then unchanged.
     pub fn press<'r>(
         &mut self,
         stroke: Keystroke,

@@ -2,30 +2,30 @@
 ghost use Rattle.std.specs.Prelude.{◌≡◌, IfOk, option_map};
 ghost use Rattle.kb_resolve.specs.Enablements.{enablement_in, enablement_of};
 
-use kb_context::{NoMemory, Text};
+use kb_base::{NoMemory, Text};
 use kb_when::SharedClause;
 use std::alloc::Global;
 use std::collections::HashMap;
 
-/// What an extension contributes of a command, as a key press asks it.
+/// A command that an extension contributes, with its enablement.
 #[derive(Debug, Drop)]
 pub struct Contribution {
-    /// The identifier of the command, which need not exist.
+    /// The identifier of the command. No such command needs to exist.
     pub command: Text,
-    /// The condition under which the command may start, if one is contributed.
+    /// The condition under which the command may start, if there is one.
     pub enablement: Option<SharedClause>,
 }
 
-/// The enablements of contributed commands. The first contribution of an identifier counts, whole: a
-/// later one that has an enablement doesn't count where the first has none (our decision).
-/// A command that isn't contributed has none, and so it is always enabled.
+/// The enablements of contributed commands. Only the first contribution of an identifier counts: if it
+/// has no enablement, that of a later one is ignored (our decision). A command without a contribution
+/// is always enabled.
 #[derive(Drop)]
 pub struct Enablements {
     table: HashMap<String, Option<SharedClause>>,
 }
 
 impl Enablements {
-    /// The enablements of what is contributed, in the order of the contributions.
+    /// The enablements of contributions, which are in load order.
     #[tactic(auto, unfolding(crate::specs::Enablements::enablement_in))]
     pub fn new(alloc: Global, contributions: Vec<Contribution>) -> Result<Enablements, NoMemory>
         ensures { IfOk result (λ made. enablement_in made ≡ enablement_of contributions.items) }
@@ -41,7 +41,7 @@ impl Enablements {
         Ok(Enablements { table })
     }
 
-    /// The enablement of a command, lent, if it has one. It takes no memory.
+    /// The enablement of a command, or `None` if it has none.
     #[tactic(auto, unfolding(crate::specs::Enablements::enablement_in))]
     pub(crate) fn of(&self, command: &str) -> Option<&SharedClause>
         ensures { option_map (λ clause. clause.now) result ≡ enablement_in self.now command.now }

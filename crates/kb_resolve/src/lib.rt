@@ -1,8 +1,8 @@
-//! What a key press means: the search for the rule that the pressed keystrokes choose where the
-//! focus is, and the chord that is open.
+//! The meaning of a key press: the search for the rule that matches the pressed keystrokes at the
+//! focus, and the state of an open chord.
 //!
-//! Both are those of VS Code's documentation of keyboard shortcuts. What it leaves open is our
-//! decision, and is said so where it is made.
+//! Both follow VS Code's documentation of keyboard shortcuts. Where it leaves a choice, the item says
+//! that it is our decision.
 #![tactic(auto)]
 
 pub mod chord_state;

@@ -1,17 +1,17 @@
-//! What a key press does.
+//! The result of a key press.
 use kb_rules::Rule;
 
-/// What a key press does. Contracts see it as the `Step` of `specs/`, which has the rule itself in place
-/// of the loan of it.
+/// The result of a key press. Contracts see it as the `Step` of `specs/`, which has the rule itself
+/// instead of a reference.
 #[derive(Clone, Copy, Debug)]
 pub enum Pressed<'r> {
-    /// The rule is to be started. One with the empty command is answered as any other: that it
-    /// starts nothing is for the caller to see.
+    /// The command of this rule is to be started. A rule with the empty command is returned like any
+    /// other; the caller has to start nothing for it.
     Start(&'r Rule),
-    /// The press begins or lengthens a chord.
+    /// The press starts or continues a chord.
     More,
-    /// The press fits no rule, and the chord that was open is left.
+    /// No rule matches, and the open chord was ended.
     Left,
-    /// The press fits no rule, and no chord was open.
+    /// No rule matches, and no chord was open.
     Unbound,
 }

@@ -1,15 +1,15 @@
-//! What a search finds.
+//! The result of a search for a rule.
 use kb_rules::Rule;
 
-/// What a search for pressed keystrokes finds: of the rules whose keystrokes begin with all of them,
-/// and whose clause and command's enablement hold, the lowest, if there is one. Contracts see it as the
-/// `Resolution` of `specs/`, which has the rule itself in place of the loan of it.
+/// The result of a search for pressed keystrokes. The chosen rule is the lowest one whose keystrokes
+/// begin with all of them, and whose clause and command's enablement hold. Contracts see it as the
+/// `Resolution` of `specs/`, which has the rule itself instead of a reference.
 #[derive(Clone, Copy, Debug)]
 pub enum Resolved<'r> {
-    /// The rule, which has no more keystrokes than the pressed ones.
+    /// The chosen rule, which has exactly the pressed keystrokes.
     Found(&'r Rule),
-    /// The rule has more keystrokes, so a press that is to come decides.
+    /// The chosen rule has more keystrokes, so further presses decide.
     More,
-    /// There is none.
+    /// No rule matches.
     Nothing,
 }

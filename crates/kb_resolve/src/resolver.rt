@@ -1,4 +1,4 @@
-//! The search for the rule that pressed keystrokes choose.
+//! The search for the rule that matches pressed keystrokes.
 ghost use Rattle.std.specs.Prelude.{◌≡◌, ◌<◌, length, map, option_map, option_copied, IfOk, IfErr};
 ghost use Rattle.kb_context.specs.Scopes.{context};
 ghost use Rattle.kb_resolve.specs.Enablements.{enablement_in};
@@ -8,14 +8,15 @@ ghost use Rattle.kb_resolve.specs.Resolver.{HasPattern, HasPatterns, AsksPattern
 
 use crate::enablements::Enablements;
 use crate::resolved::Resolved;
-use kb_context::{NoMemory, Scopes};
+use kb_base::NoMemory;
+use kb_context::Scopes;
 use kb_keys::{Keystroke, LIMIT};
 use kb_rules::{Rule, RuleSet};
 use kb_when::Clause;
 use std::marker::Model;
 use std::rc::Rc;
 
-/// The rules in force, as they are searched. Contracts see their list, from the top down.
+/// The effective rules, to be searched. Contracts see their list, from top to bottom.
 #[derive(Drop)]
 pub struct Resolver {
     set: RuleSet,
@@ -35,19 +36,20 @@ impl Model for Resolver {
 }
 
 impl Resolver {
-    /// The search among the rules of a set. It takes no memory.
+    /// A resolver for the rules of a set.
     pub fn new(set: RuleSet) -> Resolver
         ensures { result ≡ set }
     {
         Resolver { set }
     }
 
-    /// Searches the rules from the bottom to the top for the first whose keystrokes begin with the
-    /// pressed ones and whose clause, if it has one, holds over what the focus of the scopes sees (VS
-    /// Code's documentation: the rules are evaluated from the bottom to the top, and the first that
-    /// matches in key and clause counts), and so does the enablement of its command, whosever the rule
-    /// is. A rule with the empty command is found as any other. The rule is lent. Want of memory is that
-    /// of a pattern in a clause or an enablement (`Clause::holds`): nothing else takes memory.
+    /// Searches the rules from the bottom to the top, and chooses the first one that matches. A rule
+    /// matches if its keystrokes begin with the pressed ones, its clause holds for the context keys
+    /// that the focus sees, and the enablement of its command holds, no matter where the rule comes
+    /// from. A missing clause or enablement holds. VS Code's documentation: rules are evaluated from
+    /// the bottom to the top, and the first that matches in key and clause is accepted. A rule with the
+    /// empty command is found like any other. The rule is borrowed. `NoMemory` only from a pattern in a
+    /// clause or an enablement (`Clause::holds`).
     #[tactic(auto, using(crate::proofs::ResolverLemmas::resolved_is_greatest))]
     pub fn resolve<'r>(
         &'r self,
@@ -58,11 +60,11 @@ impl Resolver {
         ensures value { IfOk result (λ found. resolution_of found
             ≡ resolved pressed.now (context scopes.now) (enablement_in enablements.now) self.now) }
 
-        // What `value` cites, in terms of positions.
+        // The same as `value`, in terms of positions.
         ensures greatest { IsGreatest pressed.now (context scopes.now) (enablement_in enablements.now)
             self.now (resolved pressed.now (context scopes.now) (enablement_in enablements.now) self.now) }
 
-        // A longer rule has at most `LIMIT` keystrokes, so there is room for one more.
+        // A rule has at most `LIMIT` keystrokes, so one more keystroke can be pressed.
         ensures fits { IfOk result (λ found.
             resolution_of found ≡ more → length pressed.now < LIMIT) }
     {
@@ -76,7 +78,7 @@ impl Resolver {
     }
 }
 
-/// The lowest rule that matches, lent.
+/// The lowest matching rule.
 fn lowest<'r>(
     rules: &'r [Rc<Rule>],
     pressed: &[Keystroke],
@@ -95,8 +97,8 @@ fn lowest<'r>(
     Ok(None)
 }
 
-/// Whether the rule's keystrokes begin with the pressed ones, and its clause and the enablement of its
-/// command hold. The keystrokes are looked at first, since a clause may ask many keys.
+/// Whether a rule's keystrokes begin with the pressed ones, and its clause and the enablement of its
+/// command hold. The keystrokes are compared first, since a clause may read many keys.
 fn matches(
     rule: &Rule,
     pressed: &[Keystroke],
@@ -114,7 +116,7 @@ fn matches(
     may_start(rule, scopes, enablements)
 }
 
-/// Whether the rule's clause and the enablement of its command hold. The clause is asked first.
+/// Whether the rule's clause and the enablement of its command hold. The clause is evaluated first.
 fn may_start(rule: &Rule, scopes: &Scopes, enablements: &Enablements) -> Result<bool, NoMemory>
     ensures value { IfOk result (λ answer. answer
         ≡ may_start (context scopes.now) (enablement_in enablements.now) rule.now) }
@@ -130,7 +132,7 @@ fn may_start(rule: &Rule, scopes: &Scopes, enablements: &Enablements) -> Result<
     }
 }
 
-/// Whether a clause, if there is one, holds.
+/// Whether a clause holds. A missing clause holds.
 fn holds(clause: Option<&Clause>, scopes: &Scopes) -> Result<bool, NoMemory>
     ensures value { IfOk result (λ answer.
         answer ≡ when_holds (context scopes.now) (option_copied clause.entry)) }

@@ -5,9 +5,13 @@ use Rattle.std.proofs.Common.{filter, cond}
 use Rattle.std.proofs.Common.{Option, Some, None, Result, Ok, Err, refl, arith}
 use Rattle.std.specs.List.{list_all, cons_option}
 use Rattle.serde_json.specs.Data.{Data}
-use Rattle.serde_json.specs.Find.{as_object, as_str}
-use Rattle.kb_context.specs.Blank.{is_blank}
-use Rattle.kb_context.specs.Reading.{◌>>=◌, or_fault, seen}
+use Rattle.serde_json.specs.Find.{as_object}
+use Rattle.kb_base.specs.Blank.{is_blank}
+use Rattle.kb_base.specs.Reading.{◌>>=◌, or_fault, seen}
+use Rattle.kb_json.specs.FileFault as file
+use Rattle.kb_json.specs.Member as json
+use Rattle.kb_json.specs.declared.fault.FileFault.{FileFault}
+use Rattle.kb_json.specs.declared.fault.FileFault.TheVariants.{MissingMember, WrongShape}
 use Rattle.kb_keys.specs.KeyFault as key
 use Rattle.kb_keys.specs.declared.key_fault.KeyFault.{KeyFault}
 use Rattle.kb_keys.specs.declared.key_fault.KeyFault.TheVariants.{UnknownKey, TooManySteps, EmptyKey}
@@ -19,18 +23,20 @@ use Rattle.kb_when.specs.declared.fault.WhenFault.{WhenFault}
 use Rattle.kb_when.specs.declared.fault.WhenFault.TheVariants.{BadToken, Unexpected, TooDeep, BadNumber}
 use Rattle.kb_when.specs.Clause.{Clause}
 use Rattle.kb_when.specs.ClauseText.{clause_in}
-use Rattle.kb_when.specs.declared.unread.UnreadPattern.{UnreadPattern}
+use Rattle.kb_when.specs.declared.unread.ClausePattern.{ClausePattern}
 use Rattle.kb_rules.specs.declared.entry.Entry.{Entry}
 use Rattle.kb_rules.specs.declared.entry.Entry.TheVariants.{Starts, Removes}
-use Rattle.kb_rules.specs.declared.origin.Origin.{Origin}
-use Rattle.kb_rules.specs.declared.unread.UnreadAt.{UnreadAt}
-use Rattle.kb_rules.specs.declared.warning.Warning.{Warning}
+use Rattle.kb_base.specs.declared.note.Origin.{Origin}
+use Rattle.kb_base.specs.declared.note.UnreadPattern.{UnreadPattern}
+use Rattle.kb_base.specs.declared.note.Part.TheVariants.{Keybindings}
+use Rattle.kb_base.specs.declared.note.Warning.{Warning}
+use Rattle.kb_when.specs.Placed.{marks_at}
 use Rattle.kb_rules.specs.Entry.{by_number, text_of, required_text, removed_command, chord_in, keystrokes_of}
 use Rattle.kb_rules.specs.Entry.{removed_keystrokes_of, when_of, condition_of, args_of, bound_to, binding_of}
 use Rattle.kb_rules.specs.Entry.{terms_of, element_of, entry_of, Found}
-use Rattle.kb_rules.specs.RuleList.{warning_of_unread, collected, read_of}
+use Rattle.kb_rules.specs.RuleList.{warning_at, warning_of_unread, collected, read_of}
 use Rattle.kb_rules.specs.RuleList.{Listed, dropped_in}
-use Rattle.kb_rules.specs.Unread.{marked_entry, marks_at, unread_in}
+use Rattle.kb_rules.specs.Unread.{marked_entry, unread_in}
 use Rattle.kb_rules.specs.Whole.{is_whole}
 
 -- a fault, if there is one, has another number
@@ -61,11 +67,16 @@ when_other (Err Unexpected) = refl
 when_other (Err TooDeep) = refl
 when_other (Err BadNumber) = refl
 
+file_other : {X : Type 0} (read : Result X FileFault) → IsOther (by_number file.number_of read)
+file_other (Ok x) = tt
+file_other (Err MissingMember) = refl
+file_other (Err WrongShape) = refl
+
 text_other : (d : Data) → IsOther (text_of d)
-text_other d = or_other 41 (as_str d) refl
+text_other d = file_other (json.text_of d)
 
 required_other : (member : Option Data) → IsOther (required_text member)
-required_other member = bind (or_fault 40 member) text_of (or_other 40 member refl) text_other
+required_other member = file_other (json.required_text member)
 
 keystrokes_other : (member : Option Data) → IsOther (keystrokes_of member)
 unfolding keystrokes_of
@@ -133,7 +144,7 @@ entry_other origin platform place d =
     bind (or_fault 41 (as_object d)) _ (or_other 41 (as_object d) refl)
     (λ members. element_other origin place _)
 
-marked_other : (unread : List UnreadPattern) (read : Result Entry ℕ) → IsOther read
+marked_other : (unread : List ClausePattern) (read : Result Entry ℕ) → IsOther read
     → IsOther (seen (marked_entry unread) read)
 marked_other unread (Ok entry) h = tt
 marked_other unread (Err number) h = h
@@ -147,14 +158,14 @@ is_fault warning = not (warning.number == 34)
 abbrev pub count : Listed → ℕ
 count list = length list.rules + length list.removals + length (dropped_in list)
 
-unread_passed : (origin : Origin) (place : ℕ) (unread : List UnreadPattern) (warnings : List Warning)
+unread_passed : (origin : Origin) (place : ℕ) (unread : List ClausePattern) (warnings : List Warning)
     → filter is_fault (cons_option (warning_of_unread origin place unread) warnings)
     ≡ filter is_fault warnings
 unread_passed origin place [] warnings = refl
 unread_passed origin place (u ∷ us) warnings = refl
 
 fault_counted : (origin : Origin) (place number : ℕ) (warnings : List Warning) → (number == 34) ≡ false
-    → length (filter is_fault (record { origin = origin; number = number; place = place } ∷ warnings))
+    → length (filter is_fault (warning_at origin place number ∷ warnings))
     ≡ suc (length (filter is_fault warnings))
 fault_counted origin place number warnings h = rw h refl
 
@@ -173,14 +184,14 @@ counted_step origin place rest (Err number) more o h =
     let list = collected origin more in
     rw (fault_counted origin place number list.warnings o) (omega (arith, h))
 
-pub counted : (unread : List UnreadAt) (origin : Origin) (platform : Option Platform) (start : ℕ)
+pub counted : (unread : List UnreadPattern) (origin : Origin) (platform : Option Platform) (start : ℕ)
     (elements : List Data)
     → count (collected origin (read_of unread origin platform start elements)) ≡ length elements
 counted unread origin platform start [] = refl
 counted unread origin platform start (d ∷ ds) =
     counted_step origin start (length ds)
-    (seen (marked_entry (marks_at start unread)) (entry_of origin platform start d))
+    (seen (marked_entry (marks_at origin Keybindings unread start)) (entry_of origin platform start d))
     (read_of unread origin platform (start + 1) ds)
-    (marked_other (marks_at start unread) (entry_of origin platform start d)
+    (marked_other (marks_at origin Keybindings unread start) (entry_of origin platform start d)
     (entry_other origin platform start d))
     (counted unread origin platform (start + 1) ds)

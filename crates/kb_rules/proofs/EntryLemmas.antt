@@ -5,7 +5,7 @@ use Rattle.kb_when.specs.Marks.{MarkedClause}
 use Rattle.kb_when.specs.Unread.{marked_by}
 use Rattle.kb_rules.specs.declared.entry.Binding.{Binding}
 use Rattle.kb_rules.specs.declared.entry.Binding.TheVariants.{Starts, Removes}
-use Rattle.kb_rules.specs.declared.origin.Origin.{Origin}
+use Rattle.kb_base.specs.declared.note.Origin.{Origin}
 use Rattle.kb_rules.specs.Entry.{made}
 use Rattle.kb_rules.specs.Unread.{tree_in, marked_entry}
 

@@ -4,76 +4,60 @@ use Rattle.std.proofs.Common.{map, filter, take, drop, Option, Some, None, Resul
 use Rattle.std.proofs.Common.{◌∙◌, arith}
 use Rattle.std.proofs.Common.{option_to_list}
 use Rattle.std.specs.List.{cons_option, filter_map, flat_map, AllByRecursion}
-use Rattle.std.proofs.lemmas.Bool.Decides.{Decides-eqb}
 use Rattle.std.proofs.lemmas.Grind.{flat_map-append}
-use Rattle.std.proofs.lemmas.List.{map-append, append-nil, length-append, take-append-drop, drop-drop}
+use Rattle.std.proofs.lemmas.List.{append-nil, length-append, take-append-drop, drop-drop}
 use Rattle.std.proofs.Math.Seq.{take-add}
-use Rattle.std.proofs.lemmas.List.Elements.{filter-append, filter_map-append}
+use Rattle.std.proofs.lemmas.List.Elements.{filter_map-append}
 use Rattle.serde_json.specs.Data.{Data}
-use Rattle.kb_context.specs.Reading.{seen}
+use Rattle.kb_base.specs.Reading.{seen}
 use Rattle.kb_keys.specs.declared.platform.Platform.{Platform}
 use Rattle.kb_when.specs.Marks.{MarkedClause}
-use Rattle.kb_when.specs.declared.unread.UnreadPattern.{UnreadPattern}
+use Rattle.kb_when.specs.declared.unread.ClausePattern.{ClausePattern}
 use Rattle.kb_rules.specs.declared.entry.Entry.{Entry}
 use Rattle.kb_rules.specs.declared.entry.Entry.TheVariants.{Starts, Removes}
-use Rattle.kb_rules.specs.declared.origin.Origin.{Origin}
-use Rattle.kb_rules.specs.declared.unread.UnreadAt.{UnreadAt}
+use Rattle.kb_base.specs.declared.note.Origin.{Origin}
+use Rattle.kb_base.specs.declared.note.Part.TheVariants.{Keybindings}
+use Rattle.kb_base.specs.declared.note.UnreadPattern.{UnreadPattern}
 use Rattle.kb_rules.specs.Entry.{entry_of}
 use Rattle.kb_rules.specs.RuleList.{Listed, rule_in, removal_in, warning_in, unread_at, collected, read_of}
 use Rattle.kb_rules.specs.RuleList.{listed}
 use Rattle.kb_rules.specs.RuleList.{no_elements, with_read, IsWhole, IsRight, AreRightlyMarked}
-use Rattle.kb_rules.specs.Unread.{marked_when, marked_entry, marks_at, unread_in, placed, IsRightlyMarked}
-
-same_place : (n : ℕ) → (n == n) ≡ true
-same_place n = (Decides-eqb n n).1 refl
-
-other_place : (b : Bool) (p q : ℕ) → b ≡ (p == q) → (p ≡ q → ⊥) → b ≡ false
-other_place true p q e h = absurd (h ((Decides-eqb p q).0 (sym e)))
-other_place false p q e h = refl
+use Rattle.kb_rules.specs.Unread.{marked_when, marked_entry, unread_in, IsRightlyMarked}
+use Rattle.kb_rules.specs.declared.removal.Removal.{Removal}
+use Rattle.kb_rules.specs.declared.rule.Rule.{Rule}
+use Rattle.kb_when.proofs.PlacedLemmas.{other_place, marks_at-append, marks_at-placed, marks_at-none}
+use Rattle.kb_when.proofs.PlacedLemmas.{marks_at-elsewhere, all-append, AllOf, all_of-append, all_of-placed}
+use Rattle.kb_when.specs.Placed.{is_at, marks_at, placed}
 
 -- ---- the marks of an element among those of a list
 
-marks_at-append : (place : ℕ) (before after : List UnreadAt)
-    → marks_at place (before ++ after) ≡ marks_at place before ++ marks_at place after
-marks_at-append place before after =
-    ap (map (λ at. record { number = at.number; pattern = at.pattern }))
-    (filter-append (λ at. at.place == place) before after)
-    ∙ map-append (λ (at : UnreadAt). record { number = at.number; pattern = at.pattern })
-    (filter (λ at. at.place == place) before) (filter (λ at. at.place == place) after)
-
-marks_at-placed : (place : ℕ) (unread : List UnreadPattern) → marks_at place (placed place unread) ≡ unread
-marks_at-placed place [] = refl
-marks_at-placed place (u ∷ us) =
-    rw (same_place place) (ap (λ vs. u ∷ vs) (marks_at-placed place us))
-
-marks_at-elsewhere : (place other : ℕ) (unread : List UnreadPattern) → (other ≡ place → ⊥)
-    → marks_at place (placed other unread) ≡ []
-marks_at-elsewhere place other [] h = refl
-marks_at-elsewhere place other (u ∷ us) h =
-    rw (other_place (other == place) other place refl h) (marks_at-elsewhere place other us h)
-
-abbrev Below : ℕ → List UnreadAt → Type 0
+abbrev Below : ℕ → List UnreadPattern → Type 0
 Below n unread = AllByRecursion (λ at. at.place < n) unread
 
-marks_at-below : (place : ℕ) (unread : List UnreadAt) → Below place unread → marks_at place unread ≡ []
-marks_at-below place [] h = refl
-marks_at-below place (u ∷ us) h =
+all_below : (o : Origin) (place : ℕ) (unread : List UnreadPattern) → Below place unread
+    → AllByRecursion (λ u. is_at o Keybindings place u ≡ false) unread
+all_below o place [] h = tt
+all_below o place (u ∷ us) h =
     let apart : u.place ≡ place → ⊥ = λ e. omega (arith, e, h.0) in
-    rw (other_place (u.place == place) u.place place refl apart) (marks_at-below place us h.1)
+    (other_place o Keybindings place u apart, all_below o place us h.1)
 
-marks_at-other_read : (place other : ℕ) (read : Result Entry ℕ) → (other ≡ place → ⊥)
-    → marks_at place (unread_at other read) ≡ []
-marks_at-other_read place other (Ok entry) h = marks_at-elsewhere place other (unread_in entry) h
-marks_at-other_read place other (Err number) h = refl
+marks_at-below : (o : Origin) (place : ℕ) (unread : List UnreadPattern) → Below place unread
+    → marks_at o Keybindings unread place ≡ []
+marks_at-below o place unread h = marks_at-none o Keybindings place unread (all_below o place unread h)
+
+marks_at-other_read : (o : Origin) (place other : ℕ) (read : Result Entry ℕ) → (other ≡ place → ⊥)
+    → marks_at o Keybindings (unread_at o other read) place ≡ []
+marks_at-other_read o place other (Ok entry) h = marks_at-elsewhere o Keybindings place other (unread_in entry) h
+marks_at-other_read o place other (Err number) h = refl
 
 -- ---- marks in the place of others
 
-marked_when-again : (unread : List UnreadPattern) (when : Option MarkedClause)
+marked_when-again : (unread : List ClausePattern) (when : Option MarkedClause)
     → marked_when unread (marked_when [] when) ≡ marked_when unread when
 marked_when-again unread None = refl
 marked_when-again unread (Some clause) = refl
 
-marked_again : (unread : List UnreadPattern) (entry : Entry)
+marked_again : (unread : List ClausePattern) (entry : Entry)
     → marked_entry unread (marked_entry [] entry) ≡ marked_entry unread entry
 marked_again unread (Starts rule) =
     ap (λ when. Starts (record rule { when = when })) (marked_when-again unread rule.when)
@@ -82,22 +66,17 @@ marked_again unread (Removes removal) =
 
 -- ---- what holds of each
 
-all-append : {X : Type 0} (P : X → Type 0) (xs ys : List X) → AllByRecursion P xs → AllByRecursion P ys
-    → AllByRecursion P (xs ++ ys)
-all-append P [] ys h k = k
-all-append P (x ∷ xs) ys h k = (h.0, all-append P xs ys h.1 k)
-
-below-more : (n : ℕ) (unread : List UnreadAt) → Below n unread → Below (n + 1) unread
+below-more : (n : ℕ) (unread : List UnreadPattern) → Below n unread → Below (n + 1) unread
 below-more n [] h = tt
 below-more n (u ∷ us) h = (omega (arith, h.0), below-more n us h.1)
 
-below-placed : (n : ℕ) (unread : List UnreadPattern) → Below (n + 1) (placed n unread)
-below-placed n [] = tt
-below-placed n (u ∷ us) = (omega arith, below-placed n us)
+below-placed : (o : Origin) (n : ℕ) (unread : List ClausePattern) → Below (n + 1) (placed o Keybindings n unread)
+below-placed o n [] = tt
+below-placed o n (u ∷ us) = (omega arith, below-placed o n us)
 
-below-read : (n : ℕ) (read : Result Entry ℕ) → Below (n + 1) (unread_at n read)
-below-read n (Ok entry) = below-placed n (unread_in entry)
-below-read n (Err number) = tt
+below-read : (o : Origin) (n : ℕ) (read : Result Entry ℕ) → Below (n + 1) (unread_at o n read)
+below-read o n (Ok entry) = below-placed o n (unread_in entry)
+below-read o n (Err number) = tt
 
 right_rule : (read : Result Entry ℕ) → IsRight read
     → AllByRecursion (λ rule. IsRightlyMarked rule.when) (option_to_list (rule_in read))
@@ -129,18 +108,18 @@ collected-append origin read place more = λ i. record {
   warnings = (filter_map-append (λ r. warning_in origin r.0 r.1) read ((place, more) ∷ [])
       ∙ ap (λ xs. filter_map (λ (r : ℕ × Result Entry ℕ). warning_in origin r.0 r.1) read ++ xs)
       (as_list (warning_in origin place more))) i;
-  unread = (flat_map-append (λ r. unread_at r.0 r.1) read ((place, more) ∷ [])
-      ∙ ap (λ xs. flat_map (λ (r : ℕ × Result Entry ℕ). unread_at r.0 r.1) read ++ xs)
-      (append-nil (unread_at place more))) i;
+  unread = (flat_map-append (λ r. unread_at origin r.0 r.1) read ((place, more) ∷ [])
+      ∙ ap (λ xs. flat_map (λ (r : ℕ × Result Entry ℕ). unread_at origin r.0 r.1) read ++ xs)
+      (append-nil (unread_at origin place more))) i;
 }
 
 module _ (origin : Origin) (platform : Option Platform) where
   -- what an element is, with its place
-  abbrev element : List UnreadAt → ℕ → Data → ℕ × Result Entry ℕ
+  abbrev element : List UnreadPattern → ℕ → Data → ℕ × Result Entry ℕ
   element unread place d =
-      (place, seen (marked_entry (marks_at place unread)) (entry_of origin platform place d))
+      (place, seen (marked_entry (marks_at origin Keybindings unread place)) (entry_of origin platform place d))
 
-  read_of-append : (unread : List UnreadAt) (start place : ℕ) (done : List Data) (d : Data)
+  read_of-append : (unread : List UnreadPattern) (start place : ℕ) (done : List Data) (d : Data)
       → start + length done ≡ place
       → read_of unread origin platform start (done ++ d ∷ [])
       ≡ read_of unread origin platform start done ++ element unread place d ∷ []
@@ -152,8 +131,9 @@ module _ (origin : Origin) (platform : Option Platform) where
       ap (λ read. element unread start x ∷ read) (read_of-append unread (start + 1) place done d n)
 
   -- only the marks of the elements themselves count
-  read_of-same : (one other : List UnreadAt) (n start : ℕ) (done : List Data) → start + length done ≤ n
-      → ((place : ℕ) → place < n → marks_at place one ≡ marks_at place other)
+  read_of-same : (one other : List UnreadPattern) (n start : ℕ) (done : List Data) → start + length done ≤ n
+      → ((place : ℕ) → place < n
+      → marks_at origin Keybindings one place ≡ marks_at origin Keybindings other place)
       → read_of one origin platform start done ≡ read_of other origin platform start done
   read_of-same one other n start [] le h = refl
   read_of-same one other n start (d ∷ done) le h =
@@ -170,15 +150,16 @@ module _ (origin : Origin) (platform : Option Platform) where
     pub right : AreRightlyMarked list
 
   -- the marks of what was read are among those of the list
-  own_marks : (unread : List UnreadAt) (place : ℕ) (d : Data) (read : Result Entry ℕ)
-      → marks_at place unread ≡ []
+  own_marks : (unread : List UnreadPattern) (place : ℕ) (d : Data) (read : Result Entry ℕ)
+      → marks_at origin Keybindings unread place ≡ []
       → entry_of origin platform place d ≡ seen (marked_entry []) read → IsWhole read
-      → element (unread ++ unread_at place read) place d ≡ (place, read)
+      → element (unread ++ unread_at origin place read) place d ≡ (place, read)
   own_marks unread place d (Ok entry) none e w =
-      let marks : marks_at place (unread ++ placed place (unread_in entry)) ≡ unread_in entry =
-      marks_at-append place unread (placed place (unread_in entry))
-      ∙ (λ i. none i ++ marks_at-placed place (unread_in entry) i) in
-      rw (e, marks) (ap (λ own. (place, Ok own)) (marked_again (unread_in entry) entry ∙ w))
+      let own = unread_in entry in
+      let marks : marks_at origin Keybindings (unread ++ placed origin Keybindings place own) place ≡ own =
+      marks_at-append origin Keybindings unread (placed origin Keybindings place own) place
+      ∙ (λ i. none i ++ marks_at-placed origin Keybindings place own i) in
+      rw (e, marks) (ap (λ own. (place, Ok own)) (marked_again own entry ∙ w))
   own_marks unread place d (Err number) none e w = rw e refl
 
   -- the list with one more element
@@ -187,35 +168,63 @@ module _ (origin : Origin) (platform : Option Platform) where
       → entry_of origin platform place d ≡ seen (marked_entry []) read → IsWhole read → IsRight read
       → Reads (with_read origin place read list) (place + 1) (done ++ d ∷ [])
   reads_next list place done d read r e w right =
-      let unread = list.unread ++ unread_at place read in
+      let unread = list.unread ++ unread_at origin place read in
       let len : length done ≡ place = r.places in
       let count : 0 + length done ≡ place = omega (arith, len) in
       let fits : 0 + length done ≤ place = omega (arith, len) in
-      let same : (p : ℕ) → p < place → marks_at p unread ≡ marks_at p list.unread = λ p lt.
+      let same : (p : ℕ) → p < place
+      → marks_at origin Keybindings unread p ≡ marks_at origin Keybindings list.unread p = λ p lt.
       let apart : place ≡ p → ⊥ = λ e. omega (arith, e, lt) in
-      marks_at-append p list.unread (unread_at place read)
-      ∙ ap (λ marks. marks_at p list.unread ++ marks) (marks_at-other_read p place read apart)
-      ∙ append-nil (marks_at p list.unread) in
+      marks_at-append origin Keybindings list.unread (unread_at origin place read) p
+      ∙ ap (λ marks. marks_at origin Keybindings list.unread p ++ marks)
+      (marks_at-other_read origin p place read apart)
+      ∙ append-nil (marks_at origin Keybindings list.unread p) in
       let before = read_of-same unread list.unread place 0 done fits same in
-      let own = own_marks list.unread place d read (marks_at-below place list.unread r.below) e w in
+      let own = own_marks list.unread place d read (marks_at-below origin place list.unread r.below) e w in
       let all = read_of-append unread 0 place done d count ∙ (λ i. before i ++ own i ∷ []) in
       record {
         list_is = ap (with_read origin place read) r.list_is
             ∙ sym (ap (collected origin) all
             ∙ collected-append origin (read_of list.unread origin platform 0 done) place read);
         places = length-append done (d ∷ []) ∙ ap (λ n. n + 1) len;
-        below = all-append (λ at. at.place < place + 1) list.unread (unread_at place read)
-            (below-more place list.unread r.below) (below-read place read);
+        below = all-append (λ (at : UnreadPattern). at.place < place + 1) list.unread
+            (unread_at origin place read)
+            (below-more place list.unread r.below) (below-read origin place read);
         right = (
-          all-append (λ rule. IsRightlyMarked rule.when) list.rules (option_to_list (rule_in read))
+          all-append (λ (rule : Rule). IsRightlyMarked rule.when) list.rules (option_to_list (rule_in read))
               r.right.0 (right_rule read right),
-          all-append (λ removal. IsRightlyMarked removal.when) list.removals
+          all-append (λ (removal : Removal). IsRightlyMarked removal.when) list.removals
               (option_to_list (removal_in read)) r.right.1 (right_removal read right),
         );
       }
 
   pub reads_none : Reads no_elements 0 []
   reads_none = record { list_is = refl; places = refl; below = tt; right = (tt, tt) }
+
+  -- what a list is depends on the marks of its own elements alone
+  pub listed-same : (one other : List UnreadPattern) (elements : List Data)
+      → ((place : ℕ) → marks_at origin Keybindings one place ≡ marks_at origin Keybindings other place)
+      → listed one origin platform elements ≡ listed other origin platform elements
+  listed-same one other elements same =
+      ap (collected origin)
+      (read_of-same one other (length elements) 0 elements (omega arith) (λ place below. same place))
+
+-- ---- the unread patterns of a list are of its own elements
+
+of_read : (o : Origin) (place : ℕ) (read : Result Entry ℕ) → AllOf o Keybindings (unread_at o place read)
+of_read o place (Ok entry) = all_of-placed o Keybindings place (unread_in entry)
+of_read o place (Err number) = tt
+
+of_all : (o : Origin) (read : List (ℕ × Result Entry ℕ))
+    → AllOf o Keybindings (flat_map (λ r. unread_at o r.0 r.1) read)
+of_all o [] = tt
+of_all o (r ∷ rs) =
+    all_of-append o Keybindings (unread_at o r.0 r.1) (flat_map (λ r. unread_at o r.0 r.1) rs)
+    (of_read o r.0 r.1) (of_all o rs)
+
+pub of_list : (unread : List UnreadPattern) (o : Origin) (platform : Option Platform) (elements : List Data)
+    → AllOf o Keybindings (listed unread o platform elements).unread
+of_list unread o platform elements = of_all o (read_of unread o platform 0 elements)
 
 -- ---- a list of elements by place
 

@@ -3,10 +3,12 @@ use Rattle.std.specs.Prelude.{ℕ, ◌==◌, List, [], ◌∷◌, Option, None, 
 use Rattle.std.specs.Prelude.{codes, option_map}
 use Rattle.std.specs.Option.{option_or}
 use Rattle.std.specs.List.{list_all}
-use Rattle.kb_context.specs.Blank.{is_blank}
-use Rattle.kb_context.specs.Reading.{◌>>=◌, or_fault, or_default, unless}
-use Rattle.kb_context.specs.declared.failure.Failure.{Failure}
-use Rattle.kb_context.specs.declared.failure.Failure.TheVariants.{NoMemory, Fault}
+use Rattle.kb_base.specs.Blank.{is_blank}
+use Rattle.kb_base.specs.Reading.{◌>>=◌, or_fault, or_default, unless}
+use Rattle.kb_base.specs.declared.failure.Failure.{Failure}
+use Rattle.kb_base.specs.declared.failure.Failure.TheVariants.{NoMemory, Fault}
+use Rattle.kb_json.specs.FileFault as file
+use Rattle.kb_json.specs.Member as json
 use Rattle.kb_keys.specs.KeyFault as key
 use Rattle.kb_keys.specs.declared.keystroke.Keystroke.{Keystroke}
 use Rattle.kb_keys.specs.declared.platform.Platform.{Platform}
@@ -19,14 +21,14 @@ use Rattle.kb_when.specs.ClauseText.{clause_in}
 use Rattle.kb_when.specs.Marks.{MarkedClause}
 use Rattle.kb_when.specs.Unread.{marked_by}
 use Rattle.serde_json.specs.Data.{Data, Members}
-use Rattle.serde_json.specs.Find.{get_member, as_object, as_str}
+use Rattle.serde_json.specs.Find.{get_member, as_object}
 use Rattle.serde_json.specs.View.{view}
 use Rattle.kb_rules.specs.declared.entry.Binding.{Binding}
 use Rattle.kb_rules.specs.declared.entry.Binding.TheVariants as binding
 use Rattle.kb_rules.specs.declared.entry.Entry.{Entry}
 use Rattle.kb_rules.specs.declared.entry.Entry.TheVariants as entry
 use Rattle.kb_rules.specs.declared.entry.Parts.{Parts}
-use Rattle.kb_rules.specs.declared.origin.Origin.{Origin}
+use Rattle.kb_base.specs.declared.note.Origin.{Origin}
 use Rattle.kb_rules.specs.Whole.{is_whole}
 
 -- the same reading, with its fault by the fault's number
@@ -43,13 +45,13 @@ failure_by_number (Fault fault) = Fault (when.number_of fault)
 
 -- the text that a value is
 abbrev pub text_of : Data → Result (List ℕ) ℕ
-text_of d = or_fault 41 (as_str d)
+text_of d = by_number file.number_of (json.text_of d)
 
 -- the text of a member that must be there
 abbrev pub required_text : Option Data → Result (List ℕ) ℕ
-required_text member = or_fault 40 member >>= text_of
+required_text member = by_number file.number_of (json.required_text member)
 
--- the command that a removal names: what stands behind the `-`
+-- the command that a removal names: the text after the `-`
 abbrev pub removed_command : List ℕ → Option (List ℕ)
 removed_command [] = None
 removed_command (byte ∷ bytes) = if byte == 45 then Some bytes else None
@@ -142,8 +144,6 @@ made origin place (binding.Removes command keys) condition arguments = entry.Rem
   command = command;
   chord = keys;
   when = condition;
-  origin = origin;
-  place = place;
 })
 
 -- the same of what was read of the condition and the arguments, with all patterns read

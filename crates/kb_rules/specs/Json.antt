@@ -1,4 +1,4 @@
--- A JSON value as a tree of numbers, by which two of them are told apart.
+-- A JSON value as a tree of numbers, so that two different values have different trees.
 use Rattle.std.specs.Prelude.{◌≡◌, refl}
 use Rattle.std.proofs.Common.{ap}
 use Rattle.std.specs.Coded.{Coded, coded_bool, coded_ℤ, coded_list, coded_ℕ}

@@ -5,20 +5,22 @@ use Rattle.std.specs.Prelude.{Result, Ok, Err, option_to_list, alloc_error}
 use Rattle.std.specs.declared.alloc.AllocError.{AllocError}
 use Rattle.std.specs.List.{filter_map, flat_map, AllByRecursion}
 use Rattle.serde_json.specs.Data.{Data}
-use Rattle.kb_context.specs.Reading.{seen}
-use Rattle.kb_context.specs.declared.failure.Failure.{Failure}
-use Rattle.kb_context.specs.declared.failure.Failure.TheVariants.{NoMemory, Fault}
+use Rattle.kb_base.specs.Reading.{seen}
+use Rattle.kb_base.specs.declared.failure.Failure.{Failure}
+use Rattle.kb_base.specs.declared.failure.Failure.TheVariants.{NoMemory, Fault}
+use Rattle.kb_base.specs.declared.note.Origin.{Origin}
+use Rattle.kb_base.specs.declared.note.Part.TheVariants.{Keybindings}
+use Rattle.kb_base.specs.declared.note.UnreadPattern.{UnreadPattern}
+use Rattle.kb_base.specs.declared.note.Warning.{Warning}
 use Rattle.kb_keys.specs.declared.platform.Platform.{Platform}
-use Rattle.kb_when.specs.declared.unread.UnreadPattern.{UnreadPattern}
+use Rattle.kb_when.specs.Placed.{marks_at, placed}
+use Rattle.kb_when.specs.declared.unread.ClausePattern.{ClausePattern}
 use Rattle.kb_rules.specs.declared.entry.Entry.{Entry}
 use Rattle.kb_rules.specs.declared.entry.Entry.TheVariants.{Starts, Removes}
-use Rattle.kb_rules.specs.declared.origin.Origin.{Origin}
 use Rattle.kb_rules.specs.declared.removal.Removal.{Removal}
 use Rattle.kb_rules.specs.declared.rule.Rule.{Rule}
-use Rattle.kb_rules.specs.declared.unread.UnreadAt.{UnreadAt}
-use Rattle.kb_rules.specs.declared.warning.Warning.{Warning}
 use Rattle.kb_rules.specs.Entry.{entry_of}
-use Rattle.kb_rules.specs.Unread.{marked_entry, marks_at, unread_in, placed, IsRightlyMarked}
+use Rattle.kb_rules.specs.Unread.{marked_entry, unread_in, IsRightlyMarked}
 
 -- the rules of a list, from the top down, its removals, the warnings and the unread patterns, each in the
 -- order of the elements
@@ -26,7 +28,7 @@ pub record Listed : Type 0 where
   pub rules : List Rule
   pub removals : List Removal
   pub warnings : List Warning
-  pub unread : List UnreadAt
+  pub unread : List UnreadPattern
 
 abbrev pub no_elements : Listed
 no_elements = record { rules = []; removals = []; warnings = []; unread = [] }
@@ -43,20 +45,24 @@ removal_in (Ok (Starts rule)) = None
 removal_in (Ok (Removes removal)) = Some removal
 removal_in (Err number) = None
 
--- what is said of a rule or a removal with these unread patterns
-abbrev pub warning_of_unread : Origin → ℕ → List UnreadPattern → Option Warning
-warning_of_unread origin place [] = None
-warning_of_unread origin place (pattern ∷ unread) =
-    Some (record { origin = origin; number = 34; place = place })
+-- a warning about the element at a place
+abbrev pub warning_at : Origin → ℕ → ℕ → Warning
+warning_at origin place number =
+    record { origin = origin; part = Keybindings; number = number; place = place }
 
--- what is said of the element at a place: it has an unread pattern, or wasn't read
+-- the warning about a rule or a removal with these unread patterns
+abbrev pub warning_of_unread : Origin → ℕ → List ClausePattern → Option Warning
+warning_of_unread origin place [] = None
+warning_of_unread origin place (pattern ∷ unread) = Some (warning_at origin place 34)
+
+-- the warning about the element at a place: it has an unread pattern, or it is dropped
 abbrev pub warning_in : Origin → ℕ → Result Entry ℕ → Option Warning
 warning_in origin place (Ok entry) = warning_of_unread origin place (unread_in entry)
-warning_in origin place (Err number) = Some (record { origin = origin; number = number; place = place })
+warning_in origin place (Err number) = Some (warning_at origin place number)
 
-abbrev pub unread_at : ℕ → Result Entry ℕ → List UnreadAt
-unread_at place (Ok entry) = placed place (unread_in entry)
-unread_at place (Err number) = []
+abbrev pub unread_at : Origin → ℕ → Result Entry ℕ → List UnreadPattern
+unread_at origin place (Ok entry) = placed origin Keybindings place (unread_in entry)
+unread_at origin place (Err number) = []
 
 -- the list of what was read, each with its place
 abbrev pub collected : Origin → List (ℕ × Result Entry ℕ) → Listed
@@ -64,18 +70,18 @@ collected origin read = record {
   rules = filter_map (λ r. rule_in r.1) read;
   removals = filter_map (λ r. removal_in r.1) read;
   warnings = filter_map (λ r. warning_in origin r.0 r.1) read;
-  unread = flat_map (λ r. unread_at r.0 r.1) read;
+  unread = flat_map (λ r. unread_at origin r.0 r.1) read;
 }
 
 -- what each of the elements is, with its place, counted from a number, and with its marks among these
-abbrev pub read_of : List UnreadAt → Origin → Option Platform → ℕ → List Data → List (ℕ × Result Entry ℕ)
+abbrev pub read_of : List UnreadPattern → Origin → Option Platform → ℕ → List Data → List (ℕ × Result Entry ℕ)
 read_of unread origin platform place [] = []
 read_of unread origin platform place (d ∷ ds) =
-    (place, seen (marked_entry (marks_at place unread)) (entry_of origin platform place d))
+    (place, seen (marked_entry (marks_at origin Keybindings unread place)) (entry_of origin platform place d))
     ∷ read_of unread origin platform (place + 1) ds
 
 -- the list of the elements by these marks; keystrokes are those of a platform, if one is given
-abbrev pub listed : List UnreadAt → Origin → Option Platform → List Data → Listed
+abbrev pub listed : List UnreadPattern → Origin → Option Platform → List Data → Listed
 listed unread origin platform elements = collected origin (read_of unread origin platform 0 elements)
 
 -- the warnings of elements that were dropped
@@ -102,17 +108,17 @@ with_read origin place read list = record {
   rules = list.rules ++ option_to_list (rule_in read);
   removals = list.removals ++ option_to_list (removal_in read);
   warnings = list.warnings ++ option_to_list (warning_in origin place read);
-  unread = list.unread ++ unread_at place read;
+  unread = list.unread ++ unread_at origin place read;
 }
 
 abbrev pub with_warning : Warning → Listed → Listed
 with_warning warning list = record list { warnings = list.warnings ++ warning ∷ [] }
 
 -- the list with the unread patterns of a condition alone
-abbrev pub with_unread : Origin → ℕ → List UnreadPattern → Listed → Listed
+abbrev pub with_unread : Origin → ℕ → List ClausePattern → Listed → Listed
 with_unread origin place unread list = record list {
   warnings = list.warnings ++ option_to_list (warning_of_unread origin place unread);
-  unread = list.unread ++ placed place unread;
+  unread = list.unread ++ placed origin Keybindings place unread;
 }
 
 -- what was read is what its own marks make of it

@@ -1,45 +1,34 @@
 -- Marks of patterns: those that aren't read, of the clauses of a list.
-use Rattle.std.specs.Prelude.{◌==◌, ℕ, List, [], Option, None, Some, map, filter, option_map}
+use Rattle.std.specs.Prelude.{List, [], Option, None, Some, option_map}
 use Rattle.kb_when.specs.Clause.{Clause, patterns_of}
 use Rattle.kb_when.specs.Marks.{MarkedClause}
 use Rattle.kb_pattern.specs.Pattern.{AreRight}
 use Rattle.kb_when.specs.Unread.{unread_of, marked_by}
-use Rattle.kb_when.specs.declared.unread.UnreadPattern.{UnreadPattern}
+use Rattle.kb_when.specs.declared.unread.ClausePattern.{ClausePattern}
 use Rattle.kb_rules.specs.declared.entry.Entry.{Entry}
 use Rattle.kb_rules.specs.declared.entry.Entry.TheVariants.{Starts, Removes}
-use Rattle.kb_rules.specs.declared.unread.UnreadAt.{UnreadAt}
 
 -- the tree of a condition, if there is one
 abbrev pub tree_in : Option MarkedClause → Option Clause
 tree_in = option_map (λ clause. clause.tree)
 
 -- a condition marked by these, in the place of its own marks
-abbrev pub marked_when : List UnreadPattern → Option MarkedClause → Option MarkedClause
+abbrev pub marked_when : List ClausePattern → Option MarkedClause → Option MarkedClause
 marked_when unread when = option_map (marked_by unread) (tree_in when)
 
 -- the same of a rule or a removal
-abbrev pub marked_entry : List UnreadPattern → Entry → Entry
+abbrev pub marked_entry : List ClausePattern → Entry → Entry
 marked_entry unread (Starts rule) = Starts (record rule { when = marked_when unread rule.when })
 marked_entry unread (Removes removal) = Removes (record removal { when = marked_when unread removal.when })
 
-abbrev pub unread_when : Option MarkedClause → List UnreadPattern
+abbrev pub unread_when : Option MarkedClause → List ClausePattern
 unread_when None = []
 unread_when (Some clause) = unread_of clause
 
 -- the unread patterns of a rule or a removal
-abbrev pub unread_in : Entry → List UnreadPattern
+abbrev pub unread_in : Entry → List ClausePattern
 unread_in (Starts rule) = unread_when rule.when
 unread_in (Removes removal) = unread_when removal.when
-
--- unread patterns of the element at a place, with the place
-abbrev pub placed : ℕ → List UnreadPattern → List UnreadAt
-placed place unread =
-    map (λ pattern. record { place = place; number = pattern.number; pattern = pattern.pattern }) unread
-
--- those of a list that are of the element at a place
-abbrev pub marks_at : ℕ → List UnreadAt → List UnreadPattern
-marks_at place unread =
-    map (λ at. record { number = at.number; pattern = at.pattern }) (filter (λ at. at.place == place) unread)
 
 -- each pattern of the condition is marked as it is or isn't read
 abbrev pub IsRightlyMarked : Option MarkedClause → Type 0

@@ -1,8 +1,8 @@
 //! The reading of one element of a list of rules.
 ghost use Rattle.std.specs.Prelude.{◌≡◌, [], option_map, is_some, not, IfOk};
 ghost use Rattle.std.specs.List.{list_all};
-ghost use Rattle.kb_context.specs.Blank.{is_blank};
-ghost use Rattle.kb_context.specs.Failure.{Gives};
+ghost use Rattle.kb_base.specs.Blank.{is_blank};
+ghost use Rattle.kb_base.specs.Failure.{Gives};
 ghost use Rattle.kb_keys.specs.KeyFault as key;
 ghost use Rattle.kb_keys.specs.Chord.{chord_of};
 ghost use Rattle.kb_when.specs.WhenFault as when;
@@ -15,12 +15,11 @@ ghost use Rattle.kb_rules.specs.Entry.{made, completed, element_of, entry_of};
 ghost use Rattle.kb_rules.specs.Unread.{tree_in, marked_entry};
 
 use crate::json::Json;
-use crate::origin::Origin;
 use crate::removal::Removal;
 use crate::rule::Rule;
 use crate::whole::has_whole_numbers;
-use kb_context::{Failure, NoMemory, Text, is_blank_text};
-use kb_json::{FileFault, members_in, take_member, text_in};
+use kb_base::{Failure, NoMemory, Origin, Text, is_blank_text};
+use kb_json::{FileFault, members_in, take_member};
 use kb_keys::{Chord, Platform};
 use kb_when::{Clause, WhenFault};
 use serde_json::{Map, Value};
@@ -51,8 +50,8 @@ pub(crate) enum Entry {
     Removes(Removal),
 }
 
-/// The rule or the removal that an element is, with the place that it stands at, or the number of the
-/// element's first fault. Its texts and arguments are moved out of it. The clause says itself which of its
+/// The rule or the removal that an element is, with its place, or the number of the element's first
+/// fault. Its texts and arguments are moved out of it. The clause says itself which of its
 /// patterns aren't read.
 pub(crate) fn read_entry(
     alloc: Global,
@@ -136,7 +135,7 @@ fn complete(
     }
 }
 
-/// The rule or the removal of what was read of it. It takes no memory.
+/// The rule or the removal of what was read of it.
 fn made(
     binding: Binding,
     when: Option<Clause>,
@@ -159,8 +158,6 @@ fn made(
             command,
             chord,
             when,
-            origin,
-            place,
         }),
     }
 }
@@ -225,17 +222,14 @@ fn read_terms(
 fn text_of(value: Value) -> Result<Text, u32>
     ensures { result ≡ text_of (view value) }
 {
-    text_in(value).ok_or(FileFault::WrongShape.number())
+    kb_json::text_of(value).map_err(FileFault::number)
 }
 
 /// The text of a member that must be there.
 fn required_text(member: Option<Value>) -> Result<Text, u32>
     ensures { result ≡ required_text (option_map view member) }
 {
-    match member {
-        Some(value) => text_of(value),
-        None => Err(FileFault::MissingMember.number()),
-    }
+    kb_json::required_text(member).map_err(FileFault::number)
 }
 
 /// The command that a removal names, or `None` for what is no removal (VS Code's documentation: a removal's
@@ -294,12 +288,12 @@ fn read_condition(alloc: Global, member: Option<Value>) -> Result<Option<Clause>
     }
 }
 
-/// The clause of a `when` text, if it says something.
+/// The clause of a `when` text, if it isn't blank.
 #[tactic(auto, unfolding(crate::specs::Entry::when_of))]
 fn read_when(alloc: Global, text: &str) -> Result<Option<Clause>, Failure<u32>>
     ensures read { Gives tree_in result (when_of text.now) }
 
-    // What `read` cites: a text that says something is never a rule without a clause.
+    // `read` cites this: a text that isn't blank never becomes a rule without a clause.
     ensures kept { IfOk result (λ when. is_some when ≡ not (list_all is_blank text.now)) }
 {
     if is_blank_text(text) {
@@ -319,10 +313,7 @@ fn read_clause(alloc: Global, text: &str) -> Result<Clause, Failure<u32>>
 fn failure_by_number(failure: Failure<WhenFault>) -> Failure<u32>
     ensures { result ≡ failure_by_number failure }
 {
-    match failure {
-        Failure::NoMemory => Failure::NoMemory,
-        Failure::Fault(fault) => Failure::Fault(fault.number()),
-    }
+    failure.map_fault(WhenFault::number)
 }
 
 /// The arguments, if there are any: whole within i64 in each number.

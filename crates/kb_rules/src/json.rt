@@ -2,7 +2,7 @@
 ghost use Rattle.std.specs.Prelude.{◌≡◌, IfOk};
 ghost use Rattle.serde_json.specs.View.{view};
 
-use kb_context::NoMemory;
+use kb_base::NoMemory;
 use serde_json::Value;
 use std::marker::Model;
 
@@ -35,7 +35,7 @@ impl Json {
         })
     }
 
-    /// The value itself, which takes no memory.
+    /// The value itself.
     pub fn from_value(value: Value) -> Json
         ensures { result ≡ view value }
     {

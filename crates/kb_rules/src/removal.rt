@@ -1,18 +1,17 @@
-//! What takes rules away.
+//! Removals of rules.
 ghost use Rattle.std.specs.Prelude.{◌≡◌, ◌↔◌, IsTrue};
 ghost use Rattle.kb_rules.specs.Removal.{fits_keys, fits_clause, takes, Takes};
 
-use crate::origin::Origin;
 use crate::rule::Rule;
-use kb_context::Text;
+use kb_base::Text;
 use kb_keys::Chord;
 use kb_when::Clause;
 
-/// An element whose command begins with `-`, which takes rules away (VS Code's documentation of keyboard
-/// shortcuts). Which rules it may take at all, `RuleSet::assemble` says.
+/// An element whose command begins with `-`, which removes rules (VS Code's documentation of keyboard
+/// shortcuts). `RuleSet::assemble` defines which rules it can remove.
 #[derive(Drop)]
 pub struct Removal {
-    /// The command whose rules it takes: what stands behind the `-`.
+    /// The command whose rules it takes: the text after the `-`.
     pub command: Text,
     /// The keystrokes of the rules that it takes. Without them it takes rules of any keystrokes (our
     /// decision).
@@ -20,16 +19,12 @@ pub struct Removal {
     /// The clause of the rules that it takes. Without one it takes rules with any clause, or none (our
     /// decision).
     pub when: Option<Clause>,
-    /// Whose removal it is.
-    pub origin: Origin,
-    /// Where it stands in its list: the number of elements above it, dropped ones and rules too.
-    pub place: usize,
 }
 
 impl Removal {
     /// Whether this is one of the rules that it takes: of its command, with its keystrokes if it has some,
     /// and with its clause if it has one. Clauses are compared as trees, so that neither blanks nor
-    /// parentheses round the whole count (our decision). It takes no memory.
+    /// parentheses round the whole count (our decision).
     pub fn takes(&self, rule: &Rule) -> bool
         ensures value { result ≡ takes self.now rule.now }
 

@@ -6,7 +6,7 @@ ghost use Rattle.kb_rules.specs.RemovalIndex.{found, finds, target, target_of, I
 
 use crate::removal::Removal;
 use crate::rule::Rule;
-use kb_context::NoMemory;
+use kb_base::NoMemory;
 use kb_keys::{Keystroke, write_strokes};
 use std::alloc::Global;
 use std::collections::HashMap;

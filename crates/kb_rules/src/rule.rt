@@ -1,7 +1,6 @@
 //! One key rule.
 use crate::json::Json;
-use crate::origin::Origin;
-use kb_context::Text;
+use kb_base::{Origin, Text};
 use kb_keys::Chord;
 use kb_when::Clause;
 
@@ -14,13 +13,13 @@ pub struct Rule {
     /// The identifier of the command, which need not exist. The empty one starts nothing: such a
     /// rule takes its keystrokes from the rules above it (VS Code's documentation).
     pub command: Text,
-    /// The condition on the context. A rule without one counts whatever the context is (VS Code's
+    /// The condition on the context. A rule without one counts in any context (VS Code's
     /// documentation).
     pub when: Option<Clause>,
     /// The member `args`, if the rule has it: each number in it is whole within i64.
     pub args: Option<Json>,
-    /// Whose rule it is.
+    /// The file of the rule.
     pub origin: Origin,
-    /// Where the rule stands in its list: the number of elements above it, dropped ones and removals too.
+    /// The place of the rule in its list: the number of elements above it, including dropped ones and removals.
     pub place: usize,
 }

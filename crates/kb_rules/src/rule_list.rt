@@ -1,21 +1,20 @@
 //! The rules of one file.
 ghost use Rattle.std.specs.Prelude.{◌≡◌, ◌+◌, [], ◌++◌, length, IfOk, OnOk, Ok, map};
 ghost use Rattle.serde_json.specs.View.{view};
-ghost use Rattle.kb_context.specs.Reading.{seen};
+ghost use Rattle.kb_base.specs.Reading.{seen};
+ghost use Rattle.kb_base.specs.declared.note.Part.TheVariants.{Keybindings};
+ghost use Rattle.kb_when.specs.Placed.{placed};
 ghost use Rattle.kb_rules.specs.Entry.{entry_of};
-ghost use Rattle.kb_rules.specs.RuleList.{no_elements, listed, dropped_in, with_warning, with_unread, judged};
+ghost use Rattle.kb_rules.specs.RuleList.{no_elements, listed, dropped_in, with_warning, with_unread, warning_at, judged};
 ghost use Rattle.kb_rules.specs.RuleList.{with_read, AreRightlyMarked, IsWhole, IsRight};
-ghost use Rattle.kb_rules.specs.Unread.{marked_when, marked_entry, unread_when, placed, IsRightlyMarked};
+ghost use Rattle.kb_rules.specs.Unread.{marked_when, marked_entry, unread_when, IsRightlyMarked};
 
 use crate::entry::{Entry, read_entry};
-use crate::origin::Origin;
 use crate::removal::Removal;
 use crate::rule::Rule;
-use crate::unread::UnreadAt;
-use crate::warning::Warning;
-use kb_context::{Failure, NoMemory, Seq};
+use kb_base::{Failure, NoMemory, Origin, Part, Seq, UnreadPattern, Warning};
 use kb_keys::Platform;
-use kb_when::{Clause, UnreadPattern};
+use kb_when::{Clause, ClausePattern};
 use serde_json::Value;
 use std::alloc::{AllocError, Global};
 use std::marker::Model;
@@ -32,7 +31,7 @@ pub struct RuleList {
     rules: Seq<Rc<Rule>>,
     removals: Seq<Rc<Removal>>,
     warnings: Seq<Warning>,
-    unread: Seq<UnreadAt>,
+    unread: Seq<UnreadPattern>,
 }
 
 impl Model for RuleList {
@@ -41,8 +40,8 @@ impl Model for RuleList {
     ghost use Rattle.kb_rules.specs.RuleList.{Listed};
     ghost use Rattle.kb_rules.specs.contracts.removal.Removal as removal;
     ghost use Rattle.kb_rules.specs.contracts.rule.Rule as rule;
-    ghost use Rattle.kb_rules.specs.contracts.unread.UnreadAt as mark;
-    ghost use Rattle.kb_rules.specs.contracts.warning.Warning as warning;
+    ghost use Rattle.kb_base.specs.contracts.note.UnreadPattern as mark;
+    ghost use Rattle.kb_base.specs.contracts.note.Warning as warning;
 
     ghost Value = { Listed };
 
@@ -58,7 +57,7 @@ impl Model for RuleList {
 }
 
 impl RuleList {
-    /// The list of no elements, as of a file that isn't given. It takes no memory.
+    /// The list of no elements, as of an absent file.
     pub fn new(alloc: Global) -> RuleList
         ensures { result ≡ no_elements }
     {
@@ -70,30 +69,29 @@ impl RuleList {
         }
     }
 
-    /// The rules, from the top down. It takes no memory.
+    /// The rules, from the top down.
     pub fn rules(&self) -> &[Rc<Rule>]
         ensures { map (λ r. r.value) result.now ≡ self.now.rules }
     {
         self.rules.as_slice()
     }
 
-    /// The removals, in the order of the elements. It takes no memory.
+    /// The removals, in the order of the elements.
     pub fn removals(&self) -> &[Rc<Removal>]
         ensures { map (λ r. r.value) result.now ≡ self.now.removals }
     {
         self.removals.as_slice()
     }
 
-    /// The warnings, in the order of the elements. It takes no memory.
+    /// The warnings, in the order of the elements.
     pub fn warnings(&self) -> &[Warning]
         ensures { result.now ≡ self.now.warnings }
     {
         self.warnings.as_slice()
     }
 
-    /// The patterns of rules and removals that aren't read, in the order of the elements and of their texts.
-    /// It takes no memory.
-    pub fn unread(&self) -> &[UnreadAt]
+    /// The unread patterns of rules and removals, in the order of the elements and of their texts.
+    pub fn unread(&self) -> &[UnreadPattern]
         ensures { result.now ≡ self.now.unread }
     {
         self.unread.as_slice()
@@ -102,10 +100,11 @@ impl RuleList {
     /// Adds a warning of the element at a place at the end.
     fn warn(&mut self, origin: Origin, number: u32, place: usize) -> Result<(), NoMemory>
         ensures { OnOk result (self.new
-            ≡ with_warning (record { origin = origin; number = number; place = place }) self.old) }
+            ≡ with_warning (warning_at origin place number) self.old) }
     {
         let warning = Warning {
             origin,
+            part: Part::Keybindings,
             number,
             place,
         };
@@ -128,7 +127,7 @@ impl RuleList {
             return Ok(());
         }
         self.warn(origin, UNREAD, place)?;
-        push_unread(unread, place, &mut self.unread)
+        push_unread(unread, origin, place, &mut self.unread)
     }
 
     /// Adds what the element at a place is: a rule at the bottom or a removal, with its unread patterns, or
@@ -215,16 +214,19 @@ impl RuleList {
 
 /// Adds unread patterns of the element at a place.
 fn push_unread(
-    patterns: &[UnreadPattern],
+    patterns: &[ClausePattern],
+    origin: Origin,
     place: usize,
-    unread: &mut Seq<UnreadAt>,
+    unread: &mut Seq<UnreadPattern>,
 ) -> Result<(), NoMemory>
-    ensures { OnOk result (unread.new ≡ unread.old ++ placed place patterns.now) }
+    ensures { OnOk result (unread.new ≡ unread.old ++ placed origin Keybindings place patterns.now) }
 {
     for pattern in patterns {
         let number = pattern.number;
         let pattern = pattern.pattern.copied()?;
-        unread.push(UnreadAt {
+        unread.push(UnreadPattern {
+            origin,
+            part: Part::Keybindings,
             place,
             number,
             pattern,
@@ -233,8 +235,7 @@ fn push_unread(
     Ok(())
 }
 
-/// What was read of an element, or its first fault, by how its reading ended; refused memory is neither. It
-/// takes no memory.
+/// What was read of an element, or its first fault, by how its reading ended; refused memory is neither.
 fn judged(read: Result<Entry, Failure<u32>>) -> Result<Result<Entry, u32>, NoMemory>
     ensures { result ≡ judged read }
 {

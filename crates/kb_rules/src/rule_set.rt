@@ -8,7 +8,7 @@ use crate::removal::Removal;
 use crate::removal_index::RemovalIndex;
 use crate::rule::Rule;
 use crate::rule_list::RuleList;
-use kb_context::{NoMemory, Seq};
+use kb_base::{NoMemory, Seq};
 use std::alloc::Global;
 use std::marker::Model;
 use std::rc::Rc;
@@ -36,7 +36,7 @@ impl Model for RuleSet {
 impl RuleSet {
     /// The rules in force: the default rules, those of the enabled extensions in load order, and then the
     /// user's (VS Code's documentation). What a removal of one of these lists takes (`Removal::takes`) is
-    /// left out, but no rule of the user ever is, and a removal acts wherever it stands (our decisions). The
+    /// left out, but no rule of the user ever is, and a removal acts at any place in its list (our decisions). The
     /// lists of extensions that aren't enabled count for nothing. The rules are shared with the lists that
     /// they come from. `NoMemory` where memory was refused.
     pub fn assemble(
@@ -55,7 +55,7 @@ impl RuleSet {
         Ok(RuleSet { rules })
     }
 
-    /// The rules, from the top down. It takes no memory.
+    /// The rules, from the top down.
     pub fn rules(&self) -> &[Rc<Rule>]
         ensures { map (λ r. r.value) result.now ≡ self.now }
     {

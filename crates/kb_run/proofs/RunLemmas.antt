@@ -1,29 +1,31 @@
--- What is said line by line, and what was had of the files that options name.
-use Rattle.std.proofs.Common.{◌≡◌, ◌<◌, ◌≤◌, ◌+◌, ◌++◌, List, [], ◌∷◌, ℕ, drop, length, get_or, refl, sym, ap, subst, inr, append-nil}
+-- Lines on standard error, and what was read of the files that options name.
+use Rattle.std.proofs.Common.{◌≡◌, ◌<◌, ◌≤◌, ◌+◌, ◌++◌, List, [], ◌∷◌, ℕ, drop, length, get_or, ◌∙◌, refl, sym, ap, subst, inl, inr, append-nil}
 use Rattle.std.proofs.KnownBytes.{Appends-nil, Appends-trans}
 use Rattle.std.proofs.lemmas.List.{drop_more, drop_all}
 use Rattle.std.specs.Borrow.{Bor}
 use Rattle.std.specs.Prelude.{Option, Some, None, Result, Ok, Err, option_map, unwrap_or}
 use Rattle.std.specs.Io.KnownBytes.{append_known}
-use Rattle.kb_context.specs.declared.failure.Failure.{Failure}
+use Rattle.kb_base.specs.declared.failure.Failure.{Failure}
 use Rattle.kb_core.specs.declared.native.Native.{Native}
-use Rattle.kb_context.specs.declared.failure.Failure.TheVariants as failure
-use Rattle.kb_ending.specs.Files.{Held, unknown, refuses, holds, Opens, NamesBytes, NamesFile}
-use Rattle.kb_ending.specs.Report.{warning_line, load_stop}
-use Rattle.kb_ending.specs.Voice.{Heard, Says}
-use Rattle.kb_ending.specs.declared.outcome.Stop.{Stop}
+use Rattle.kb_base.specs.declared.failure.Failure.TheVariants as failure
+use Rattle.kb_disk.specs.Files.{Held, unknown, refuses, holds, Opens, NamesBytes, NamesFile}
+use Rattle.kb_disk.specs.declared.cannot_read.CannotRead.{CannotRead}
+use Rattle.kb_exit.specs.Report.{warning_line, load_stop, read_stop}
+use Rattle.kb_exit.specs.Voice.{Heard, Says}
+use Rattle.kb_exit.specs.declared.outcome.Stop.{Stop}
 use Rattle.kb_run.specs.Run.{FailsToLoad, FileMissing, HasBytes, HasFiles, HasRules, HasScript}
-use Rattle.kb_run.specs.Run.{IsHad, IsLoaded, LoadsBy, Silent, StopsAtScript, Streams, script_bytes, warning_text}
-use Rattle.kb_run.proofs.DirectoryLemmas.{had_read}
-use Rattle.kb_given.specs.declared.given.Options.{Options}
+use Rattle.kb_run.specs.Run.{FailsAtScript, FailsReadingFiles, IsHad, IsLoaded, LoadsBy, Outputs, Silent}
+use Rattle.kb_run.specs.Run.{script_bytes, warning_text}
+use Rattle.kb_disk.proofs.FilesLemmas.{had_read}
+use Rattle.kb_options.specs.declared.given.Options.{Options}
 use Rattle.kb_bindings.specs.Load.{Files}
-use Rattle.kb_run.specs.declared.handlers.Handlers.{Handlers}
-use Rattle.kb_run.specs.declared.handlers.Handlers.TheVariants.{Verified, Raw}
+use Rattle.kb_run.specs.declared.setup.Verification.{Verification}
+use Rattle.kb_run.specs.declared.setup.Verification.TheVariants.{Verified, Raw}
 use Rattle.kb_session.specs.State.{State}
 use Rattle.kb_stream.specs.Fold.{Traced}
 use Rattle.kb_bindings.specs.Sources.{Sources, source_of}
-use Rattle.kb_bindings.specs.declared.fault.LoadFault.{LoadFault}
-use Rattle.kb_bindings.specs.declared.warning.Warning.{Warning}
+use Rattle.kb_files.specs.declared.fault.LoadFault.{LoadFault}
+use Rattle.kb_base.specs.declared.note.Warning.{Warning}
 
 says_nothing : (before : Heard) → Says before before []
 says_nothing before whole = (whole, Appends-nil before.said)
@@ -54,15 +56,15 @@ warned_all sources before end warnings all are says =
     subst (λ xs. Says before end (warning_text sources xs)) are says
 
 -- a load that fails stops the run
-pub load_fails : (handlers : Handlers) (files : Files) (natives : List Native) (failed : Failure LoadFault)
-    → LoadsBy handlers files natives (Err failed) → FailsToLoad handlers files natives (load_stop failed)
-load_fails handlers files natives failure.NoMemory fails = tt
+pub load_fails : (verification : Verification) (files : Files) (natives : List Native) (failed : Failure LoadFault)
+    → LoadsBy verification files natives (Err failed) → FailsToLoad verification files natives (load_stop failed)
+load_fails verification files natives failure.NoMemory fails = tt
 load_fails Verified files natives (failure.Fault fault) fails = fails
 load_fails Raw files natives (failure.Fault fault) fails = fails
 
 -- what was loaded
-pub session_loaded : (handlers : Handlers) (files : Files) (natives : List Native) (session : Traced State)
-    → LoadsBy handlers files natives (Ok session) → IsLoaded handlers files natives session
+pub session_loaded : (verification : Verification) (files : Files) (natives : List Native) (session : Traced State)
+    → LoadsBy verification files natives (Ok session) → IsLoaded verification files natives session
 session_loaded Verified files natives session is = is
 session_loaded Raw files natives session is = is
 
@@ -108,23 +110,32 @@ had_script held remaining (Some path) None input has = absurd has
 had_script held remaining (Some path) (Some file) input has = had_open (held path.now) remaining file has
 
 not_opened : {F : Type 0} (held : List ℕ → Held) (remaining : F → Option (List ℕ)) (named : Option (Bor (List ℕ)))
-    (stop : Stop) → NamesFile held remaining named (Err stop) → StopsAtScript held named stop
-not_opened held remaining None stop fails = fails
-not_opened held remaining (Some path) stop fails = fails
+    (failure : Failure CannotRead) → NamesFile held remaining named (Err failure)
+    → FailsAtScript held named failure
+not_opened held remaining None failure fails = fails
+not_opened held remaining (Some path) failure fails = fails
 
--- the script's file doesn't open, behind all others
+-- a file of the load cannot be read
+pub files_missing : (held : List ℕ → Held) (given : Options) (o : Outputs) (end : Result (Unit {0}) Stop)
+    (stop : Stop) (failure : Failure CannotRead) → FailsReadingFiles held given failure → end ≡ Err stop
+    → stop ≡ read_stop failure → Silent o → FileMissing held given o end
+files_missing held given o end stop failure fails ends is silent = record {
+  failure = failure;
+  end_is = ends ∙ ap Err is;
+  why = inl fails;
+  silent = silent;
+}
+
+-- the script's file does not open, and all others were read
 pub script_missing : {F : Type 0} (held : List ℕ → Held) (remaining : F → Option (List ℕ))
-    (given : Options) (files : Files) (o : Streams) (end : Result (Unit {0}) Stop) (stop failed : Stop)
-    → HasFiles held given files
-    → NamesFile held remaining given.script (Err failed) → end ≡ Err stop → stop ≡ failed → Silent o
-    → FileMissing held given o end
-script_missing held remaining given files o end stop failed has fails ends is silent = record {
-  stop = stop;
-  end_is = ends;
-  why = inr (
-    (files, has),
-    subst (λ s. StopsAtScript held given.script s) (sym is) (not_opened held remaining given.script failed fails),
-  );
+    (given : Options) (files : Files) (o : Outputs) (end : Result (Unit {0}) Stop) (stop : Stop)
+    (failure : Failure CannotRead) → HasFiles held given files
+    → NamesFile held remaining given.script (Err failure) → end ≡ Err stop → stop ≡ read_stop failure
+    → Silent o → FileMissing held given o end
+script_missing held remaining given files o end stop failure has fails ends is silent = record {
+  failure = failure;
+  end_is = ends ∙ ap Err is;
+  why = inr ((files, has), not_opened held remaining given.script failure fails);
   silent = silent;
 }
 

@@ -1,3 +1,3 @@
 pub mod Directory
 pub mod Run
-pub mod System
+pub mod Report

@@ -1,45 +1,44 @@
--- What a run of the program leaves: what was said and printed, by what the files and the command line were.
+-- What a run writes to standard error and to the trace, by its options and by what its files hold.
 use Rattle.std.specs.Prelude.{◌≡◌, ◌⊎◌, ⊤, ℕ, Bool, true, false, List, [], ◌∷◌, ◌++◌, flat_map, map}
 use Rattle.std.specs.Prelude.{Option, Some, None, Result, Ok, Err, option_map, unwrap_or}
 use Rattle.std.specs.Borrow.{Bor}
 use Rattle.std.specs.Io.KnownBytes.{Keeps, append_known}
-use Rattle.kb_context.specs.declared.failure.Failure.{Failure}
-use Rattle.kb_context.specs.declared.failure.Failure.TheVariants as failure
+use Rattle.kb_base.specs.declared.failure.Failure.{Failure}
+use Rattle.kb_base.specs.declared.failure.Failure.TheVariants as failure
 use Rattle.kb_core.specs.declared.native.Native.{Native}
-use Rattle.kb_ending.specs.Files.{Held, HasRead, NamesBytes, NamesFile, Opens}
-use Rattle.kb_ending.specs.Report.{warning_line, script_stop}
-use Rattle.kb_ending.specs.Voice.{Heard, Says}
-use Rattle.kb_ending.specs.declared.outcome.Stop.{Stop}
-use Rattle.kb_ending.specs.declared.outcome.Stop.TheVariants.{CannotRead, CannotReadIn, Load, Script}
-use Rattle.kb_ending.specs.declared.outcome.Stop.TheVariants.{NoMemory}
-use Rattle.kb_keys.specs.declared.platform.Platform.{Platform}
-use Rattle.kb_run.specs.Directory.{HasDirectories, StopsInDirectories, bytes_held}
+use Rattle.kb_disk.specs.Files.{Held, HasRead, NamesBytes, NamesFile, Opens}
+use Rattle.kb_disk.specs.declared.cannot_read.CannotRead.{CannotRead}
+use Rattle.kb_exit.specs.Report.{read_stop, script_stop, warning_line}
+use Rattle.kb_exit.specs.Voice.{Heard, Says}
+use Rattle.kb_exit.specs.declared.outcome.Stop.{Stop}
+use Rattle.kb_exit.specs.declared.outcome.Stop.TheVariants.{Unread, Load, Script, NoMemory}
+use Rattle.kb_run.specs.Directory.{HasDirectories, FailsInDirectories, bytes_held}
 use Rattle.kb_run.specs.declared.run.FileBytes.{FileBytes}
-use Rattle.kb_given.specs.declared.given.Options.{Options}
+use Rattle.kb_options.specs.declared.given.Options.{Options}
 use Rattle.kb_script.specs.ScriptRun.{Answers}
 use Rattle.kb_script.specs.Shelf.{Stand, beside}
 use Rattle.kb_script.specs.declared.fault.ScriptFault.{ScriptFault}
 use Rattle.kb_bindings.specs.Load.{Files, held_by}
-use Rattle.kb_bindings.specs.declared.fault.LoadFault.{LoadFault}
-use Rattle.kb_run.specs.declared.handlers.Handlers.{Handlers}
-use Rattle.kb_run.specs.declared.handlers.Handlers.TheVariants.{Verified, Raw}
+use Rattle.kb_files.specs.declared.fault.LoadFault.{LoadFault}
+use Rattle.kb_run.specs.declared.setup.Verification.{Verification}
+use Rattle.kb_run.specs.declared.setup.Verification.TheVariants.{Verified, Raw}
 use Rattle.kb_session.specs.Session.{CommandsFail, IsOf, Loads, LoadsRaw, loaded_raw, marks_by}
 use Rattle.kb_session.specs.Session.{raw_load_held}
 use Rattle.kb_bindings.specs.Sources.{Sources, source_of}
 use Rattle.kb_session.specs.State.{State}
 use Rattle.kb_bindings.specs.Warning.{warnings_of}
-use Rattle.kb_bindings.specs.declared.warning.Warning.{Warning}
+use Rattle.kb_base.specs.declared.note.Warning.{Warning}
 use Rattle.kb_stream.specs.Fold.{Traced}
 
 -- ---- the script
 
--- what a writer behind a buffer has, of what was written through the buffer: all, where it was flushed, and
--- else what is not left in the buffer
+-- what a writer behind a buffer has of what was written through the buffer: everything if the buffer was
+-- flushed, and otherwise everything but what is left in the buffer
 abbrev pub Flushes : Bool → Option (List ℕ) → Option (List ℕ) → Type 0
 Flushes true written has = Keeps written has
 Flushes false written has = (left : List ℕ) × Keeps written (append_known has left)
 
--- the script was run, its lines were written through a buffer, and that was flushed
+-- the script was run, its lines were written through a buffer, and the buffer was flushed
 pub record Plays (had left : Option (List ℕ)) (old new : Traced Stand) (before has : Option (List ℕ))
     (end : Result (Unit {0}) Stop) : Type 0 where
   pub ran : Result (Unit {0}) (Failure ScriptFault)
@@ -49,7 +48,7 @@ pub record Plays (had left : Option (List ℕ)) (old new : Traced Stand) (before
   pub flushes : Flushes is_flushed written has
   pub end_is : end ≡ script_stop ran is_flushed
 
--- the same, with whatever is left of the script's bytes
+-- the same, whichever bytes of the script are left
 abbrev pub PlaysAny : Option (List ℕ) → Traced Stand → Traced Stand → Option (List ℕ) → Option (List ℕ)
     → Result (Unit {0}) Stop → Type 0
 PlaysAny script old new before has end = (left : Option (List ℕ)) × Plays script left old new before has end
@@ -63,8 +62,8 @@ warning_text sources warnings =
 
 -- ---- the run
 
--- the host's closures, seen as the natives that they stand for: those that a load registers, and the shelf
--- of a script
+-- the host's closures, seen as the native commands that they stand for: those that a load registers, and
+-- the shelf of the script
 pub record Closures : Type 0 where
   pub natives : List Native
   pub shelf : List Native
@@ -72,78 +71,77 @@ pub record Closures : Type 0 where
 abbrev pub closures_of : List Native → List Native → Closures
 closures_of natives shelf = record { natives = natives; shelf = shelf }
 
--- standard error and standard output, before a run and behind it
-pub record Streams : Type 0 where
+-- standard error and the trace, before a run and after it
+pub record Outputs : Type 0 where
   pub said_before : Heard
   pub said : Heard
   pub had : Option (List ℕ)
   pub has : Option (List ℕ)
 
--- nothing was said or printed
-pub record Silent (o : Streams) : Type 0 where
+-- nothing was written
+pub record Silent (o : Outputs) : Type 0 where
   pub said : o.said ≡ o.said_before
   pub printed : (left : List ℕ) × (o.had ≡ append_known o.has left)
 
--- a session is what these files load, with closures for these natives, for the marks that it tells
-abbrev pub IsLoaded : Handlers → Files → List Native → Traced State → Type 0
+-- a session is what these files load, with closures for these native commands, for its own marks
+abbrev pub IsLoaded : Verification → Files → List Native → Traced State → Type 0
 IsLoaded Verified files natives session = IsOf files natives session
-IsLoaded Raw files natives session = loaded_raw (marks_by files session) files natives ≡ Ok session
+IsLoaded Raw files natives session = loaded_raw (marks_by session) files natives ≡ Ok session
 
--- the fault of a load; the marks of patterns make none
-abbrev pub HasLoadFault : Handlers → Files → List Native → LoadFault → Type 0
+-- the fault of a load. Unsupported patterns never change which fault is reported
+abbrev pub HasLoadFault : Verification → Files → List Native → LoadFault → Type 0
 HasLoadFault Verified files natives fault =
     (held_by files ≡ Err fault) ⊎ CommandsFail files natives (failure.Fault fault)
 HasLoadFault Raw files natives fault = raw_load_held files natives ≡ Err fault
 
--- the script was reached: a session is loaded with the host's closures, each of its warnings is said in its
--- line, and the script was played
-pub record Played (handlers : Handlers) (files : Files) (closures : Closures) (script : Option (List ℕ))
-    (o : Streams) (end : Result (Unit {0}) Stop) : Type 0 where
+-- a session was loaded with the host's closures, a line was written for each of its warnings, and the script
+-- was run
+pub record Played (verification : Verification) (files : Files) (closures : Closures)
+    (script : Option (List ℕ)) (o : Outputs) (end : Result (Unit {0}) Stop) : Type 0 where
   pub session : Traced State
-  pub loaded_is : IsLoaded handlers files closures.natives session
+  pub loaded_is : IsLoaded verification files closures.natives session
   pub warned : Says o.said_before o.said
       (warning_text session.state.sources (warnings_of session.state.sources))
   pub new : Traced Stand
   pub plays : PlaysAny script (beside session closures.shelf) new o.had o.has end
 
 -- why nothing was loaded
-abbrev pub FailsToLoad : Handlers → Files → List Native → Stop → Type 0
-FailsToLoad handlers files natives (CannotRead path) = ⊥
-FailsToLoad handlers files natives (CannotReadIn dir file) = ⊥
-FailsToLoad handlers files natives (Load fault) = HasLoadFault handlers files natives fault
-FailsToLoad handlers files natives (Script fault) = ⊥
-FailsToLoad handlers files natives NoMemory = ⊤
+abbrev pub FailsToLoad : Verification → Files → List Native → Stop → Type 0
+FailsToLoad verification files natives (Unread file) = ⊥
+FailsToLoad verification files natives (Load fault) = HasLoadFault verification files natives fault
+FailsToLoad verification files natives (Script fault) = ⊥
+FailsToLoad verification files natives NoMemory = ⊤
 
-pub record NotLoaded (handlers : Handlers) (files : Files) (closures : Closures) (o : Streams)
+pub record NotLoaded (verification : Verification) (files : Files) (closures : Closures) (o : Outputs)
     (end : Result (Unit {0}) Stop) : Type 0 where
   pub stop : Stop
   pub end_is : end ≡ Err stop
-  pub why : FailsToLoad handlers files closures.natives stop
+  pub why : FailsToLoad verification files closures.natives stop
   pub silent : Silent o
 
--- what a run does with what its files hold
-abbrev pub Runs : Handlers → Files → Closures → Option (List ℕ) → Streams → Result (Unit {0}) Stop
+-- a run over what its files hold
+abbrev pub Runs : Verification → Files → Closures → Option (List ℕ) → Outputs → Result (Unit {0}) Stop
     → Type 0
-Runs handlers files closures script o end =
-    NotLoaded handlers files closures o end ⊎ Played handlers files closures script o end
+Runs verification files closures script o end =
+    NotLoaded verification files closures o end ⊎ Played verification files closures script o end
 
--- the script's bytes, where they are known: those of its file, or of standard input
+-- the script's bytes, where they are known: those of its file, or of standard input if it has no file
 abbrev pub script_bytes : {F : Type 0} → (F → Option (List ℕ)) → Option F → Option (List ℕ) → Option (List ℕ)
 script_bytes remaining None input = input
 script_bytes remaining (Some file) input = remaining file
 
 -- ---- the files
 
--- the bytes that an option's file gave, where it names one
+-- the bytes of the file that an option names, or None if it names no file
 abbrev pub HasBytes : (List ℕ → Held) → Option (Bor (List ℕ)) → Option (List ℕ) → Type 0
 HasBytes held named bytes = NamesBytes {B = List ℕ} held (λ got. got) named (Ok bytes)
 
--- the rules that an option's file gave; the empty text where it names none
+-- the rules in the file that an option names, or the empty text if it names no file
 abbrev pub HasRules : (List ℕ → Held) → Option (Bor (List ℕ)) → List ℕ → Type 0
 HasRules held None text = text ≡ []
 HasRules held (Some path) text = HasRead {B = List ℕ} (held path.now) (λ got. got) (Ok text)
 
--- the bytes that the script has, of the file that an option names, or of standard input
+-- the bytes of the script: of the file that an option names, or of standard input
 abbrev pub HasScript : (List ℕ → Held) → Option (Bor (List ℕ)) → Option (List ℕ) → Option (List ℕ) → Type 0
 HasScript held None input script = script ≡ input
 HasScript held (Some path) input script =
@@ -157,66 +155,66 @@ pub record HasFiles (held : List ℕ → Held) (given : Options) (files : Files)
   pub platform : files.platform ≡ given.platform
   pub extensions : HasDirectories held given.dirs.items files.extensions
 
--- all files were had, and what they hold was run
-pub record FilesRun (handlers : Handlers) (held : List ℕ → Held) (given : Options) (closures : Closures)
-    (input : Option (List ℕ)) (o : Streams) (end : Result (Unit {0}) Stop) : Type 0 where
+-- all files were read or opened, and the script was run over what they hold
+pub record FilesRun (verification : Verification) (held : List ℕ → Held) (given : Options)
+    (closures : Closures) (input : Option (List ℕ)) (o : Outputs) (end : Result (Unit {0}) Stop) : Type 0 where
   pub files : Files
   pub script : Option (List ℕ)
   pub files_had : HasFiles held given files
   pub script_had : HasScript held given.script input script
-  pub runs : Runs handlers files closures script o end
+  pub runs : Runs verification files closures script o end
 
--- ---- a file that is missing
+-- ---- a file that cannot be read
 
--- the file that an option names is read, or it names none
+-- the file that an option names was read, or it names no file
 abbrev pub IsHad : (List ℕ → Held) → Option (Bor (List ℕ)) → Type 0
 IsHad held named = (bytes : Option (List ℕ)) × HasBytes held named bytes
 
--- the run stops since the file that an option names isn't read, or doesn't open
-abbrev pub StopsAt : (List ℕ → Held) → Option (Bor (List ℕ)) → Stop → Type 0
-StopsAt held named stop = NamesBytes {B = List ℕ} held (λ got. got) named (Err stop)
+-- the file that an option names cannot be read, or does not open
+abbrev pub FailsAt : (List ℕ → Held) → Option (Bor (List ℕ)) → Failure CannotRead → Type 0
+FailsAt held named failure = NamesBytes {B = List ℕ} held (λ got. got) named (Err failure)
 
-abbrev pub StopsAtScript : (List ℕ → Held) → Option (Bor (List ℕ)) → Stop → Type 0
-StopsAtScript held named stop = NamesFile {F = Unit {0}} held (λ file. None) named (Err stop)
+abbrev pub FailsAtScript : (List ℕ → Held) → Option (Bor (List ℕ)) → Failure CannotRead → Type 0
+FailsAtScript held named failure = NamesFile {F = Unit {0}} held (λ file. None) named (Err failure)
 
--- the first file of a load that isn't read stops the run, in this order
-abbrev pub StopsReadingFiles : (List ℕ → Held) → Options → Stop → Type 0
-StopsReadingFiles held given stop = StopsAt held given.layout stop
-    ⊎ (IsHad held given.layout × (StopsAt held given.defaults stop
-    ⊎ (IsHad held given.defaults × (StopsAt held given.user stop
-    ⊎ (IsHad held given.user × StopsInDirectories held given.dirs.items stop)))))
+-- reading stops at the first file of a load that cannot be read, in this order
+abbrev pub FailsReadingFiles : (List ℕ → Held) → Options → Failure CannotRead → Type 0
+FailsReadingFiles held given failure = FailsAt held given.layout failure
+    ⊎ (IsHad held given.layout × (FailsAt held given.defaults failure
+    ⊎ (IsHad held given.defaults × (FailsAt held given.user failure
+    ⊎ (IsHad held given.user × FailsInDirectories held given.dirs.items failure)))))
 
--- the script's file doesn't open, behind all others
-abbrev pub StopsOpeningScript : (List ℕ → Held) → Options → Stop → Type 0
-StopsOpeningScript held given stop =
-    ((files : Files) × HasFiles held given files) × StopsAtScript held given.script stop
+-- all other files were read, and the script's file does not open
+abbrev pub FailsOpeningScript : (List ℕ → Held) → Options → Failure CannotRead → Type 0
+FailsOpeningScript held given failure =
+    ((files : Files) × HasFiles held given files) × FailsAtScript held given.script failure
 
--- a file was not had
-pub record FileMissing (held : List ℕ → Held) (given : Options) (o : Streams)
+-- a file cannot be read or opened
+pub record FileMissing (held : List ℕ → Held) (given : Options) (o : Outputs)
     (end : Result (Unit {0}) Stop) : Type 0 where
-  pub stop : Stop
-  pub end_is : end ≡ Err stop
-  pub why : StopsReadingFiles held given stop ⊎ StopsOpeningScript held given stop
+  pub failure : Failure CannotRead
+  pub end_is : end ≡ Err (read_stop failure)
+  pub why : FailsReadingFiles held given failure ⊎ FailsOpeningScript held given failure
   pub silent : Silent o
 
-abbrev pub CarriesOut : Handlers → (List ℕ → Held) → Options → Closures → Option (List ℕ) → Streams
+abbrev pub CarriesOut : Verification → (List ℕ → Held) → Options → Closures → Option (List ℕ) → Outputs
     → Result (Unit {0}) Stop → Type 0
-CarriesOut handlers held given closures input o end =
-    FileMissing held given o end ⊎ FilesRun handlers held given closures input o end
+CarriesOut verification held given closures input o end =
+    FileMissing held given o end ⊎ FilesRun verification held given closures input o end
 
 -- ---- for private functions
 
--- the files of a load, as they were read
-abbrev pub files_in : Platform → FileBytes → Files
-files_in platform read = record {
+-- what the files of a load hold, from the bytes that were read
+abbrev pub files_in : FileBytes → Files
+files_in read = record {
   layout = option_map (λ bytes. bytes.items) read.layout;
   defaults = unwrap_or (option_map (λ bytes. bytes.items) read.defaults) [];
   user = unwrap_or (option_map (λ bytes. bytes.items) read.user) [];
-  platform = platform;
+  platform = read.platform;
   extensions = map bytes_held read.directories.items;
 }
 
--- a load answered a session, or its fault, or was refused memory
-abbrev pub LoadsBy : Handlers → Files → List Native → Result (Traced State) (Failure LoadFault) → Type 0
+-- a load returned a session, or its fault, or was refused memory
+abbrev pub LoadsBy : Verification → Files → List Native → Result (Traced State) (Failure LoadFault) → Type 0
 LoadsBy Verified files natives result = Loads files natives result
 LoadsBy Raw files natives result = LoadsRaw files natives result

@@ -1,47 +1,47 @@
-//! The files of extensions' directories.
+//! Reads both files of each extension directory.
 ghost use Rattle.std.specs.Prelude.{◌≡◌, IfOk, IfErr, map};
-ghost use Rattle.kb_bindings.specs.Load.{extension_bytes};
-ghost use Rattle.kb_run.specs.Directory.{HasDirectories, HasDirectory, StopsInDirectories};
-ghost use Rattle.kb_run.specs.Directory.{StopsInDirectory, bytes_held};
+ghost use Rattle.kb_files.specs.Extensions.{extension_bytes};
+ghost use Rattle.kb_run.specs.Directory.{HasDirectories, HasDirectory, FailsInDirectories};
+ghost use Rattle.kb_run.specs.Directory.{FailsInDirectory, bytes_held};
 
-use kb_bindings::ExtensionFiles;
-use kb_context::NoMemory;
-use kb_ending::{FileSource, Stop, bytes_in, handlers_in, lent};
+use kb_base::{Failure, NoMemory};
+use kb_disk::{CannotRead, FileSource, handlers_in, lent, manifest_in};
+use kb_files::ExtensionFiles;
 use std::alloc::Global;
 
-/// The bytes of the files of an extension's directory.
+/// The bytes of the files in an extension's directory.
 #[derive(Drop)]
 pub(crate) struct DirBytes {
     package: Vec<u8>,
     handlers: Option<Vec<u8>>,
 }
 
-// The bytes of the files in a directory: the manifest, and then the handlers.
+/// Reads the files in a directory: the manifest, and then the handlers.
 #[tactic(auto, using(crate::proofs::DirectoryLemmas::directory))]
 fn read_directory<'a, F: FileSource>(
     alloc: Global,
     dir: &'a str,
     files: &F,
-) -> Result<DirBytes, Stop<'a>>
+) -> Result<DirBytes, Failure<CannotRead<'a>>>
     ensures ok { IfOk result (λ read. HasDirectory (F.held files.now) dir.entry (bytes_held read)) }
-    ensures err { IfErr result (StopsInDirectory (F.held files.now) dir.entry) }
+    ensures err { IfErr result (FailsInDirectory (F.held files.now) dir.entry) }
 {
-    let package = bytes_in(files, alloc, dir)?;
+    let package = manifest_in(files, alloc, dir)?;
     let handlers = handlers_in(files, alloc, dir)?;
     Ok(DirBytes { package, handlers })
 }
 
-/// The bytes of the files in directories, in their order, those of one before those of the next.
+/// Reads the files in each directory, in order.
 ///
-/// Errors: how the run ends, where one is not had.
+/// Errors: the first file that cannot be read, or refused memory.
 pub(crate) fn read_directories<'a, F: FileSource>(
     alloc: Global,
     dirs: &[&'a str],
     files: &F,
-) -> Result<Vec<DirBytes>, Stop<'a>>
+) -> Result<Vec<DirBytes>, Failure<CannotRead<'a>>>
     ensures ok { IfOk result (λ read.
         HasDirectories (F.held files.now) dirs.now (map bytes_held read.items)) }
-    ensures err { IfErr result (StopsInDirectories (F.held files.now) dirs.now) }
+    ensures err { IfErr result (FailsInDirectories (F.held files.now) dirs.now) }
 {
     let mut directories = Vec::new(alloc);
     for dir in dirs {
@@ -51,7 +51,7 @@ pub(crate) fn read_directories<'a, F: FileSource>(
     Ok(directories)
 }
 
-// The bytes of a directory's files, lent.
+/// The bytes of a directory's files as slices.
 fn lent_directory(read: &DirBytes) -> ExtensionFiles<'_>
     ensures { extension_bytes result ≡ bytes_held read.now }
 {
@@ -61,7 +61,7 @@ fn lent_directory(read: &DirBytes) -> ExtensionFiles<'_>
     }
 }
 
-/// The bytes of the files of each directory, lent.
+/// The bytes of the files of each directory as slices.
 pub(crate) fn lent_all<'b>(
     alloc: Global,
     directories: &'b [DirBytes],

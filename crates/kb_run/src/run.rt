@@ -1,33 +1,32 @@
-//! A run of a program over any files, streams and console. Nothing here asks the system, so that the clauses
-//! say what is said and printed, by what the files hold and the streams give.
+//! Runs a program over any files, streams and console. Nothing here calls the system, so that contracts say
+//! what is written, by what the files hold and the streams give.
 ghost use Rattle.std.specs.Prelude.{◌≡◌, [], IfOk, IfErr, map, option_map, unwrap_or};
 ghost use Rattle.std.specs.Io.Buffered.{writer_contents, writer_inner};
-ghost use Rattle.kb_ending.specs.Voice.{Says, heard_by};
+ghost use Rattle.kb_exit.specs.Voice.{Says, heard_by};
 ghost use Rattle.kb_run.specs.Run.{CarriesOut, Runs, Plays, PlaysAny};
 ghost use Rattle.kb_run.specs.Run.{closures_of, script_bytes, warning_text};
-ghost use Rattle.kb_run.specs.Run.{HasFiles, StopsReadingFiles, files_in};
+ghost use Rattle.kb_run.specs.Run.{HasFiles, FailsReadingFiles, files_in};
 ghost use Rattle.kb_bindings.specs.Load.{files_of};
 ghost use Rattle.kb_script.specs.Shelf.{beside};
 ghost use Rattle.kb_run.specs.Run.{LoadsBy};
 ghost use Rattle.kb_bindings.specs.Warning.{warnings_of};
 
 use crate::directory::{DirBytes, lent_all, read_directories};
-use crate::handlers::Handlers;
-use kb_bindings::{Inputs, LoadFault};
-use kb_context::Failure;
-use kb_ending::{
-    Console, FileSource, Stop, Voice, WarningLine, bytes_named, file_named, lent, script_stop,
-};
-use kb_given::Options;
+use crate::setup::{HostClosures, Setup, Verification};
+use crate::streams::Streams;
+use kb_base::Failure;
+use kb_disk::{CannotRead, FileSource, bytes_named, file_named, lent};
+use kb_exit::{Console, Stop, Voice, WarningLine, script_stop};
+use kb_files::{Inputs, LoadFault};
 use kb_keys::Platform;
-use kb_natives::HostClosures;
+use kb_options::Options;
 use kb_registry::HostCommand;
 use kb_script::run_script;
 use kb_session::Session;
 use std::alloc::Global;
 use std::io::{BufWriter, Read, Write};
 
-// Says a line for each warning of a session.
+/// Writes a line for each warning of a session.
 fn say_warnings<H: HostCommand, C: Console + Drop>(session: &Session<H>, voice: &mut Voice<C>)
     ensures { Says (heard_by C.said voice.old) (heard_by C.said voice.new)
         (warning_text session.now.state.sources (warnings_of session.now.state.sources)) }
@@ -39,7 +38,7 @@ fn say_warnings<H: HostCommand, C: Console + Drop>(session: &Session<H>, voice: 
     }
 }
 
-// Runs the script, and has what is left of its trace in the buffer written too.
+/// Runs the script, and flushes the buffer of its trace.
 fn play<'a, I: Read, O: Write + Drop, H: HostCommand>(
     alloc: Global,
     script: &mut I,
@@ -57,7 +56,7 @@ fn play<'a, I: Read, O: Write + Drop, H: HostCommand>(
     script_stop(ran, is_flushed)
 }
 
-// Runs the script of a file, where there is one, and else of standard input.
+/// Runs the script in a file, if there is one, or from standard input.
 fn play_any<'a, S: Read + Drop, I: Read, O: Write + Drop, H: HostCommand>(
     alloc: Global,
     script: Option<S>,
@@ -77,47 +76,63 @@ fn play_any<'a, S: Read + Drop, I: Read, O: Write + Drop, H: HostCommand>(
     }
 }
 
-// Loads a session of what the files hold, with the host's closures.
+/// Loads a session from the files, with the host's closures.
 fn load<H: HostCommand>(
     alloc: Global,
-    handlers: Handlers,
+    verification: Verification,
     inputs: Inputs<'_>,
     natives: Vec<H>,
 ) -> Result<Session<H>, Failure<LoadFault>>
-    ensures { LoadsBy handlers (files_of inputs.entry) (map H.stands_for natives.items) result }
+    ensures { LoadsBy verification (files_of inputs.entry) (map H.stands_for natives.items) result }
 {
-    match handlers {
-        Handlers::Verified => Session::load(alloc, inputs, natives),
-        Handlers::Raw => Session::load_raw(alloc, inputs, natives),
+    match verification {
+        Verification::Verified => Session::load(alloc, inputs, natives),
+        Verification::Raw => Session::load_raw(alloc, inputs, natives),
     }
 }
 
-// Loads a session, says its warnings, and runs the script.
+/// Loads a session, writes its warnings, and runs the script.
 #[tactic(auto, using(crate::proofs::RunLemmas::loading))]
-fn run_loaded<'a, S: Read + Drop, I: Read, O: Write + Drop, C: Console + Drop, H: HostCommand>(
+fn run_loaded<
+    'a,
+    S: Read + Drop,
+    I: Read + Drop,
+    O: Write + Drop,
+    C: Console + Drop,
+    H: HostCommand,
+>(
     alloc: Global,
-    handlers: Handlers,
+    setup: Setup<H>,
     inputs: Inputs<'_>,
-    closures: HostClosures<H>,
     script: Option<S>,
-    input: &mut I,
-    trace: &mut BufWriter<O>,
-    voice: &mut Voice<C>,
+    streams: &mut Streams<I, O, C>,
 ) -> Result<(), Stop<'a>>
-    ensures { Runs handlers (files_of inputs.entry)
-        (closures_of (map H.stands_for closures.natives.items) (map H.stands_for closures.shelf.items))
-        (script_bytes S.remaining script (I.remaining input.old)) (record {
-          said_before = heard_by C.said voice.old;
-          said = heard_by C.said voice.new;
-          had = writer_contents O.contents trace.old;
-          has = O.contents (writer_inner trace.new);
+    ensures { Runs setup.verification (files_of inputs.entry)
+        (closures_of (map H.stands_for setup.closures.natives.items)
+        (map H.stands_for setup.closures.shelf.items))
+        (script_bytes S.remaining script (I.remaining streams.old.input)) (record {
+          said_before = heard_by C.said streams.old.voice;
+          said = heard_by C.said streams.new.voice;
+          had = writer_contents O.contents streams.old.trace;
+          has = O.contents (writer_inner streams.new.trace);
         }) result }
 {
+    let Setup {
+        verification,
+        closures,
+    } = setup;
     let HostClosures { natives, mut shelf } = closures;
-    match load(alloc, handlers, inputs, natives) {
+    match load(alloc, verification, inputs, natives) {
         Ok(mut session) => {
-            say_warnings(&session, voice);
-            let end = play_any(alloc, script, input, trace, &mut session, &mut shelf);
+            say_warnings(&session, &mut streams.voice);
+            let end = play_any(
+                alloc,
+                script,
+                &mut streams.input,
+                &mut streams.trace,
+                &mut session,
+                &mut shelf,
+            );
             drop(session.into_trace());
             end
         }
@@ -125,31 +140,32 @@ fn run_loaded<'a, S: Read + Drop, I: Read, O: Write + Drop, C: Console + Drop, H
     }
 }
 
-// The bytes of the files of a load.
+/// The platform of a load, and the bytes of its files.
 #[derive(Drop)]
 struct FileBytes {
+    platform: Platform,
     layout: Option<Vec<u8>>,
     defaults: Option<Vec<u8>>,
     user: Option<Vec<u8>>,
     directories: Vec<DirBytes>,
 }
 
-// The bytes of all files of a load.
+/// Reads all files of a load.
 #[tactic(auto, using(crate::proofs::RunLemmas::files))]
 fn read_files<'a, F: FileSource>(
     alloc: Global,
     given: &Options<'a>,
     files: &F,
-) -> Result<FileBytes, Stop<'a>>
-    ensures ok { IfOk result (λ read.
-        HasFiles (F.held files.now) given.now (files_in given.now.platform read)) }
-    ensures err { IfErr result (StopsReadingFiles (F.held files.now) given.now) }
+) -> Result<FileBytes, Failure<CannotRead<'a>>>
+    ensures ok { IfOk result (λ read. HasFiles (F.held files.now) given.now (files_in read)) }
+    ensures err { IfErr result (FailsReadingFiles (F.held files.now) given.now) }
 {
     let layout = bytes_named(files, alloc, given.layout)?;
     let defaults = bytes_named(files, alloc, given.defaults)?;
     let user = bytes_named(files, alloc, given.user)?;
     let directories = read_directories(alloc, given.dirs.as_slice(), files)?;
     Ok(FileBytes {
+        platform: given.platform,
         layout,
         defaults,
         user,
@@ -157,7 +173,7 @@ fn read_files<'a, F: FileSource>(
     })
 }
 
-// The bytes of a file, or none where there is no file.
+/// The bytes of a file, or none if there is no file.
 fn lent_or_empty(bytes: &Option<Vec<u8>>) -> &[u8]
     ensures { result.now ≡ unwrap_or (option_map (λ bytes. bytes.items) bytes.now) [] }
 {
@@ -167,25 +183,29 @@ fn lent_or_empty(bytes: &Option<Vec<u8>>) -> &[u8]
     }
 }
 
-// Runs the script over the files of a load, as they were read.
-fn run_files<'a, S: Read + Drop, I: Read, O: Write + Drop, C: Console + Drop, H: HostCommand>(
+/// Runs the script over the files of a load.
+fn run_files<
+    'a,
+    S: Read + Drop,
+    I: Read + Drop,
+    O: Write + Drop,
+    C: Console + Drop,
+    H: HostCommand,
+>(
     alloc: Global,
-    handlers: Handlers,
-    platform: Platform,
+    setup: Setup<H>,
     read: &FileBytes,
-    closures: HostClosures<H>,
     script: Option<S>,
-    input: &mut I,
-    trace: &mut BufWriter<O>,
-    voice: &mut Voice<C>,
+    streams: &mut Streams<I, O, C>,
 ) -> Result<(), Stop<'a>>
-    ensures { Runs handlers (files_in platform read.now)
-        (closures_of (map H.stands_for closures.natives.items) (map H.stands_for closures.shelf.items))
-        (script_bytes S.remaining script (I.remaining input.old)) (record {
-          said_before = heard_by C.said voice.old;
-          said = heard_by C.said voice.new;
-          had = writer_contents O.contents trace.old;
-          has = O.contents (writer_inner trace.new);
+    ensures { Runs setup.verification (files_in read.now)
+        (closures_of (map H.stands_for setup.closures.natives.items)
+        (map H.stands_for setup.closures.shelf.items))
+        (script_bytes S.remaining script (I.remaining streams.old.input)) (record {
+          said_before = heard_by C.said streams.old.voice;
+          said = heard_by C.said streams.new.voice;
+          had = writer_contents O.contents streams.old.trace;
+          has = O.contents (writer_inner streams.new.trace);
         }) result }
 {
     let extensions = lent_all(alloc, read.directories.as_slice())?;
@@ -193,52 +213,45 @@ fn run_files<'a, S: Read + Drop, I: Read, O: Write + Drop, C: Console + Drop, H:
         layout: lent(&read.layout),
         defaults: lent_or_empty(&read.defaults),
         user: lent_or_empty(&read.user),
-        platform,
+        platform: read.platform,
         extensions: extensions.as_slice(),
     };
-    run_loaded(
-        alloc, handlers, inputs, closures, script, input, trace, voice,
-    )
+    run_loaded(alloc, setup, inputs, script, streams)
 }
 
-/// Carries out what the command line asks for. All files are read or opened before the load, in this
-/// order: the layout, the default rules, the user's rules, in each directory the manifest and then the
-/// handlers, and at last the script. The first that is not had ends the run,
-/// but for handlers that aren't there. The load registers the host's closures, and the script has the shelf
-/// of them. Warnings of the load are said before the script runs.
+/// Runs what the options ask for. All files are read or opened before the load, in this order: the layout,
+/// the default rules, the user's rules, in each directory the manifest and then the handlers, and last the
+/// script. The first file that cannot be read or opened ends the run; a directory need not have handlers.
+/// The load registers the host's closures, and the script takes more of them from the shelf. Warnings of the
+/// load are written before the script runs.
 ///
 /// Errors: why the run stopped before its end.
 #[tactic(auto, using(crate::proofs::RunLemmas::files))]
-pub fn carry_out<'a, F: FileSource, I: Read, O: Write + Drop, C: Console + Drop, H: HostCommand>(
+pub fn carry_out<
+    'a,
+    F: FileSource,
+    I: Read + Drop,
+    O: Write + Drop,
+    C: Console + Drop,
+    H: HostCommand,
+>(
     alloc: Global,
-    handlers: Handlers,
+    setup: Setup<H>,
     given: Options<'a>,
-    closures: HostClosures<H>,
     files: &F,
-    input: &mut I,
-    trace: &mut BufWriter<O>,
-    voice: &mut Voice<C>,
+    streams: &mut Streams<I, O, C>,
 ) -> Result<(), Stop<'a>>
-    ensures { CarriesOut handlers (F.held files.now) given.entry
-        (closures_of (map H.stands_for closures.natives.items) (map H.stands_for closures.shelf.items))
-        (I.remaining input.old) (record {
-          said_before = heard_by C.said voice.old;
-          said = heard_by C.said voice.new;
-          had = writer_contents O.contents trace.old;
-          has = O.contents (writer_inner trace.new);
+    ensures { CarriesOut setup.verification (F.held files.now) given.entry
+        (closures_of (map H.stands_for setup.closures.natives.items)
+        (map H.stands_for setup.closures.shelf.items))
+        (I.remaining streams.old.input) (record {
+          said_before = heard_by C.said streams.old.voice;
+          said = heard_by C.said streams.new.voice;
+          had = writer_contents O.contents streams.old.trace;
+          has = O.contents (writer_inner streams.new.trace);
         }) result }
 {
     let read = read_files(alloc, &given, files)?;
     let script = file_named(files, given.script)?;
-    run_files(
-        alloc,
-        handlers,
-        given.platform,
-        &read,
-        closures,
-        script,
-        input,
-        trace,
-        voice,
-    )
+    run_files(alloc, setup, &read, script, streams)
 }

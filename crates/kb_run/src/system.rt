@@ -1,15 +1,14 @@
-//! A run over its system: the thin rest that rows of the built program show.
+//! Runs a program over the system. Golden tests of the built programs cover what no contract says of it.
 ghost use Rattle.std.specs.Prelude.{◌≡◌};
 ghost use Rattle.std.specs.Process.{exit_status};
-ghost use Rattle.kb_ending.specs.Report.{status_of};
-ghost use Rattle.kb_ending.specs.Voice.{heard_by};
-ghost use Rattle.kb_run.specs.System.{IsStatus, Reports};
+ghost use Rattle.kb_run.specs.Report.{IsStatus};
 
-use crate::handlers::Handlers;
-use crate::run::carry_out;
-use kb_ending::{Console, Stop, SystemConsole, SystemFiles, Voice, ending};
-use kb_given::Options;
-use kb_natives::HostClosures;
+use crate::report::{report, run_and_report};
+use crate::setup::{Setup, Verification};
+use crate::streams::Streams;
+use kb_disk::SystemFiles;
+use kb_exit::{Stop, SystemConsole, Voice};
+use kb_options::Options;
 use kb_registry::HostCommand;
 use std::alloc::Global;
 use std::io;
@@ -17,49 +16,34 @@ use std::io::BufWriter;
 use std::process::ExitCode;
 use std::rt::Files;
 
-// Says how the run ended, and gives its exit status.
-fn report<C: Console + Drop>(end: &Result<(), Stop<'_>>, voice: &mut Voice<C>) -> u8
-    ensures status { result ≡ status_of end.now }
-    ensures line { Reports end.now (heard_by C.said voice.old) (heard_by C.said voice.new) }
-{
-    if let Err(stop) = end {
-        voice.say(stop);
-    }
-    ending(end)
-}
-
-/// Runs what the options ask for, over the system's files and streams, and gives the exit status.
+/// Runs what the options ask for, over the system's files and streams, and returns the exit status: 0, 2, 3
+/// or 4, or 5 with raw handlers.
+#[tactic(auto, using(crate::proofs::ReportLemmas::status))]
 pub fn run_on_system<R: Files + Print + Eprint + Input, H: HostCommand>(
     rt: &R,
     alloc: Global,
-    handlers: Handlers,
+    setup: Setup<H>,
     given: Options<'_>,
-    closures: HostClosures<H>,
 ) -> u8
-    ensures { IsStatus result }
+    ensures { IsStatus setup.verification result }
 {
     let mut voice = Voice::new(SystemConsole { rt });
-    let Ok(mut trace) = BufWriter::new(alloc, io::writer(rt)) else {
-        return report(&Err(Stop::NoMemory), &mut voice);
+    let Ok(trace) = BufWriter::new(alloc, io::writer(rt)) else {
+        return report(setup.verification, &Err(Stop::NoMemory), &mut voice);
     };
     let files = SystemFiles { rt };
-    let end = carry_out(
-        alloc,
-        handlers,
-        given,
-        closures,
-        &files,
-        &mut rt.reader(),
-        &mut trace,
-        &mut voice,
-    );
-    report(&end, &mut voice)
+    let mut streams = Streams {
+        input: rt.reader(),
+        trace,
+        voice,
+    };
+    run_and_report(alloc, setup, given, &files, &mut streams)
 }
 
-/// The end of a program that found no memory before it could run.
+/// Reports that memory was refused before a program could run, and returns its exit code, 4.
 pub fn without_memory<R: Eprint>(rt: &R) -> ExitCode
     ensures { exit_status result ≡ 4 }
 {
     let mut voice = Voice::new(SystemConsole { rt });
-    ExitCode::from(report(&Err(Stop::NoMemory), &mut voice))
+    ExitCode::from(report(Verification::Verified, &Err(Stop::NoMemory), &mut voice))
 }

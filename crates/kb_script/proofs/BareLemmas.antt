@@ -1,9 +1,9 @@
--- What a script says has no marks.
+-- The meaning of a script has no marks.
 use Rattle.std.proofs.Common.{◌≡◌, ℕ, ◌+◌, Bool, true, false, List, [], ◌∷◌, ◌++◌, map, refl, ap, ◌∙◌, cond}
 use Rattle.std.specs.Prelude.{Option, Some, None, option_map, option_to_list, ◌==◌, codes}
 use Rattle.std.specs.Str.{bytes_eq, is_utf8}
 use Rattle.std.proofs.lemmas.List.{map-append}
-use Rattle.kb_rules.specs.declared.unread.UnreadAt.{UnreadAt}
+use Rattle.kb_base.specs.declared.note.UnreadPattern.{UnreadPattern}
 use Rattle.kb_core.specs.declared.native.Native.{Native}
 use Rattle.kb_core.specs.Native.{named}
 use Rattle.kb_script.specs.Script.{bare, bare_told, word_said, words_said, text_said, or_unread, line_said}
@@ -14,7 +14,7 @@ use Rattle.kb_script.specs.Shelf.{Said, tells, takes}
 use Rattle.kb_session.specs.State.{Told, happens, reload, register, dispose}
 use Rattle.kb_trace.specs.declared.event.Event.{Event}
 
--- what may be said has no marks
+-- the meaning of a line has no marks, if there is one
 abbrev IsBare : Option Said → Type 0
 IsBare said = option_map bare said ≡ said
 
@@ -67,12 +67,12 @@ listed_bare : (said : Option Said) → map bare (option_to_list said) ≡ option
 listed_bare None = refl
 listed_bare (Some said) = refl
 
--- what a line says has no marks
+-- the meaning of a line has no marks
 pub bare_line : (number : ℕ) (line : List ℕ)
     → map bare (option_to_list (line_said number line)) ≡ option_to_list (line_said number line)
 bare_line number line = listed_bare (line_said number line) ∙ ap option_to_list (line_bare number line)
 
--- and so with what lines say
+-- nor has the meaning of lines
 pub bare_from : (number : ℕ) (lines : List (List ℕ)) → map bare (said_from number lines) ≡ said_from number lines
 bare_from number [] = refl
 bare_from number (line ∷ lines) =
@@ -81,18 +81,18 @@ bare_from number (line ∷ lines) =
     ∙ ap (λ (xs : List Said). xs ++ map bare (said_from (number + 1) lines)) (bare_line number line)
     ∙ ap (λ (xs : List Said). here ++ xs) (bare_from (number + 1) lines)
 
-marked_told_bare : (marks : List UnreadAt) (told : Told) → bare_told (marked_told marks told) ≡ bare_told told
+marked_told_bare : (marks : List UnreadPattern) (told : Told) → bare_told (marked_told marks told) ≡ bare_told told
 marked_told_bare marks (happens e) = refl
 marked_told_bare marks (reload bytes none) = refl
 marked_told_bare marks (register native) = refl
 marked_told_bare marks (dispose number) = refl
 
-marked_bare : (marks : List UnreadAt) (said : Said) → bare (marked marks said) ≡ bare said
+marked_bare : (marks : List UnreadPattern) (said : Said) → bare (marked marks said) ≡ bare said
 marked_bare marks (tells told) = ap tells (marked_told_bare marks told)
 marked_bare marks (takes native) = refl
 
--- marks are forgotten
-pub bare_marked : (marks : List UnreadAt) (said : Option Said)
+-- marks that are added are removed again
+pub bare_marked : (marks : List UnreadPattern) (said : Option Said)
     → map bare (option_to_list (option_map (marked marks) said)) ≡ map bare (option_to_list said)
 bare_marked marks None = refl
 bare_marked marks (Some said) = ap (λ (one : Said). one ∷ []) (marked_bare marks said)

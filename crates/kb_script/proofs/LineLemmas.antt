@@ -1,5 +1,6 @@
--- Bytes that are a text, the first line of bytes, and a text that is a number.
-use Rattle.std.proofs.Common.{◌≡◌, ℕ, Bool, true, false, List, [], ◌∷◌, length, refl, sym, ap, ◌∙◌, cond, zero, suc}
+-- Bytes that are a text, the first line of bytes, and texts that are numbers.
+use Rattle.std.proofs.Common.{◌≡◌, ℕ, Bool, true, false, List, [], ◌∷◌, length, refl, sym, ap, ◌∙◌}
+use Rattle.std.proofs.Common.{cond, zero, suc}
 use Rattle.std.proofs.Common.{arith, take, drop, ◌+◌, ◌-◌, ◌<◌, ◌^◌, subst}
 use Rattle.std.specs.Prelude.{Some, None, position, Result, Ok, Err, not, ◌&&◌, nat_eq, nat_lt}
 use Rattle.std.specs.List.{slice_split, onto_first, list_all}
@@ -34,7 +35,7 @@ pub position_none : (b : Bool) (n : ℕ) → cond b (Some n) None ≡ None → b
 position_none true n e = cc
 position_none false n e = refl
 
--- a list that is cut has a first part
+-- a list that is split has a first part
 record HasFirst (parts : List (List ℕ)) : Type 0 where
   first : List ℕ
   more : List (List ℕ)
@@ -100,7 +101,7 @@ all_digits : (bs : List ℕ) → list_all is_ascii_digit bs ≡ all_ascii_digits
 all_digits [] = refl
 all_digits (b ∷ bs) = ap (λ (rest : Bool). is_ascii_digit b && rest) (all_digits bs)
 
--- what `parse` gives of decimal digits is the number that they are
+-- `parse` of decimal digits gives the number that they denote
 pub number : {E : Type 0} (digits : List ℕ) (r : Result ℕ E) → ParsesUnsigned 64 10 digits r
     → list_all is_ascii_digit digits ≡ true → result_ok r ≡ number_of digits
 number digits r parses all =
@@ -114,7 +115,7 @@ number digits r parses all =
     (sym (all_digits digits) ∙ all))
     ∙ ap (λ (b : Bool). cond (b && (some && small)) (Some value) None) (sym all)
 
--- what isn't digits alone is no number
+-- a text with other characters than digits is no number
 pub no_number : (digits : List ℕ) → list_all is_ascii_digit digits ≡ false → None ≡ number_of digits
 no_number digits none =
     ap (λ (b : Bool). cond (b && (not (nat_eq (length digits) 0) && nat_lt (digits_value 10 digits) (2 ^ 64)))

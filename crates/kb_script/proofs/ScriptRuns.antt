@@ -4,9 +4,9 @@ use Rattle.std.proofs.Common.{append_assoc, append-nil, length, drop, map, arith
 use Rattle.std.proofs.Math.Seq.{drop-append_seam}
 use Rattle.std.specs.Prelude.{Option, Some, None, option_map, option_to_list}
 use Rattle.std.specs.Io.KnownBytes.{Appends, Keeps}
-use Rattle.kb_context.specs.declared.failure.Failure.{Failure}
-use Rattle.kb_context.specs.declared.failure.Failure.TheVariants.{NoMemory, Fault}
-use Rattle.kb_rules.specs.declared.unread.UnreadAt.{UnreadAt}
+use Rattle.kb_base.specs.declared.failure.Failure.{Failure}
+use Rattle.kb_base.specs.declared.failure.Failure.TheVariants.{NoMemory, Fault}
+use Rattle.kb_base.specs.declared.note.UnreadPattern.{UnreadPattern}
 use Rattle.kb_core.specs.declared.native.Native.{Native}
 use Rattle.kb_script.specs.Script.{line_said, said_from, said_of, lines_of, bare}
 use Rattle.kb_script.specs.ScriptRun.{RunsSaid, BreaksOff, BreaksSaid, MemoryRefused, NothingRan, marked}
@@ -23,20 +23,20 @@ use Rattle.std.proofs.lemmas.List.{length-append, map-append}
 use Rattle.kb_stream.proofs.FoldLemmas.{after_all-one, fold-one, fold-still}
 use Rattle.kb_stream.proofs.FoldWritingLemmas as f
 
--- what was said ran, and then more of it broke off
+-- some lines ran, and then the run broke off in later ones
 fail_later : (failure : Failure WriteRefused) (xs ys : List Said) (old mid new : Traced Stand)
     (a b c : Option (List ℕ)) → RunsAndWrites move xs old mid a b → BreaksOff failure ys mid new b c
     → BreaksOff failure (xs ++ ys) old new a c
 fail_later NoMemory xs ys old mid new a b c p q = f.stop_later move Halts xs ys old mid new a b c p q
 fail_later (Fault refused) xs ys old mid new a b c p q = f.lack_later move xs ys old mid new a b c p q
 
--- what is said behind that doesn't count
+-- later lines don't matter
 fail_before : (failure : Failure WriteRefused) (xs ys : List Said) (old new : Traced Stand)
     (a b : Option (List ℕ)) → BreaksOff failure xs old new a b → BreaksOff failure (xs ++ ys) old new a b
 fail_before NoMemory xs ys old new a b p = f.stop_before move Halts xs ys old new a b p
 fail_before (Fault refused) xs ys old new a b p = f.lack_before move xs ys old new a b p
 
--- of what is said the first ran, with some marks for its reloads, and the rest is left
+-- the first lines ran, with some marks for their reloads, and the others remain
 pub record RunsUpTo (said : List Said) (old now : Traced Stand) (before written : Option (List ℕ))
     (rest : List Said) : Type 0 where
   pub done : List Said
@@ -74,11 +74,11 @@ up_to_end said old now a b p = record {
   ran = p.ran;
 }
 
--- a session that is stopped takes nothing
+-- a stopped session ignores all lines
 move_stopped : (said : List Said) (s : Stand) → s.state.stopped ≡ true → fold move said s ≡ nothing s
 move_stopped = fold-still move (λ s. s.state.stopped ≡ true) (λ x s h. ap (λ b. move_unless b x s) h)
 
--- so it did all that is said, where it was stopped on the way
+-- so it did all lines, if it was stopped on the way
 pub up_to_halt : (said : List Said) (old now : Traced Stand) (a b : Option (List ℕ)) (number : ℕ)
     (more : List (List ℕ)) → RunsUpTo said old now a b (said_from number more)
     → now.state.state.stopped ≡ true → RunsSaid said old now a b
@@ -113,18 +113,18 @@ up_to_fail said old now new a b c number lines more line failure p e q =
 
 pub ruleset progress = (up_to_start, up_to_step)
 
--- the lines that are new in the trace
+-- the new lines of the trace
 new_lines : (said : List Said) (old new : Traced Stand) (n : ℕ) → new ≡ after_all move said old
     → n ≡ length old.trace → drop n new.trace ≡ (fold move said old.state).lines
 new_lines said old new n session before =
     rw (before, session) (drop-append_seam old.trace (fold move said old.state).lines)
 
--- what a line says, with the marks that the session found
-abbrev said_at : List UnreadAt → ℕ → List ℕ → List Said
+-- the meaning of a line, with the marks that the session found
+abbrev said_at : List UnreadPattern → ℕ → List ℕ → List Said
 said_at marks number line = option_to_list (option_map (marked marks) (line_said number line))
 
--- a line ran, and its lines are written
-pub line_on : (marks : List UnreadAt) (number : ℕ) (line : List ℕ) (old new : Traced Stand)
+-- a line ran, and its trace lines are written
+pub line_on : (marks : List UnreadPattern) (number : ℕ) (line : List ℕ) (old new : Traced Stand)
     (a b : Option (List ℕ)) (n : ℕ) → new ≡ after_all move (said_at marks number line) old
     → n ≡ length old.trace → Appends a b (text_of_lines (drop n new.trace))
     → RunsSaid (option_to_list (line_said number line)) old new a b
@@ -156,8 +156,8 @@ lacks (Some said) old new a b n session before part =
     (subst (λ (l : List (List ℕ)). AppendsPart a b (text_of_lines l))
     (new_lines (said ∷ []) old new n session before ∙ ap (λ o. o.lines) (fold-one move said old.state)) part)
 
--- a line ran, and its lines are not all written
-pub line_lacks : (marks : List UnreadAt) (number : ℕ) (line : List ℕ) (old new : Traced Stand)
+-- a line ran, and its trace lines are not all written
+pub line_lacks : (marks : List UnreadPattern) (number : ℕ) (line : List ℕ) (old new : Traced Stand)
     (a b : Option (List ℕ)) (n : ℕ) (refused : WriteRefused)
     → new ≡ after_all move (said_at marks number line) old
     → n ≡ length old.trace → AppendsPart a b (text_of_lines (drop n new.trace))

@@ -1,5 +1,6 @@
--- The first closure for a native on a shelf, and shelves on which none is lost.
-use Rattle.std.proofs.Common.{◌≡◌, ℕ, ◌<◌, Bool, true, false, cond, List, [], ◌∷◌, map, length, get_or, remove}
+-- The first closure for a native on a shelf, and stops that lose no closure.
+use Rattle.std.proofs.Common.{◌≡◌, ℕ, ◌<◌, Bool, true, false, cond, List, [], ◌∷◌, map, length, get_or}
+use Rattle.std.proofs.Common.{remove}
 use Rattle.std.proofs.Common.{zero, suc, refl, sym, ap, subst, ◌++◌, ◌∙◌, arith}
 use denote.Enum.Bare.{same_true}
 use Rattle.std.specs.Prelude.{Some, None, ◌||◌}
@@ -14,7 +15,7 @@ use Rattle.std.proofs.lemmas.List.Sorted.{IsPermutation-refl}
 use Rattle.std.proofs.lemmas.List.Sums.{fails_before_first}
 use Rattle.kb_core.specs.contracts.native.Native.{the_type}
 use Rattle.kb_core.specs.declared.native.Native.{Native}
-use Rattle.kb_codes.specs.Live.{same_native}
+use Rattle.kb_handler_table.specs.Live.{same_native}
 use Rattle.kb_script.proofs.LineLemmas.{position_none}
 use Rattle.kb_script.specs.Shelf.{Stand, stand, Halts, on_shelf, without_first}
 use Rattle.kb_session.specs.Session as session
@@ -25,7 +26,7 @@ use Rattle.kb_session.specs.declared.fault.SessionFault.TheVariants as fault
 use Rattle.kb_stream.specs.Fold.{Traced}
 use Rattle.kb_trace.specs.declared.event.Event.TheVariants as event
 
--- natives that `==` finds the same are the same
+-- natives that `==` accepts are equal
 pub same_native-true : (a b : Native) → same_native a b ≡ true → a ≡ b
 same_native-true a b h = same_true the_type tt a b h
 
@@ -36,7 +37,7 @@ module _ {C : Type 0} (stands_for : C → Native) (native : Native) where
   abbrev seen : List C → List Native
   seen commands = map stands_for commands
 
-  -- the shelf without its first closure for the native, by whether that is the first of all
+  -- the shelf without its first closure for the native, by whether the first closure is one
   abbrev without : Bool → C → List C → List Native
   without here c cs = cond here (seen cs) (stands_for c ∷ without_first native (seen cs))
 
@@ -74,11 +75,11 @@ module _ {C : Type 0} (stands_for : C → Native) (native : Native) where
       let past = ltb-false _ _ (position_none _ _ e) in
       on_shelf-map cs ∙ list_any_none test cs (λ k d h. fails_before_first test cs k d (omega arith))
 
--- the shelf without its first closure for a native and with that at its end, by whether it is the first of all
+-- the shelf with its first closure for a native moved to the end, by whether the first closure is one
 abbrev back_at_end : Native → Native → List Native → Bool → List Native
 back_at_end native n ns here = cond here ns (n ∷ without_first native ns) ++ native ∷ []
 
--- a closure that is taken and put back at the end
+-- a closure is taken and put at the end
 rotated : (native : Native) (shelf : List Native) → on_shelf native shelf ≡ true
     → IsPermutation shelf (without_first native shelf ++ native ∷ [])
 rotated native [] h = absurd (cc)
@@ -97,14 +98,14 @@ rotated native (n ∷ ns) h = by (λ k. rotated native ns k) (same_native native
         (IsPermutation-append_right (n ∷ []) ns (without_first native ns ++ native ∷ [])
         (rest (sym (ap (λ (b : Bool). b || on_shelf native ns) e) ∙ h)))
 
--- a stop that leaves the shelf as it was
+-- a stop that leaves the shelf unchanged
 pub halts_same : (old new : Stand) → session.Halts old.state new.state → new.shelf ≡ old.shelf → Halts old new
 halts_same old new h e = record {
   session = h;
   shelf = subst (λ (l : List Native). IsPermutation old.shelf l) (sym e) (IsPermutation-refl old.shelf);
 }
 
--- one that put a closure back
+-- a stop that put a closure back
 pub halts_rotated : (old new : Stand) (native : Native) → session.Halts old.state new.state
     → on_shelf native old.shelf ≡ true → new.shelf ≡ without_first native old.shelf ++ native ∷ []
     → Halts old new
@@ -113,7 +114,7 @@ halts_rotated old new native h there e = record {
   shelf = subst (λ (l : List Native). IsPermutation old.shelf l) (sym e) (rotated native old.shelf there);
 }
 
--- what a session that was running is where memory was refused
+-- refused memory halts a running session
 pub halted : (old new : Traced State) → new ≡ halt old → session.Halts old.state new.state
 halted old new is =
     ap (λ s. s.state) is ∙ ap (λ s. half_done s.state.core s.state.pressed old.state) (sym is)

@@ -1,4 +1,4 @@
--- What the bytes of a script say. They tell no marks of patterns: a reload has none here.
+-- The meaning of a script's bytes. They have no marks of unread patterns: a reload has none here.
 use Rattle.std.specs.Prelude.{ℕ, ◌+◌, ◌-◌, ◌^◌, Bool, false, not, ◌&&◌, List, [], ◌∷◌, ◌++◌, codes, ◌==◌}
 use Rattle.std.specs.Prelude.{Option, Some, None, option_map, option_to_list, Result, Ok, Err}
 use Rattle.std.specs.Prelude.{nat_eq, nat_lt, length, take, slice_get, if◌then◌else◌}
@@ -6,7 +6,7 @@ use Rattle.std.specs.List.{slice_split, before_first, after_first, position_or_l
 use Rattle.std.specs.Char.{is_ascii_digit}
 use Rattle.std.specs.Str.{bytes_eq, is_utf8}
 use Rattle.std.specs.Str.Parse.{digits_value}
-use Rattle.kb_context.specs.Blank.{is_blank}
+use Rattle.kb_base.specs.Blank.{is_blank}
 use Rattle.kb_context.specs.declared.value.ContextValue.{ContextValue}
 use Rattle.kb_core.specs.Native.{named}
 use Rattle.kb_files.specs.Context.{context_in}
@@ -28,33 +28,33 @@ abbrev pub is_return : Option ℕ → Bool
 is_return None = false
 is_return (Some b) = b == 13
 
--- a line without the carriage return at its end
+-- a line without a carriage return at its end
 abbrev pub without_return : List ℕ → List ℕ
 without_return line =
     if is_return (slice_get line (length line - 1)) then take (length line - 1) line else line
 
--- no line feed stands behind the last line
+-- all lines but the last lose a carriage return at the end, since no line feed follows the last
 abbrev pub without_returns : List (List ℕ) → List (List ℕ)
 without_returns [] = []
 without_returns (last ∷ []) = last ∷ []
 without_returns (line ∷ next ∷ lines) = without_return line ∷ without_returns (next ∷ lines)
 
--- the lines of a script; what stands behind the last line feed is one
+-- the lines of a script; the bytes after the last line feed are a line
 abbrev pub lines_of : List ℕ → List (List ℕ)
 lines_of bytes = without_returns (slice_split is_line_feed bytes)
 
--- the lines behind a line feed, where there is one
+-- the lines after a line feed, if there is one
 abbrev pub lines_behind : Option (List ℕ) → List (List ℕ)
 lines_behind None = []
 lines_behind (Some rest) = lines_of rest
 
--- the first word, and what follows the space behind it, where there is a space
+-- the parts before and after the first space, if there is one
 abbrev pub split_word : List ℕ → Option (List ℕ × List ℕ)
 split_word text =
     if nat_lt (position_or_len is_space text) (length text)
     then Some (before_first is_space text, after_first is_space text) else None
 
--- a word isn't empty, and no space is in it
+-- a word isn't empty and has no spaces
 abbrev pub is_word : List ℕ → Bool
 is_word text = not (nat_eq (length text) 0) && not (list_any is_space text)
 
@@ -76,7 +76,7 @@ unset_event None = None
 unset_event (Some parts) =
     if is_word parts.0 && is_word parts.1 then Some (event.UnsetKey parts.0 parts.1) else None
 
--- the value that is read, where one is
+-- the value that was read, if there is one
 abbrev pub value_in : {F : Type 0} → Result ContextValue F → Option ContextValue
 value_in (Ok value) = Some value
 value_in (Err fault) = None
@@ -95,7 +95,7 @@ abbrev pub set_event : Option (List ℕ × List ℕ) → Option Event
 set_event None = None
 set_event (Some parts) = keyed_event parts.0 (split_word parts.1)
 
--- an event by the first word of its line, and what follows the space behind it
+-- an event, by the first word of its line and the text after the first space
 abbrev pub event_told : List ℕ → List ℕ → Option Event
 event_told word rest =
     if bytes_eq word (codes "key") then key_event rest
@@ -107,7 +107,7 @@ event_told word rest =
 abbrev pub registration : List ℕ → Option Said
 registration name = option_map takes (named name)
 
--- a number of decimal digits alone, of which there is one at least, below 2 ^ 64
+-- a number below 2 ^ 64 of at least one decimal digit and nothing else
 abbrev pub number_of : List ℕ → Option ℕ
 number_of digits =
     if list_all is_ascii_digit digits
@@ -121,11 +121,11 @@ disposal digits = option_map (λ number. tells (dispose number)) (number_of digi
 abbrev pub event_said : Option Event → Option Said
 event_said event = option_map (λ e. tells (happens e)) event
 
--- a line of one word: reload alone is told the empty text
+-- a line of one word: `reload` alone has the empty text
 abbrev pub lone_said : List ℕ → Option Said
 lone_said word = if bytes_eq word (codes "reload") then Some (tells (reload [] [])) else None
 
--- a line by its first word and what follows the space behind it
+-- a line, by its first word and the text after the first space
 abbrev pub word_said : List ℕ → List ℕ → Option Said
 word_said word rest =
     if bytes_eq word (codes "reload") then Some (tells (reload rest []))
@@ -136,7 +136,7 @@ abbrev pub words_said : List ℕ → Option (List ℕ × List ℕ) → Option Sa
 words_said text None = lone_said text
 words_said text (Some parts) = word_said parts.0 parts.1
 
--- what a line says, where it can be read
+-- the meaning of a line that parses
 abbrev pub text_said : List ℕ → Option Said
 text_said line = if is_utf8 line then words_said line (split_word line) else None
 
@@ -144,26 +144,26 @@ abbrev pub or_unread : ℕ → Option Said → Said
 or_unread number None = tells (happens (event.Unread number))
 or_unread number (Some said) = said
 
--- an empty line and one that begins with # say nothing
+-- an empty line and one that begins with # have no meaning
 abbrev pub line_said : ℕ → List ℕ → Option Said
 line_said number [] = None
 line_said number (b ∷ bs) = if b == 35 then None else Some (or_unread number (text_said (b ∷ bs)))
 
--- what lines say, of which the first has this number
+-- the meaning of lines, numbered from `number`
 abbrev pub said_from : ℕ → List (List ℕ) → List Said
 said_from number [] = []
 said_from number (line ∷ lines) = option_to_list (line_said number line) ++ said_from (number + 1) lines
 
--- what a script says
+-- the meaning of a script
 abbrev pub said_of : List ℕ → List Said
 said_of bytes = said_from 1 (lines_of bytes)
 
--- what a session is told, without the marks of a reload's patterns
+-- an input without the marks of a reload's patterns
 abbrev pub bare_told : Told → Told
 bare_told (reload bytes marks) = reload bytes []
 bare_told told = told
 
--- what is said, without them
+-- the meaning of a line without marks
 abbrev pub bare : Said → Said
 bare (tells told) = tells (bare_told told)
 bare (takes native) = takes native

@@ -1,7 +1,7 @@
--- What a line of a script says, as the model has it.
+-- The meaning of a parsed line.
 use Rattle.std.specs.Prelude.{◌≡◌, ⊤, [], Option, Some, None, Result, Ok, Err, MatchResult}
-use Rattle.kb_context.specs.declared.failure.Failure.{Failure}
-use Rattle.kb_context.specs.declared.failure.Failure.TheVariants.{NoMemory, Fault}
+use Rattle.kb_base.specs.declared.failure.Failure.{Failure}
+use Rattle.kb_base.specs.declared.failure.Failure.TheVariants.{NoMemory, Fault}
 use Rattle.kb_script.specs.declared.script.ScriptLine.{ScriptLine}
 use Rattle.kb_script.specs.declared.script.ScriptLine.TheVariants as line
 use Rattle.kb_script.specs.Shelf.{Said, tells, takes}
@@ -13,7 +13,7 @@ said_by (line.Reload text) = tells (reload text.now [])
 said_by (line.Register native) = takes native
 said_by (line.Dispose ticket) = tells (dispose ticket.0)
 
--- what a reading gives: a fault is no value, and nothing but refused memory is that
+-- the result of reading a value: a fault gives no value, and refused memory is returned
 abbrev pub TakesAs : {X F E : Type 0} → Result X (Failure F) → Result (Option X) E → Type 0
 TakesAs (Ok value) r = MatchResult r (λ taken. taken ≡ Some value) (λ refused. ⊥)
 TakesAs (Err (Fault fault)) r = MatchResult r (λ taken. taken ≡ None) (λ refused. ⊥)

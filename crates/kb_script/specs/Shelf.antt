@@ -1,10 +1,10 @@
--- A session beside a shelf, which is the closures that the host has left, in order, seen as the natives that
--- they stand for, and what a line of a script does to both.
+-- A session with its shelf, and the effect of a script's line on both. The shelf lists the host's
+-- closures that aren't registered, as the natives that they implement.
 use Rattle.std.specs.Prelude.{◌≡◌, Bool, true, false, List, [], ◌∷◌, ◌++◌, if◌then◌else◌}
 use Rattle.std.specs.List.{list_any}
 use Rattle.std.specs.List.Sorted.{IsPermutation}
 use Rattle.kb_core.specs.declared.native.Native.{Native}
-use Rattle.kb_codes.specs.Live.{same_native}
+use Rattle.kb_handler_table.specs.Live.{same_native}
 use Rattle.kb_session.specs.Session as session
 use Rattle.kb_session.specs.State.{State, Told, happens, register, dispose, Answered, ticket, gave, refused}
 use Rattle.kb_session.specs.State.{Stepped, step}
@@ -18,12 +18,12 @@ pub record Stand : Type 0 where
 abbrev pub stand : State → List Native → Stand
 stand state shelf = record { state = state; shelf = shelf }
 
--- a session's state and trace, beside a shelf
+-- a session's state and trace, with a shelf
 abbrev pub beside : Traced State → List Native → Traced Stand
 beside seen shelf = record { state = stand seen.state shelf; trace = seen.trace }
 
--- what a line says: what the session is told, or that the first closure for a native is taken off the shelf
--- and registered
+-- the meaning of a line: an input of the session, or the registration of the first closure for a native
+-- on the shelf
 pub data Said : Type 0 where
   tells : Told → Said
   takes : Native → Said
@@ -37,13 +37,12 @@ without_first native [] = []
 without_first native (first ∷ rest) =
     if same_native native first then rest else first ∷ without_first native rest
 
--- what the session is told: a native for which no closure is left is told as that
+-- the input of the session; a native without a closure on the shelf gives `NoClosure`
 abbrev pub told_by : Said → List Native → Told
 told_by (tells told) shelf = told
 told_by (takes native) shelf = if on_shelf native shelf then register native else happens event.NoClosure
 
--- the shelf by what the session was told and answered: a closure that is refused and one that is given back
--- go to its end
+-- the shelf after an input and its answer: a refused closure and a disposed one go to its end
 abbrev pub shelf_after : Told → Answered → List Native → List Native
 shelf_after (register native) (ticket number) shelf = without_first native shelf
 shelf_after (register native) (refused r) shelf = without_first native shelf ++ native ∷ []
@@ -58,17 +57,17 @@ move_unless true said s = nothing s
 move_unless false said s =
     moved (told_by said s.shelf) (step (told_by said s.shelf) s.state) s.shelf
 
--- the step of a script; a session that was stopped stays as it is, and so does the shelf
+-- the step of a script; a stopped session stays unchanged, and so does its shelf
 abbrev pub move : Said → Stand → Out Stand
 move said s = move_unless s.state.stopped said s
 
--- memory was refused: the session is as it says then, and no closure of the shelf is lost
+-- memory was refused: the session is halted, and the shelf still has all its closures
 pub record Halts (old new : Stand) : Type 0 where
   pub session : session.Halts old.state new.state
   pub shelf : IsPermutation old.shelf new.shelf
 
 -- ---- for private functions
 
--- a session that was running and the shelf did what a line says
+-- a running session and its shelf did what a line means
 abbrev pub Obeys : Said → Traced Stand → Traced Stand → Type 0
 Obeys said old new = new ≡ after (move said old.state) old

@@ -1,22 +1,22 @@
-//! Why a script did not run to its end. The numbers are the engine's own.
+//! The faults of scripts.
 use thiserror::Error;
 
-/// Why a script did not run to its end, but for refused memory.
+/// The reason why a script did not run to its end, other than refused memory.
 #[derive(Clone, Copy, Debug, PartialEq, Eq, Error)]
 pub enum ScriptFault {
-    /// The session was stopped before.
+    /// The session was already stopped.
     #[error("the session is stopped")]
     Stopped,
-    /// The script has more bytes than a script may have.
+    /// The script has more bytes than allowed.
     #[error("the script is too long")]
     TooLong,
     /// The reader failed.
     #[error("the script can't be read")]
     ReadFailed,
-    /// The writer failed, or took nothing.
+    /// The writer failed, or accepted no bytes.
     #[error("the trace can't be written")]
     WriteFailed,
-    /// A handler couldn't go on, which stopped the session.
+    /// A handler trapped, which stopped the session.
     #[error("a handler trapped")]
     Trapped,
 }
@@ -25,7 +25,7 @@ impl ScriptFault {
     ghost use Rattle.std.specs.Prelude.{◌≡◌};
     ghost use Rattle.kb_script.specs.Fault.{script_number};
 
-    /// The number under which the engine lists the fault. It takes no memory.
+    /// The number of the fault in the table of faults. (Our decision.)
     pub fn number(self) -> u32
         ensures { result ≡ script_number self }
     {

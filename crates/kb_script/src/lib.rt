@@ -1,5 +1,5 @@
-//! Scripts: lines that tell a session what happens and which closures of the host it gets and gives back,
-//! read from a reader, and its trace, written to a writer.
+//! Scripts for a session: lines with events, reloads, registrations and disposals, read from a reader.
+//! The session's trace is written to a writer.
 #![tactic(auto)]
 
 pub mod fault;

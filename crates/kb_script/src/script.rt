@@ -1,4 +1,4 @@
-//! The lines of a script, and what each one says.
+//! The lines of a script and their parser.
 ghost use Rattle.std.specs.Prelude.{◌≡◌, ◌<◌, ◌∷◌, false, true, None, Ok};
 ghost use Rattle.std.specs.Prelude.{IfOk, IfSome, MatchOption, option_map, position, length};
 ghost use Rattle.std.specs.Char.{is_ascii_digit};
@@ -9,7 +9,8 @@ ghost use Rattle.kb_script.specs.Script as script;
 ghost use Rattle.kb_script.specs.ScriptLine.{said_by, TakesAs};
 ghost use Rattle.kb_trace.specs.declared.event.Event.TheVariants as event;
 
-use kb_context::{ContextValue, Failure, NoMemory, Refusal, Text, is_blank_text};
+use kb_base::{Failure, NoMemory, Refusal, Text, is_blank_text};
+use kb_context::ContextValue;
 use kb_core::Native;
 use kb_files::read_context_text;
 use kb_keys::Keystroke;
@@ -18,22 +19,23 @@ use kb_trace::Event;
 use std::alloc::{AllocError, Global};
 use std::str;
 
-/// What a line of a script says.
+/// A parsed line of a script.
 #[derive(Drop)]
 pub enum ScriptLine<'a> {
-    /// An event.
+    /// An event: `key KEY`, `focus SCOPE`, `set SCOPE KEY JSON` or `unset SCOPE KEY`; or `Unread` for a
+    /// line that doesn't parse.
     Event(Event),
-    /// The bytes of the user's rules, to be read anew.
+    /// `reload BYTES`: a reload of the user's rules from these bytes, which may be empty.
     Reload(&'a str),
-    /// The first closure for a native is taken off the shelf and registered.
+    /// `register NATIVE`: registers the first closure for the native command on the shelf.
     Register(Native),
-    /// The closure of a ticket is given back to the shelf.
+    /// `dispose N`: ends the registration with the ticket N, and puts its closure on the shelf.
     Dispose(Ticket),
 }
 
-/// What a line says, if it says something: an empty line and one that begins with `#` say
-/// nothing, and one that can't be read is the event `Unread` with its number. `NoMemory` where
-/// memory for what an event names was refused.
+/// Parses one line. `None` for blank lines and comments: an empty line, or one that begins with `#`. A
+/// line that doesn't parse is the event `Unread` with the line's number. `NoMemory` if the texts of an
+/// event can't be allocated.
 pub fn read_line<'a>(
     alloc: Global,
     number: u64,
@@ -50,8 +52,8 @@ pub fn read_line<'a>(
     }
 }
 
-/// The first line of these bytes, and what stands behind its line feed, if it has one. A carriage
-/// return right before the line feed is no part of the line.
+/// Splits bytes into the first line and the bytes after its line feed, if there is one. A carriage
+/// return right before the line feed isn't part of the line.
 #[tactic(auto, using(crate::proofs::LineLemmas::first_line, crate::proofs::LineLemmas::only_line))]
 pub fn split_line(bytes: &[u8]) -> (&[u8], Option<&[u8]>)
     ensures lines { script.lines_of bytes.now
@@ -88,7 +90,7 @@ fn read_text<'a>(alloc: Global, line: &'a [u8]) -> Result<Option<ScriptLine<'a>>
     }
 }
 
-/// The text of a line, if its bytes are UTF-8.
+/// The text of a line, or `None` if its bytes aren't UTF-8.
 #[tactic(auto, using(crate::proofs::LineLemmas::is_text, crate::proofs::LineLemmas::is_no_text))]
 fn text_of(line: &[u8]) -> Option<&str>
     ensures { MatchOption result (is_utf8 line.now ≡ false)
@@ -100,7 +102,7 @@ fn text_of(line: &[u8]) -> Option<&str>
     }
 }
 
-/// What a line says by its first word, if it has several.
+/// Parses a line: one of several words by its first word, or one of a single word.
 fn read_words<'a>(alloc: Global, text: &'a str) -> Result<Option<ScriptLine<'a>>, NoMemory>
     ensures { IfOk result (λ said. option_map said_by said
         ≡ script.words_said text.now (script.split_word text.now)) }
@@ -111,7 +113,7 @@ fn read_words<'a>(alloc: Global, text: &'a str) -> Result<Option<ScriptLine<'a>>
     }
 }
 
-/// What a line of several words says, by its first word.
+/// Parses a line of several words, by its first word.
 fn read_word<'a>(
     alloc: Global,
     word: &str,
@@ -130,7 +132,7 @@ fn read_word<'a>(
     }
 }
 
-/// The event that a line of several words is, by its first word.
+/// Parses an event, by the first word of its line.
 fn read_event(alloc: Global, word: &str, rest: &str) -> Result<Option<Event>, NoMemory>
     ensures { IfOk result (λ event. event ≡ script.event_told word.now rest.now) }
 {
@@ -143,7 +145,7 @@ fn read_event(alloc: Global, word: &str, rest: &str) -> Result<Option<Event>, No
     }
 }
 
-/// The first word, and what follows the space behind it, if there is a space.
+/// Splits a text at its first space, or `None` if it has none.
 fn split_word(text: &str) -> Option<(&str, &str)>
     ensures { option_map (λ parts. (parts.0.now, parts.1.now)) result ≡ script.split_word text.now }
 {
@@ -177,7 +179,8 @@ fn read_dispose(digits: &str) -> Option<ScriptLine<'_>>
     }
 }
 
-/// The number that a text of decimal digits alone is, if there is one and it fits: `parse` takes a sign, too.
+/// The number that a text of decimal digits denotes, or `None` if it has no digits, other characters,
+/// or is too large. The digits are checked first, since `parse` accepts a sign too.
 #[tactic(auto, using(crate::proofs::LineLemmas::numbers))]
 fn read_number(digits: &str) -> Option<u64>
     ensures { result ≡ script.number_of digits.now }
@@ -209,7 +212,7 @@ fn read_key(key: &str) -> Option<Event>
     }
 }
 
-/// Whether a text is a word: it isn't empty, and no space is in it.
+/// Whether a text is a word: not empty and without spaces.
 fn is_word(text: &str) -> bool
     ensures { result ≡ script.is_word text.now }
 {
@@ -278,8 +281,7 @@ fn read_assignment(
     assigned(alloc, scope, key, value)
 }
 
-/// The value that was read. A text that is no context value gives none, and a read that was refused
-/// memory gives that. It takes no memory.
+/// The value that was read, `None` for a text that isn't a context value, or refused memory.
 fn value_read(
     read: Result<ContextValue, Failure<Refusal>>,
 ) -> Result<Option<ContextValue>, NoMemory>
@@ -292,7 +294,8 @@ fn value_read(
     }
 }
 
-/// The event that a key gets a value, where there is a value. Without one it takes no memory.
+/// The event that sets a key to a value, or `None` if there is no value. Without a value it allocates
+/// nothing.
 fn assigned(
     alloc: Global,
     scope: &str,

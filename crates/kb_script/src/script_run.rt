@@ -1,37 +1,42 @@
-//! Runs the script that a reader gives, and writes its lines of the trace to a writer.
-ghost use Rattle.std.specs.Prelude.{◌≡◌, ◌^◌, ◌<◌, ◌≤◌, ◌+◌, false, OnOk, OnErr, IfErr};
+//! Runs a script from a reader, and writes the trace lines to a writer.
+ghost use Rattle.std.specs.Prelude.{◌≡◌, ◌^◌, ◌<◌, ◌≤◌, ◌+◌, false, OnOk, OnErr, IfOk, IfErr};
 ghost use Rattle.std.specs.Prelude.{option_to_list, length, drop, map};
 ghost use Rattle.std.specs.Io.KnownBytes.{Appends};
 ghost use Rattle.kb_script.specs.Script as script;
 ghost use Rattle.kb_script.specs.ScriptRun.{Answers, RunsSaid, BreaksSaid, script_limit};
 ghost use Rattle.kb_script.specs.Shelf.{beside};
+ghost use Rattle.kb_session.specs.State.{stops};
 ghost use Rattle.kb_stream.specs.Reading.{ConsumesAtMost};
 ghost use Rattle.kb_stream.specs.Writing.{AppendsPart, text_of_lines};
 
 use crate::fault::ScriptFault;
 use crate::script::split_line;
 use crate::shelf::obey;
-use kb_context::Failure;
+use kb_base::Failure;
+use kb_execute::Finish;
 use kb_registry::HostCommand;
 use kb_session::Session;
 use kb_stream::{ReadFault, WriteRefused, read_within, write_whole};
 use std::alloc::Global;
 use std::io::{Read, Write};
 
-/// How many bytes a script may have (our decision).
+/// The maximum size of a script, in bytes (our decision).
 pub const SCRIPT_LIMIT: usize = 16_777_216;
 
-/// Runs the script that a reader gives, line by line, and writes the lines that each of its lines
-/// adds to the trace, each with a line feed behind it. The whole script is read before a line is
-/// run. A closure that a line registers comes from the shelf, and one that is given back or refused goes to
-/// its end (our decision). A writer with a buffer is flushed by the caller.
+/// Runs a script line by line, and writes the trace lines that each line adds, each followed by a line
+/// feed. The whole script is read before its first line runs. A line that registers a closure takes it
+/// from the shelf. A disposed closure, and one whose registration is refused, goes to the end of the
+/// shelf (our decision). The caller flushes a buffered writer.
 ///
-/// Errors: `ReadFailed`, `TooLong` (past `SCRIPT_LIMIT` bytes) and `Stopped` (the session was
-/// stopped before), after which nothing was run or written; `WriteFailed`, after which the writer
-/// has a part of the lines, and no line of the script behind the one that could not be written was
-/// run; `Trapped`, where a handler couldn't go on: the session is stopped, the writer has all lines that the
-/// script added to the trace, of which that handler's is the last; `NoMemory`, after which the session is
-/// stopped, the writer has all lines that the script added to the trace, and no closure of the shelf is lost.
+/// Errors:
+/// - `ReadFailed`, `TooLong` (more than `SCRIPT_LIMIT` bytes) and `Stopped` (the session was already
+///   stopped): nothing ran and nothing was written.
+/// - `WriteFailed`: the writer has a part of the lines. No line of the script ran after the one whose
+///   trace lines could not be written.
+/// - `Trapped`: a handler trapped, and the session is stopped. The writer has all trace lines of the
+///   script, and the trap's line is the last.
+/// - `NoMemory`: the session is stopped. The writer has all trace lines of the script, and the shelf
+///   still has all its closures.
 pub fn run_script<R: Read, W: Write, C: HostCommand>(
     alloc: Global,
     reader: &mut R,
@@ -60,14 +65,15 @@ pub fn run_script<R: Read, W: Write, C: HostCommand>(
         return Err(Failure::Fault(ScriptFault::Stopped));
     }
     match run_lines(alloc, script.as_slice(), writer, session, shelf) {
-        Ok(()) if session.is_stopped() => Err(Failure::Fault(ScriptFault::Trapped)),
-        Ok(()) => Ok(()),
+        Ok(true) => Err(Failure::Fault(ScriptFault::Trapped)),
+        Ok(false) => Ok(()),
         Err(Failure::NoMemory) => Err(Failure::NoMemory),
         Err(Failure::Fault(WriteRefused)) => Err(Failure::Fault(ScriptFault::WriteFailed)),
     }
 }
 
-/// Runs the lines of a script, the first of which has the number 1, up to one that stops the session.
+/// Runs the lines of a script, numbered from 1, up to one in which a handler traps, and returns whether one
+/// did.
 #[tactic(auto, using(crate::proofs::ScriptRuns::progress))]
 fn run_lines<W: Write, C: HostCommand>(
     alloc: Global,
@@ -75,9 +81,10 @@ fn run_lines<W: Write, C: HostCommand>(
     writer: &mut W,
     session: &mut Session<C>,
     shelf: &mut Vec<C>,
-) -> Result<(), Failure<WriteRefused>>
+) -> Result<bool, Failure<WriteRefused>>
     requires running { session.old.state.stopped ≡ false }
     requires short { length bytes.now < 2 ^ 32 }
+    ensures stops { IfOk result (λ trapped. session.new.state.stopped ≡ trapped) }
     ensures ok { OnOk result (RunsSaid (script.said_of bytes.now)
         (beside session.old (map C.stands_for shelf.old.items))
         (beside session.new (map C.stands_for shelf.new.items))
@@ -91,20 +98,19 @@ fn run_lines<W: Write, C: HostCommand>(
     let mut number = 1u64;
     loop {
         let (line, after) = split_line(rest);
-        run_line(alloc, number, line, writer, session, shelf)?;
-        if session.is_stopped() {
-            return Ok(());
+        if run_line(alloc, number, line, writer, session, shelf)? {
+            return Ok(true);
         }
         match after {
             Some(after) => rest = after,
-            None => return Ok(()),
+            None => return Ok(false),
         }
         number += 1;
     }
 }
 
-/// Runs one line of a script: session and shelf do what it says, and then the lines that this added to the
-/// trace are written.
+/// Runs one line of a script: changes session and shelf, and then writes the trace lines that it added.
+/// Returns whether a handler trapped.
 #[tactic(auto, using(crate::proofs::ScriptRuns::one_line))]
 fn run_line<W: Write, C: HostCommand>(
     alloc: Global,
@@ -113,8 +119,9 @@ fn run_line<W: Write, C: HostCommand>(
     writer: &mut W,
     session: &mut Session<C>,
     shelf: &mut Vec<C>,
-) -> Result<(), Failure<WriteRefused>>
+) -> Result<bool, Failure<WriteRefused>>
     requires { session.old.state.stopped ≡ false }
+    ensures stops { IfOk result (λ trapped. session.new.state.stopped ≡ trapped) }
     ensures ok { OnOk result (RunsSaid (option_to_list (script.line_said number line.now))
         (beside session.old (map C.stands_for shelf.old.items))
         (beside session.new (map C.stands_for shelf.new.items))
@@ -126,17 +133,26 @@ fn run_line<W: Write, C: HostCommand>(
         (W.contents writer.old) (W.contents writer.new)) }
 {
     let before = session.trace().len();
-    match obey(alloc, number, line, session, shelf) {
-        Ok(()) => {}
-        Err(_) => return Err(Failure::NoMemory),
-    }
+    let Ok(finish) = obey(alloc, number, line, session, shelf) else {
+        return Err(Failure::NoMemory);
+    };
     match write_from(before, writer, session) {
-        Ok(()) => Ok(()),
+        Ok(()) => Ok(is_trap(finish)),
         Err(refused) => Err(Failure::Fault(refused)),
     }
 }
 
-/// Writes the lines of the trace from a place on.
+/// Whether the command of an event trapped, which stops the session.
+fn is_trap(finish: Finish) -> bool
+    ensures { result ≡ stops finish }
+{
+    match finish {
+        Finish::Trapped => true,
+        Finish::Done | Finish::NotFound | Finish::BadArguments => false,
+    }
+}
+
+/// Writes the trace lines from an index on.
 fn write_from<W: Write, C: HostCommand>(
     from: usize,
     writer: &mut W,

@@ -1,53 +1,62 @@
-//! What a line of a script does to a session and to the shelf beside it, the closures that the host has left.
+//! The effect of a script's line on a session and on the shelf: the list of the host's closures that
+//! aren't registered.
 ghost use Rattle.std.specs.Prelude.{◌≡◌, ◌<◌, false, true, map, option_map, option_to_list, position};
-ghost use Rattle.std.specs.Prelude.{vec_len, vec_capacity, OnOk, OnErr, IsSome, MatchOption};
-ghost use Rattle.kb_codes.specs.Live.{same_native};
+ghost use Rattle.std.specs.Prelude.{vec_len, vec_capacity, OnOk, OnErr, IfOk, IsSome, MatchOption};
+ghost use Rattle.kb_handler_table.specs.Live.{same_native};
 ghost use Rattle.kb_script.specs.Script as script;
 ghost use Rattle.kb_script.specs.ScriptRun.{marked};
 ghost use Rattle.kb_script.specs.Shelf.{tells, takes, beside, move, Obeys, on_shelf, without_first, Halts};
-ghost use Rattle.kb_session.specs.State.{dispose};
+ghost use Rattle.kb_session.specs.State.{dispose, stops};
 ghost use Rattle.kb_stream.specs.Fold.{after_all};
 
 use crate::script::{ScriptLine, read_line};
-use kb_context::NoMemory;
+use kb_base::NoMemory;
 use kb_core::Native;
+use kb_execute::Finish;
 use kb_registry::{HostCommand, Ticket};
 use kb_session::{Session, SessionFault};
 use kb_trace::Event;
 use std::alloc::{AllocError, Global};
 
-/// Has the session and the shelf do what a line says, if it says something, with the marks that the session
-/// found. Where memory is refused, also to reading the line, the session is stopped, and no closure of the
-/// shelf is lost.
-#[tactic(auto, using(crate::proofs::ShelfLemmas::halting))]
+/// Parses a line and applies it to session and shelf. Returns how a command that it started ended. The
+/// contract's marks are those that the session found. If memory is refused, also while parsing, the session
+/// is stopped, and the shelf still has all its closures.
+#[tactic(auto, using(crate::proofs::ShelfLemmas::halting, kb_session::proofs::Stopping::answers_quietly))]
 pub(crate) fn obey<C: HostCommand>(
     alloc: Global,
     number: u64,
     line: &[u8],
     session: &mut Session<C>,
     shelf: &mut Vec<C>,
-) -> Result<(), NoMemory>
+) -> Result<Finish, NoMemory>
     requires { session.old.state.stopped ≡ false }
     ensures ok { OnOk result (beside session.new (map C.stands_for shelf.new.items)
         ≡ after_all move (option_to_list
         (option_map (marked session.new.state.sources.user.unread) (script.line_said number line.now)))
         (beside session.old (map C.stands_for shelf.old.items))) }
+    ensures stops { IfOk result (λ finish. session.new.state.stopped ≡ stops finish) }
     ensures err { OnErr result (Halts (beside session.old (map C.stands_for shelf.old.items)).state
         (beside session.new (map C.stands_for shelf.new.items)).state) }
     ensures trace { OnErr result (session.new.trace ≡ session.old.trace) }
 {
     match read_line(alloc, number, line) {
-        Ok(Some(ScriptLine::Event(event))) => match session.handle(event) {
-            Ok(_) => Ok(()),
+        Ok(Some(ScriptLine::Event(event))) => match session.handle_fully(event) {
+            Ok(handled) => Ok(handled.finish),
             Err(_) => Err(AllocError),
         },
         Ok(Some(ScriptLine::Reload(text))) => match session.reload_user(text.as_bytes()) {
-            Ok(_) => Ok(()),
+            Ok(_) => Ok(Finish::Done),
             Err(_) => Err(AllocError),
         },
-        Ok(Some(ScriptLine::Register(native))) => register_first(native, session, shelf),
-        Ok(Some(ScriptLine::Dispose(ticket))) => give_back(ticket, session, shelf),
-        Ok(None) => Ok(()),
+        Ok(Some(ScriptLine::Register(native))) => {
+            register_first(native, session, shelf)?;
+            Ok(Finish::Done)
+        }
+        Ok(Some(ScriptLine::Dispose(ticket))) => {
+            give_back(ticket, session, shelf)?;
+            Ok(Finish::Done)
+        }
+        Ok(None) => Ok(Finish::Done),
         Err(_) => {
             session.stop();
             Err(AllocError)
@@ -55,8 +64,9 @@ pub(crate) fn obey<C: HostCommand>(
     }
 }
 
-/// Registers the first closure for a native that is on the shelf. One that is refused goes to its end.
-#[tactic(auto, using(crate::proofs::ShelfLemmas::halting))]
+/// Registers the first closure for a native command on the shelf. If that is refused, the closure goes
+/// to the end of the shelf.
+#[tactic(auto, using(crate::proofs::ShelfLemmas::halting, kb_session::proofs::Stopping::answers_quietly))]
 fn register_first<C: HostCommand>(
     native: Native,
     session: &mut Session<C>,
@@ -65,6 +75,7 @@ fn register_first<C: HostCommand>(
     requires { session.old.state.stopped ≡ false }
     ensures ok { OnOk result (Obeys (takes native) (beside session.old (map C.stands_for shelf.old.items))
         (beside session.new (map C.stands_for shelf.new.items))) }
+    ensures running { OnOk result (session.new.state.stopped ≡ false) }
     ensures err { OnErr result (Halts (beside session.old (map C.stands_for shelf.old.items)).state
         (beside session.new (map C.stands_for shelf.new.items)).state) }
     ensures trace { OnErr result (session.new.trace ≡ session.old.trace) }
@@ -89,8 +100,8 @@ fn register_first<C: HostCommand>(
     }
 }
 
-/// Gives the closure of a ticket back to the shelf, whose end it is then.
-#[tactic(auto, using(crate::proofs::ShelfLemmas::halting))]
+/// Disposes of a ticket, and puts its closure at the end of the shelf.
+#[tactic(auto, using(crate::proofs::ShelfLemmas::halting, kb_session::proofs::Stopping::answers_quietly))]
 fn give_back<C: HostCommand>(
     ticket: Ticket,
     session: &mut Session<C>,
@@ -100,6 +111,7 @@ fn give_back<C: HostCommand>(
     ensures ok { OnOk result (Obeys (tells (dispose ticket.0))
         (beside session.old (map C.stands_for shelf.old.items))
         (beside session.new (map C.stands_for shelf.new.items))) }
+    ensures running { OnOk result (session.new.state.stopped ≡ false) }
     ensures err { OnErr result (Halts (beside session.old (map C.stands_for shelf.old.items)).state
         (beside session.new (map C.stands_for shelf.new.items)).state) }
     ensures trace { OnErr result (session.new.trace ≡ session.old.trace) }
@@ -119,7 +131,7 @@ fn give_back<C: HostCommand>(
     }
 }
 
-/// Takes the first closure for a native off the shelf, which has room for one more then.
+/// Removes the first closure for a native command from the shelf, which then has capacity for one more.
 fn take_first<C: HostCommand>(native: Native, shelf: &mut Vec<C>) -> Option<C>
     ensures taken { MatchOption result
         ((on_shelf native (map C.stands_for shelf.old.items) ≡ false) × (shelf.new ≡ shelf.old))
@@ -135,7 +147,7 @@ fn take_first<C: HostCommand>(native: Native, shelf: &mut Vec<C>) -> Option<C>
     }
 }
 
-/// Where the first closure for a native stands.
+/// The index of the first closure for a native command, or `None`.
 fn place_of<C: HostCommand>(native: Native, shelf: &[C]) -> Option<usize>
     ensures { result ≡ position (λ command. same_native native (C.stands_for command)) shelf.now }
 {

@@ -1,18 +1,22 @@
--- The extensions of a load are at most 100, and so are their lists of handlers.
+-- A load has at most 100 extensions, and so at most 100 lists of handlers.
 use Rattle.std.proofs.Common.{◌≡◌, refl, sym, ap, subst, Bool, true, false, List, [], ◌∷◌, ℕ, ◌+◌, ◌≤◌, suc}
 use Rattle.std.proofs.Common.{length, map, arith}
 use Rattle.std.specs.Prelude.{⊤, Option, Some, None, Result, Ok, Err, IfOk, if◌then◌else◌, nat_lt}
 use Rattle.std.proofs.lemmas.Bool.{ltb-false}
-use Rattle.kb_bindings.specs.Fault.{refused_by, refused_file}
+use Rattle.kb_files.specs.Fault.{refused_by, refused_file}
 use Rattle.kb_bindings.specs.Load as load
-use Rattle.kb_bindings.specs.Load.{ExtensionBytes, Files, Held, HeldExtension, HeldRules, LoadMarks}
-use Rattle.kb_bindings.specs.Load.{extension_held, extensions_from, extensions_held, handlers_of, held_by}
-use Rattle.kb_bindings.specs.Load.{lists_held, names_fault, names_in, outlines_of, rules_held, unless_fault}
-use Rattle.kb_bindings.specs.declared.fault.LoadFault.{LoadFault}
-use Rattle.kb_bindings.specs.declared.fault.LoadFile.TheVariants as file
+use Rattle.kb_bindings.specs.Load.{Files, Held, HeldRules}
+use Rattle.kb_base.specs.declared.note.UnreadPattern.{UnreadPattern}
+use Rattle.kb_files.specs.Extensions.{ExtensionBytes, HeldExtension}
+use Rattle.kb_bindings.specs.Load.{held_by}
+use Rattle.kb_files.specs.Extensions.{extension_held, extensions_from, extensions_held, handlers_of}
+use Rattle.kb_bindings.specs.Load.{lists_held, rules_held}
+use Rattle.kb_files.specs.Extensions.{names_fault, names_in, outlines_of, unless_fault}
+use Rattle.kb_files.specs.declared.fault.LoadFault.{LoadFault}
+use Rattle.kb_files.specs.declared.fault.LoadFile.TheVariants as file
 use Rattle.kb_bindings.specs.declared.load.Loaded.{Loaded}
-use Rattle.kb_context.specs.Reading.{◌>>=◌, seen}
-use Rattle.kb_context.specs.Refusal.{refused_for}
+use Rattle.kb_base.specs.Reading.{◌>>=◌, seen}
+use Rattle.kb_base.specs.Refusal.{refused_for}
 use Rattle.kb_context.specs.Scopes.{ScopesData}
 use Rattle.kb_files.specs.Layout.{layout_scopes}
 use Rattle.kb_session.proofs.Results.{bind, any}
@@ -68,7 +72,7 @@ seen_few : (view : Held → Loaded) (r : Result Held LoadFault)
 seen_few view (Ok held) is h = subst (λ hs. length hs ≤ 100) (sym (is held)) h
 seen_few view (Err fault) is h = tt
 
-pub few_handlers : (marks : LoadMarks) (files : Files) (l : Loaded)
+pub few_handlers : (marks : List UnreadPattern) (files : Files) (l : Loaded)
     → load.loaded marks files ≡ Ok l → length l.handlers ≤ 100
 few_handlers marks files l is =
     subst (λ (r : Result Loaded LoadFault). IfOk r (λ l. length l.handlers ≤ 100)) is

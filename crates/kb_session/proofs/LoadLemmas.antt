@@ -1,49 +1,51 @@
--- A session is what its files load, with the commands that are live.
+-- A loaded session is the one that its files define, with the live commands.
 use Rattle.std.proofs.Common.{◌≡◌, List, refl, ap, ◌∙◌, subst, sym, inl}
 use Rattle.std.specs.Prelude.{Result, Ok, Err, IfOk, IfErr}
 use Rattle.kb_bindings.specs.Load as load
-use Rattle.kb_bindings.specs.Load.{Files, Held, held_by, handlers_of, marks_told, sources_by, LoadMarks}
+use Rattle.kb_bindings.specs.Load.{Files, Held, held_by, sources_by}
+use Rattle.kb_base.specs.declared.note.UnreadPattern.{UnreadPattern}
+use Rattle.kb_files.specs.Extensions.{handlers_of}
 use Rattle.kb_bindings.specs.Unread.{unread_of}
-use Rattle.kb_bindings.specs.declared.fault.LoadFault.{LoadFault}
+use Rattle.kb_files.specs.declared.fault.LoadFault.{LoadFault}
 use Rattle.kb_bindings.specs.declared.load.Loaded.{Loaded}
-use Rattle.kb_context.specs.Failure.{Fails}
-use Rattle.kb_context.specs.Reading.{◌>>=◌, seen}
-use Rattle.kb_context.specs.declared.failure.Failure.{Failure}
-use Rattle.kb_context.specs.declared.failure.Failure.TheVariants as failure
+use Rattle.kb_base.specs.Failure.{Fails}
+use Rattle.kb_base.specs.Reading.{◌>>=◌, seen}
+use Rattle.kb_base.specs.declared.failure.Failure.{Failure}
+use Rattle.kb_base.specs.declared.failure.Failure.TheVariants as failure
 use Rattle.kb_core.specs.declared.native.Native.{Native}
 use Rattle.kb_keys.specs.declared.platform.Platform.{Platform}
-use Rattle.kb_live.specs.Checked.{LiveChecked}
-use Rattle.kb_live.specs.Raw.{raw_held}
+use Rattle.kb_load_commands.specs.Checked.{LiveChecked}
+use Rattle.kb_load_commands.specs.Raw.{raw_held}
 use Rattle.kb_registry.specs.Live.{Live}
 use Rattle.kb_session.specs.Session.{CommandsFail, IsOf, Loads, Seen, loaded_raw, loaded_session, marks_by}
 use Rattle.kb_session.specs.Session.{raw_load_held}
 
 -- ---- verified handlers
 
--- what is loaded, with the commands that are live
+-- the session of loaded files, with live commands
 pub session_is_of : (files : Files) (natives : List Native) (l : Loaded) (live : Live) (session : Seen)
-    → load.loaded (marks_told files (unread_of l.bindings)) files ≡ Ok l
+    → load.loaded (unread_of l.bindings) files ≡ Ok l
     → LiveChecked natives l.bindings.extensions l.handlers (Ok live)
     → session ≡ loaded_session l.scopes l.bindings live → IsOf files natives session
 session_is_of files natives l live session held checked is =
     subst (IsOf files natives) (sym is) (record { loaded = l; held = held; live = checked; is = refl })
 
--- a fault of the commands behind files that are taken
+-- a fault of the commands after accepted files
 pub checked_fails : (files : Files) (natives : List Native) (l : Loaded) (failure : Failure LoadFault)
-    → load.loaded (marks_told files (unread_of l.bindings)) files ≡ Ok l
+    → load.loaded (unread_of l.bindings) files ≡ Ok l
     → LiveChecked natives l.bindings.extensions l.handlers (Err failure)
     → CommandsFail files natives failure
 checked_fails files natives l failure held fail = record {
-  marks = marks_told files (unread_of l.bindings);
+  marks = unread_of l.bindings;
   loaded = l;
   held = held;
   fail = fail;
 }
 
--- what a session begins as, or refused memory
+-- a new session, or refused memory
 pub begun_loads : (files : Files) (natives : List Native) (l : Loaded) (live : Live)
     (r : Result Seen (Failure LoadFault))
-    → load.loaded (marks_told files (unread_of l.bindings)) files ≡ Ok l
+    → load.loaded (unread_of l.bindings) files ≡ Ok l
     → LiveChecked natives l.bindings.extensions l.handlers (Ok live)
     → IfOk r (λ session. session ≡ loaded_session l.scopes l.bindings live)
     → IfErr r (λ why. why ≡ failure.NoMemory) → Loads files natives r
@@ -54,11 +56,11 @@ begun_loads files natives l live (Err why) held checked is fails =
 
 -- ---- raw handlers
 
--- what is loaded, with the commands that are live
+-- the session of loaded files, with live commands
 pub raw_is_loaded : (files : Files) (natives : List Native) (l : Loaded) (live : Live) (session : Seen)
-    → load.loaded (marks_told files (unread_of l.bindings)) files ≡ Ok l
+    → load.loaded (unread_of l.bindings) files ≡ Ok l
     → raw_held natives l.handlers ≡ Ok live → session ≡ loaded_session l.scopes l.bindings live
-    → loaded_raw (marks_by files session) files natives ≡ Ok session
+    → loaded_raw (marks_by session) files natives ≡ Ok session
 raw_is_loaded files natives l live session h g is =
     rw is
     (ap (λ r. r >>= λ (l : Loaded). seen (loaded_session l.scopes l.bindings) (raw_held natives l.handlers)) h
@@ -67,22 +69,22 @@ raw_is_loaded files natives l live session h g is =
 abbrev live_behind : List Native → Held → Result Live LoadFault
 live_behind natives held = raw_held natives (handlers_of held.rules.extensions)
 
--- a fault of the files is the load's
+-- a fault of the files is the fault of the load
 pub raw_files_fail : (files : Files) (natives : List Native) (failure : Failure LoadFault)
     → Fails failure (held_by files) → Fails failure (raw_load_held files natives)
 raw_files_fail files natives failure.NoMemory fails = tt
 raw_files_fail files natives (failure.Fault fault) fails =
     ap (λ (r : Result Held LoadFault). r >>= live_behind natives) fails
 
--- what is loaded is what is held, with marks
-abbrev with_marks : LoadMarks → Platform → Held → Loaded
+-- the loaded files are the held ones, with marks
+abbrev with_marks : List UnreadPattern → Platform → Held → Loaded
 with_marks marks platform held = record {
   scopes = held.scopes;
   bindings = sources_by marks platform held.rules;
   handlers = handlers_of held.rules.extensions;
 }
 
-fails_behind : (held : Result Held LoadFault) (marks : LoadMarks) (platform : Platform) (l : Loaded)
+fails_behind : (held : Result Held LoadFault) (marks : List UnreadPattern) (platform : Platform) (l : Loaded)
     (natives : List Native) (failure : Failure LoadFault) → seen (with_marks marks platform) held ≡ Ok l
     → Fails failure (raw_held natives l.handlers) → Fails failure (held >>= live_behind natives)
 fails_behind (Ok held) marks platform l natives failure h fails =
@@ -90,12 +92,12 @@ fails_behind (Ok held) marks platform l natives failure h fails =
     (sym h) fails
 fails_behind (Err fault) marks platform l natives failure h fails = cc
 
--- and so is a fault of the commands behind files that are taken
+-- a fault of the commands after accepted files is the fault of the load
 pub raw_commands_fail : (files : Files) (natives : List Native) (l : Loaded) (failure : Failure LoadFault)
-    → load.loaded (marks_told files (unread_of l.bindings)) files ≡ Ok l
+    → load.loaded (unread_of l.bindings) files ≡ Ok l
     → Fails failure (raw_held natives l.handlers) → Fails failure (raw_load_held files natives)
 raw_commands_fail files natives l failure h fails =
-    fails_behind (held_by files) _ files.platform l natives failure h fails
+    fails_behind (held_by files) (unread_of l.bindings) files.platform l natives failure h fails
 
 pub ruleset loading = (
   session_is_of,

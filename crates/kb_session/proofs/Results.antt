@@ -1,8 +1,8 @@
--- What a result has that is made of others.
+-- Properties of a result that is computed from another.
 use Rattle.std.specs.Prelude.{⊤, Result, Ok, Err, IfOk}
-use Rattle.kb_context.specs.Reading.{◌>>=◌}
+use Rattle.kb_base.specs.Reading.{◌>>=◌}
 
--- what is made of a result has a property where the result has one that brings it
+-- a computed result has a property if the result that it is computed from has one that implies it
 pub bind : {F A B : Type 0} (P : A → Type 0) (Q : B → Type 0) (r : Result A F) (f : A → Result B F) → IfOk r P
     → ((x : A) → P x → IfOk (f x) Q) → IfOk (r >>= f) Q
 bind P Q (Ok x) f h k = k x h

@@ -1,17 +1,18 @@
--- A run of events goes on, ends and stops.
+-- Runs of events: steps, ends and stops.
 use Rattle.std.proofs.Common.{◌≡◌, true, false, List, [], ◌∷◌, refl, sym, ap, ◌∙◌}
 use Rattle.std.specs.Prelude.{◌||◌}
 use Rattle.kb_session.specs.declared.fault.SessionFault.{SessionFault}
 use Rattle.kb_session.specs.declared.fault.SessionFault.TheVariants as fault
 use Rattle.kb_session.specs.Session.{took, halt, half_done, Halts, HaltsAt, FailsAt, FailsAmong}
 use Rattle.kb_session.specs.Session.{is_left, is_late}
-use Rattle.kb_session.specs.State.{State, Told, happens, reload, register, dispose, step_unless, next, out_of}
+use Rattle.kb_session.specs.State.{State, Told, happens, reload, register, dispose, step_unless, next}
+use Rattle.kb_session.specs.State.{out_of}
 use Rattle.kb_stream.specs.Fold.{Traced, nothing, fold, after_all}
 use Rattle.kb_stream.proofs.FoldLemmas.{fold-still, RunsUpTo, run_start, run_step, run_end}
 use Rattle.kb_stream.proofs.FoldLemmas.{run_stop}
 use Rattle.kb_trace.specs.declared.event.Event.TheVariants as event
 
--- a session that is stopped takes nothing
+-- a stopped session ignores all inputs
 pub stopped-fold : (told : List Told) (s : State) → s.stopped ≡ true → fold next told s ≡ nothing s
 stopped-fold = fold-still next (λ s. s.stopped ≡ true) (λ x s h. ap (λ b. out_of (step_unless b x s)) h)
 
@@ -20,7 +21,7 @@ pub stopped-all : (told : List Told) (old : Traced State) → old.state.stopped 
 stopped-all told old h = run_end next old old told told (run_start next old told)
     (stopped-fold told old.state h)
 
--- ---- which of what is told is left for a session that is stopped
+-- ---- inputs after a stop
 
 left_now : (rest : List Told) (event : Told) (s : State) → s.stopped ≡ false
     → is_left (event ∷ rest) s ≡ is_left rest (next event s).state
@@ -41,12 +42,12 @@ pub all_run : (old now : Traced State) (events : List Told) → RunsUpTo next ol
     → now ≡ after_all next events old
 all_run old now events runs = run_end next old now events [] runs refl
 
--- a run that took all of its events came in time
+-- a run that handled all its events was never stopped too early
 pub in_time : (old now : Traced State) (events : List Told) → old.state.stopped ≡ false
     → is_left events old.state ≡ is_left [] now.state → is_late events old.state ≡ false
 in_time old now events running left = ap (λ b. b || is_left events old.state) running ∙ left
 
--- a run of a session that was stopped didn't
+-- a run of a stopped session comes too late
 pub too_late : (old : Traced State) (events : List Told) → old.state.stopped ≡ true
     → is_late events old.state ≡ true
 too_late old events stopped = ap (λ b. b || is_left events old.state) stopped
@@ -61,7 +62,7 @@ halt_halts old new is = (
       (λ (s : Traced State). s.trace) is,
 )
 
--- refused memory stops a session, whatever was half done
+-- refused memory stops a session, also after an incomplete input
 pub halts_at : (told : Told) (old new : Traced State) → HaltsAt told old new
     → Halts old.state new.state × (new.trace ≡ old.trace)
 halts_at (happens (event.Key key)) old new h = h

@@ -1,13 +1,13 @@
--- A session each of whose live handlers is verified is stopped by nothing that it is told.
+-- No input stops a session with verified handlers.
 use Rattle.std.proofs.Common.{◌≡◌, ◌∙◌, refl, sym, ap, subst, Bool, true, false, List, [], ◌∷◌, ℕ}
 use Rattle.std.specs.Prelude.{Option, Some, None, option_map, Result, Ok, Err, if◌then◌else◌, bytes_eq}
 use Rattle.std.specs.Prelude.{IfSome, IsTrue, is_some}
 use Rattle.serde_json.specs.Data.{Data}
 use Rattle.kb_bindings.specs.Sources.{pressed}
 use Rattle.kb_code.specs.Handler.{HandlerData}
-use Rattle.kb_codes.specs.Callee.{Callee, declared_by}
-use Rattle.kb_codes.specs.Live.{caller_of}
-use Rattle.kb_context.specs.declared.refusal.Refusal.{Refusal}
+use Rattle.kb_code.specs.Commands.{Callee, declared_by}
+use Rattle.kb_handler_table.specs.Live.{caller_of}
+use Rattle.kb_base.specs.declared.refusal.Refusal.{Refusal}
 use Rattle.kb_core.specs.Reading.{arguments_for}
 use Rattle.kb_core.specs.Signature.{fits}
 use Rattle.kb_core.specs.declared.arg.Arg.{Arg}
@@ -15,28 +15,30 @@ use Rattle.kb_core.specs.declared.native.Native.{Native}
 use Rattle.kb_core.specs.declared.run.Core.{Core}
 use Rattle.kb_core.proofs.ReadFits.{fits-arguments_for}
 use Rattle.kb_files.specs.RuleFile.{rules_in}
-use Rattle.kb_registry.specs.Live.{Live, callee, disposal_fault, disposal_fault_of, holder, registration_fault}
+use Rattle.kb_registry.specs.Live.{Live, callee, disposal_fault, disposal_fault_of, holder}
+use Rattle.kb_registry.specs.Live.{registration_fault}
 use Rattle.kb_registry.specs.Live.{table_of}
 use Rattle.kb_registry.specs.declared.fault.RegistryFault.{RegistryFault}
 use Rattle.kb_registry.specs.declared.fault.RegistryFault.TheVariants.{InUse}
 use Rattle.kb_resolve.specs.Pressed as press
 use Rattle.kb_resolve.specs.Pressed.{Step}
 use Rattle.kb_rules.specs.RuleList.{Listed}
-use Rattle.kb_rules.specs.declared.origin.Origin.TheVariants.{User}
+use Rattle.kb_base.specs.declared.note.Origin.TheVariants.{User}
 use Rattle.kb_session.specs.Press.{press_started, rule_started}
 use Rattle.kb_session.specs.State.{State, Told, Stepped, happens, reload, register, dispose, stops}
-use Rattle.kb_session.specs.State.{taken_unless, refusal_of, reloaded, registering, disposing, disposing_unless}
+use Rattle.kb_session.specs.State.{taken_unless, refusal_of, reloaded, registering, disposing}
+use Rattle.kb_session.specs.State.{disposing_unless}
 use Rattle.kb_session.specs.State.{step_on, step_unless, RunsOn}
-use Rattle.kb_sound.specs.Sound.{IsDone}
-use Rattle.kb_sound.specs.Stays.{IsSound}
-use Rattle.kb_sound.proofs.NeverStuck.{starts_never_stuck}
-use Rattle.kb_sound.proofs.Stays.{registered_stays_sound}
-use Rattle.kb_sound.proofs.Disposals.{disposed_stays_sound}
-use Rattle.kb_start.specs.RunCommands.{Planned, plan_of, run_commands}
-use Rattle.kb_start.specs.Start.{Started, and_then, ran, run_all, run_one, run_plan, start_live, start_of}
-use Rattle.kb_start.specs.Start.{started_as, started_with}
-use Rattle.kb_start.specs.declared.start.Finish.{Finish}
-use Rattle.kb_start.specs.declared.start.Finish.TheVariants.{Done, NotFound, BadArguments, Trapped}
+use Rattle.kb_soundness.specs.Sound.{IsDone}
+use Rattle.kb_soundness.specs.Stays.{IsSound}
+use Rattle.kb_soundness.proofs.NeverStuck.{starts_never_stuck}
+use Rattle.kb_soundness.proofs.Stays.{registered_stays_sound}
+use Rattle.kb_soundness.proofs.Disposals.{disposed_stays_sound}
+use Rattle.kb_execute.specs.RunCommands.{Planned, plan_of, run_commands}
+use Rattle.kb_execute.specs.Start.{Started, and_then, ran, run_all, run_one, run_plan, start_live, start_of}
+use Rattle.kb_execute.specs.Start.{started_as, started_with}
+use Rattle.kb_execute.specs.declared.start.Finish.{Finish}
+use Rattle.kb_execute.specs.declared.start.Finish.TheVariants.{Done, NotFound, BadArguments, Trapped}
 use Rattle.kb_trace.specs.Lines as line
 use Rattle.kb_trace.specs.declared.event.Event.{Event}
 use Rattle.kb_trace.specs.declared.event.Event.TheVariants as event
@@ -117,7 +119,7 @@ module _ (live : Live) (sound : IsSound live) where
 
 -- ---- steps
 
--- a step goes on, and each live handler stays verified
+-- a step doesn't stop the session, and each live handler stays verified
 abbrev GoesOn : Stepped → Type 0
 GoesOn p = (p.state.stopped ≡ false) × IsSound p.state.live
 

@@ -1,27 +1,27 @@
--- In a session that is loaded each live handler is verified.
+-- Each live handler of a loaded session is verified.
 use Rattle.std.proofs.Common.{◌≡◌, sym, subst, List, [], ◌∷◌, ℕ, suc, ◌+◌, map, inl, inr, arith}
 use Rattle.std.specs.Prelude.{Option, Some, None, Result, Ok, Err, IfOk}
 use Rattle.std.specs.List.{All}
-use Rattle.kb_bindings.specs.Fault.{refused_by}
+use Rattle.kb_files.specs.Fault.{refused_by}
 use Rattle.kb_bindings.specs.Load.{Files}
-use Rattle.kb_bindings.specs.declared.fault.LoadFault.{LoadFault}
-use Rattle.kb_bindings.specs.declared.fault.LoadFile.TheVariants as file
+use Rattle.kb_files.specs.declared.fault.LoadFault.{LoadFault}
+use Rattle.kb_files.specs.declared.fault.LoadFile.TheVariants as file
 use Rattle.kb_code.specs.Handler.{HandlerData}
-use Rattle.kb_codes.specs.Codes.{EachChecked, checked}
-use Rattle.kb_context.specs.Refusal.{numbered}
-use Rattle.kb_context.specs.declared.failure.Failure.{Failure}
+use Rattle.kb_handler_table.specs.Codes.{EachChecked, checked}
+use Rattle.kb_base.specs.Refusal.{numbered}
+use Rattle.kb_base.specs.declared.failure.Failure.{Failure}
 use Rattle.kb_core.specs.declared.native.Native.{Native}
 use Rattle.kb_files.specs.declared.extension_file.Extension.{Extension}
-use Rattle.kb_live.specs.Checked.{Admits, JoinAll, LiveChecked}
-use Rattle.kb_live.specs.Natives.{natives_held}
-use Rattle.kb_live.specs.Verified.{IsVerified}
+use Rattle.kb_load_commands.specs.Checked.{Admits, JoinAll, LiveChecked}
+use Rattle.kb_load_commands.specs.Natives.{natives_held}
+use Rattle.kb_load_commands.specs.Verified.{IsVerified}
 use Rattle.kb_registry.specs.Fault as registry
 use Rattle.kb_registry.specs.Live.{Live, all_registered, fresh, registered, registration_fault, unless_fault}
 use Rattle.kb_registry.specs.declared.fault.RegistryFault.{RegistryFault}
 use Rattle.kb_session.specs.Session.{IsOf, Loads, Seen}
-use Rattle.kb_sound.specs.Stays.{IsSound}
-use Rattle.kb_sound.proofs.Joins.{code_stays_sound}
-use Rattle.kb_sound.proofs.Stays.{fresh_is_sound, registered_stays_sound}
+use Rattle.kb_soundness.specs.Stays.{IsSound}
+use Rattle.kb_soundness.proofs.Joins.{code_stays_sound}
+use Rattle.kb_soundness.proofs.Stays.{fresh_is_sound, registered_stays_sound}
 use Rattle.kb_verify.specs.Accepted.{CheckedHandler}
 use Rattle.kb_verify.specs.Callable.{Commands}
 
@@ -87,7 +87,7 @@ pub loads_sound : (files : Files) (natives : List Native) (session : Seen) → I
     → IsSound session.state.live
 loads_sound files natives session is = live_sound natives _ _ session.state.live is.live
 
--- and so in what was loaded, if anything was
+-- and so for the result of a load, if it is a session
 pub all_loads_sound : (files : Files) (natives : List Native) (r : Result Seen (Failure LoadFault))
     → Loads files natives r → IfOk r (λ session. IsSound session.state.live)
 all_loads_sound files natives (Ok session) is = loads_sound files natives session is

@@ -1,26 +1,27 @@
--- The lists of unread patterns that a session tells: one more for each reload that is taken, and none changes.
+-- The lists of unread patterns of a session: each successful reload adds one, and none changes.
 use Rattle.std.proofs.Common.{◌≡◌, ℕ, Bool, true, false, List, [], ◌∷◌, ◌++◌, refl, sym, ap, ◌∙◌, append-nil}
 use Rattle.std.proofs.Common.{append_assoc}
 use Rattle.std.specs.Prelude.{Option, Some, None, Result, Ok, Err}
-use Rattle.kb_context.specs.declared.refusal.Refusal.{Refusal}
+use Rattle.kb_base.specs.declared.refusal.Refusal.{Refusal}
 use Rattle.kb_files.specs.RuleFile.{rules_in}
 use Rattle.kb_rules.specs.RuleList.{Listed}
-use Rattle.kb_rules.specs.declared.origin.Origin.TheVariants.{User}
+use Rattle.kb_base.specs.declared.note.Origin.TheVariants.{User}
 use Rattle.kb_session.specs.Session.{Halts}
 use Rattle.kb_core.specs.declared.native.Native.{Native}
 use Rattle.kb_registry.specs.Live.{registration_fault, holder}
 use Rattle.kb_registry.specs.declared.fault.RegistryFault.{RegistryFault}
-use Rattle.kb_session.specs.State.{State, Told, happens, reload, register, dispose, step, step_on, step_unless}
-use Rattle.kb_session.specs.State.{next, taken_unless, reloaded, refusal_of, registering, disposing, disposing_unless}
+use Rattle.kb_session.specs.State.{State, Told, happens, reload, register, dispose, step, step_on}
+use Rattle.kb_session.specs.State.{step_unless}
+use Rattle.kb_session.specs.State.{next, taken_unless, reloaded, refusal_of, registering, disposing}
+use Rattle.kb_session.specs.State.{disposing_unless}
 use Rattle.kb_code.specs.Handler.{HandlerData}
-use Rattle.kb_codes.specs.Live.{caller_of}
-use Rattle.kb_bindings.specs.Unread.{in_rules}
-use Rattle.kb_bindings.specs.declared.unread.UnreadIn.{UnreadIn}
+use Rattle.kb_handler_table.specs.Live.{caller_of}
+use Rattle.kb_base.specs.declared.note.UnreadPattern.{UnreadPattern}
 use Rattle.kb_stream.specs.Fold.{fold}
 use Rattle.kb_trace.specs.declared.event.Event.{Event}
 use Rattle.kb_trace.specs.declared.event.Event.TheVariants as event
 
--- an event adds none
+-- an event adds no list
 event_lists : (refusal : Option Refusal) (e : Event) (s : State) → (taken_unless refusal e s).state.unread ≡ s.unread
 event_lists (Some refusal) e s = refl
 event_lists None (event.Key key) s = refl
@@ -30,16 +31,16 @@ event_lists None (event.UnsetKey name key) s = refl
 event_lists None event.NoClosure s = refl
 event_lists None (event.Unread number) s = refl
 
--- what lists there are, and then more
-pub record Grows (old new : List (List UnreadIn)) : Type 0 where
-  pub more : List (List UnreadIn)
+-- the old lists, and then more
+pub record Grows (old new : List (List UnreadPattern)) : Type 0 where
+  pub more : List (List UnreadPattern)
   pub is : new ≡ old ++ more
 
-same_grows : (old new : List (List UnreadIn)) → new ≡ old → Grows old new
+same_grows : (old new : List (List UnreadPattern)) → new ≡ old → Grows old new
 same_grows old new same = record { more = []; is = same ∙ sym (append-nil old) }
 
 reload_grows : (rules : Result Listed Refusal) (s : State) → Grows s.unread (reloaded rules s).state.unread
-reload_grows (Ok user) s = record { more = in_rules User user.unread ∷ []; is = refl }
+reload_grows (Ok user) s = record { more = user.unread ∷ []; is = refl }
 reload_grows (Err refusal) s = same_grows s.unread s.unread refl
 
 register_lists : (fault : Option RegistryFault) (native : Native) (s : State)
@@ -71,14 +72,14 @@ unless_grows : (stopped : Bool) (told : Told) (s : State) → Grows s.unread (st
 unless_grows true told s = same_grows s.unread s.unread refl
 unless_grows false told s = on_grows told s
 
--- one step keeps what lists there are
+-- one step keeps the lists
 pub step_grows : (told : Told) (s : State) → Grows s.unread (step told s).state.unread
 step_grows told s = unless_grows s.stopped told s
 
-grows_on : (a b c : List (List UnreadIn)) → Grows a b → Grows b c → Grows a c
+grows_on : (a b c : List (List UnreadPattern)) → Grows a b → Grows b c → Grows a c
 grows_on a b c p q = record {
   more = p.more ++ q.more;
-  is = q.is ∙ ap (λ (lists : List (List UnreadIn)). lists ++ q.more) p.is ∙ append_assoc a p.more q.more;
+  is = q.is ∙ ap (λ (lists : List (List UnreadPattern)). lists ++ q.more) p.is ∙ append_assoc a p.more q.more;
 }
 
 -- and so does a run
@@ -88,6 +89,6 @@ run_grows (one ∷ told) s =
     grows_on s.unread (next one s).state.unread (fold next told (next one s).state).state.unread
     (step_grows one s) (run_grows told (next one s).state)
 
--- refused memory adds none
+-- refused memory adds no list
 pub halt_keeps : (old new : State) → Halts old new → new.unread ≡ old.unread
 halt_keeps old new halts = ap (λ (s : State). s.unread) halts

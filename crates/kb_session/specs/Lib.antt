@@ -2,3 +2,4 @@ pub mod Fault
 pub mod Press
 pub mod Session
 pub mod State
+pub mod Handled

@@ -1,86 +1,87 @@
--- What the calls of a session do to it.
+-- The effect of a session's calls.
 use Rattle.std.specs.Prelude.{◌≡◌, ◌⊎◌, ◌||◌, Bool, true, false, List, [], ◌∷◌}
 use Rattle.std.specs.Prelude.{Result, Ok, Err}
-use Rattle.kb_context.specs.Failure.{Fails}
-use Rattle.kb_context.specs.Reading.{◌>>=◌, seen}
+use Rattle.kb_base.specs.Failure.{Fails}
+use Rattle.kb_base.specs.Reading.{◌>>=◌, seen}
 use Rattle.kb_context.specs.Scopes.{ScopesData}
-use Rattle.kb_context.specs.declared.failure.Failure.{Failure}
+use Rattle.kb_base.specs.declared.failure.Failure.{Failure}
 use Rattle.kb_core.specs.declared.native.Native.{Native}
 use Rattle.kb_core.specs.declared.run.Core.{Core}
 use Rattle.kb_keys.specs.declared.keystroke.Keystroke.{Keystroke}
 use Rattle.kb_bindings.specs.Load as load
-use Rattle.kb_bindings.specs.Load.{Files, LoadMarks, held_by, handlers_of, marks_told}
+use Rattle.kb_bindings.specs.Load.{Files, held_by}
+use Rattle.kb_files.specs.Extensions.{handlers_of}
 use Rattle.kb_bindings.specs.Sources.{Sources}
 use Rattle.kb_session.specs.State.{State, Told, happens, Answered, did, refused, step, step_on, out_of, next}
 use Rattle.kb_session.specs.State.{loaded_state}
-use Rattle.kb_bindings.specs.declared.fault.LoadFault.{LoadFault}
+use Rattle.kb_files.specs.declared.fault.LoadFault.{LoadFault}
 use Rattle.kb_bindings.specs.declared.load.Loaded.{Loaded}
-use Rattle.kb_live.specs.Checked.{LiveChecked}
-use Rattle.kb_live.specs.Raw.{raw_held}
+use Rattle.kb_load_commands.specs.Checked.{LiveChecked}
+use Rattle.kb_load_commands.specs.Raw.{raw_held}
 use Rattle.kb_registry.specs.Live.{Live}
 use Rattle.kb_session.specs.declared.fault.SessionFault.{SessionFault}
 use Rattle.kb_session.specs.declared.fault.SessionFault.TheVariants.{Refused, NoMemory, Stopped}
-use Rattle.kb_bindings.specs.declared.unread.UnreadIn.{UnreadIn}
+use Rattle.kb_base.specs.declared.note.UnreadPattern.{UnreadPattern}
 use Rattle.kb_stream.specs.Fold.{Traced, after, after_all, StopsAmong}
 use Rattle.kb_stream.specs.Lines.{Begins}
 use Rattle.kb_trace.specs.declared.event.Answer.{Answer}
 use Rattle.kb_trace.specs.declared.event.Answer.TheVariants as answer
 use Rattle.kb_trace.specs.declared.event.Event.TheVariants as event
 
--- what contracts see of a session: its state, and the trace that led to it
+-- what contracts see of a session: its state and its trace
 abbrev pub Seen : Type 0
 Seen = Traced State
 
 abbrev pub loaded_session : ScopesData → Sources → Live → Seen
 loaded_session scopes sources live = record { state = loaded_state scopes sources live; trace = [] }
 
--- the first list of unread patterns that a session tells, that of its load
-abbrev pub first_list : List (List UnreadIn) → List UnreadIn
+-- the first list of unread patterns of a session, that of the load
+abbrev pub first_list : List (List UnreadPattern) → List UnreadPattern
 first_list [] = []
 first_list (told ∷ lists) = told
 
--- the marks of the load of these files, as a session tells them
-abbrev pub marks_by : Files → Seen → LoadMarks
-marks_by files session = marks_told files (first_list session.state.unread)
+-- the unread patterns of the load, as the session reports them
+abbrev pub marks_by : Seen → List UnreadPattern
+marks_by session = first_list session.state.unread
 
 -- ---- a load whose handlers are verified
 
--- a session is of these files, with closures for these natives and the handlers of extensions, all of them
--- verified, for the marks that it tells
+-- the session is loaded from these files, with the marks that it reports, with closures for these
+-- natives, and with the handlers of extensions, all of them verified
 pub record IsOf (files : Files) (natives : List Native) (session : Seen) : Type 0 where
   pub loaded : Loaded
-  pub held : load.loaded (marks_by files session) files ≡ Ok loaded
+  pub held : load.loaded (marks_by session) files ≡ Ok loaded
   pub live : LiveChecked natives loaded.bindings.extensions loaded.handlers (Ok session.state.live)
   pub is : session ≡ loaded_session loaded.scopes loaded.bindings session.state.live
 
--- the files are taken, for some marks, and their commands can't be live; no fault hangs on marks
+-- the files are accepted, but registering the commands fails; the fault doesn't depend on the marks
 pub record CommandsFail (files : Files) (natives : List Native) (failure : Failure LoadFault) : Type 0 where
-  pub marks : LoadMarks
+  pub marks : List UnreadPattern
   pub loaded : Loaded
   pub held : load.loaded marks files ≡ Ok loaded
   pub fail : LiveChecked natives loaded.bindings.extensions loaded.handlers (Err failure)
 
--- a load answered what its files load for the marks that its session tells, or the fault of a file, and else
--- that of the commands, or was refused memory
+-- the result of a load: the session that the files define, with the marks that the session reports; or
+-- the fault of a file, else that of the commands; or refused memory
 abbrev pub Loads : Files → List Native → Result Seen (Failure LoadFault) → Type 0
 Loads files natives (Ok session) = IsOf files natives session
 Loads files natives (Err failure) = Fails failure (held_by files) ⊎ CommandsFail files natives failure
 
--- ---- a load whose handlers nobody verifies
+-- ---- a load without verification of handlers
 
--- what files load, for the marks of their patterns, with closures for these natives: a session, or the first
--- fault
-abbrev pub loaded_raw : LoadMarks → Files → List Native → Result Seen LoadFault
+-- the result of loading files, with marks for their patterns and closures for these natives: a session,
+-- or the first fault
+abbrev pub loaded_raw : List UnreadPattern → Files → List Native → Result Seen LoadFault
 loaded_raw marks files natives =
     load.loaded marks files
     >>= λ l. seen (loaded_session l.scopes l.bindings) (raw_held natives l.handlers)
 
--- the same without what is loaded: no fault hangs on marks
+-- the same without the session's sources; the fault doesn't depend on marks
 abbrev pub raw_load_held : Files → List Native → Result Live LoadFault
 raw_load_held files natives = held_by files >>= λ held. raw_held natives (handlers_of held.rules.extensions)
 
 abbrev pub LoadsRaw : Files → List Native → Result Seen (Failure LoadFault) → Type 0
-LoadsRaw files natives (Ok session) = loaded_raw (marks_by files session) files natives ≡ Ok session
+LoadsRaw files natives (Ok session) = loaded_raw (marks_by session) files natives ≡ Ok session
 LoadsRaw files natives (Err failure) = Fails failure (raw_load_held files natives)
 
 -- ---- calls
@@ -89,58 +90,59 @@ abbrev pub answered : Answer → Answered
 answered answer.Did = did
 answered (answer.Refused r) = refused r
 
--- the session took what it was told
+-- the session handled an input
 abbrev pub took : Told → Seen → Seen
 took told old = after (next told old.state) old
 
--- a session that was running took what it was told, and this is its answer
+-- a running session handled an input, with this answer
 abbrev pub Answers : Told → Seen → Answered → Seen → Type 0
 Answers told old a new =
     (old.state.stopped ≡ false) × ((step told old.state).answer ≡ a) × (new ≡ took told old)
 
--- the same of a call that gives a refusal as an answer
+-- the same for a call that returns a refusal as an answer
 abbrev pub Takes : Told → Seen → Answer → Seen → Type 0
 Takes told old a new = Answers told old (answered a) new
 
--- memory was refused: the session is stopped, and all else is as it was
+-- memory was refused: the session is stopped and otherwise unchanged
 abbrev pub halt : Seen → Seen
 halt old = record old { state = record old.state { stopped = true } }
 
--- the same where a press was half done: the core and the pressed keystrokes may have changed
+-- the same after an incomplete key press: the core and the keystrokes of the chord may have changed
 abbrev pub half_done : Core → List Keystroke → State → State
 half_done core pressed s = record s { core = core; pressed = pressed; stopped = true }
 
 abbrev pub Halts : State → State → Type 0
 Halts old new = new ≡ half_done new.core new.pressed old
 
--- nothing is half done but by a press, and half an event is never in the trace
+-- only a key press can be incomplete, and the trace never has lines of an incomplete input
 abbrev pub HaltsAt : Told → Seen → Seen → Type 0
 HaltsAt (happens (event.Key key)) old new = Halts old.state new.state × (new.trace ≡ old.trace)
 HaltsAt told old new = new ≡ halt old
 
--- the fault of a call that gives a refusal as an answer: memory was refused and the session stops, or it was
--- stopped before and stays as it was
+-- the fault of a call that returns a refusal as an answer: refused memory, which stops the session, or
+-- an earlier stop, which leaves it unchanged
 abbrev pub FailsAt : SessionFault → Told → Seen → Seen → Type 0
 FailsAt (Refused refusal) told old new = ⊥
 FailsAt NoMemory told old new = (old.state.stopped ≡ false) × HaltsAt told old new
 FailsAt Stopped told old new = (old.state.stopped ≡ true) × (new ≡ old)
 
--- the fault of a call that gives a refusal as a fault
+-- the fault of a call that returns a refusal as a fault
 abbrev pub RefusesAt : SessionFault → Told → Seen → Seen → Type 0
 RefusesAt (Refused refusal) told old new = Answers told old (refused refusal) new
 RefusesAt NoMemory told old new = FailsAt NoMemory told old new
 RefusesAt Stopped told old new = FailsAt Stopped told old new
 
--- whether one of these is left for a session that is stopped, by a handler that can't go on
+-- whether a trap of a handler stops the session before the last input
 abbrev pub is_left : List Told → State → Bool
 is_left [] s = false
 is_left (told ∷ rest) s = s.stopped || is_left rest (next told s).state
 
--- whether a run meets a session that is stopped: before it, or before one of what is told
+-- whether the session is stopped before the inputs or before the last of them
 abbrev pub is_late : List Told → State → Bool
 is_late told s = s.stopped || is_left told s
 
--- the fault of a run: memory was refused in one of the events, or one of them, or the run, came too late
+-- the fault of a run of events: memory was refused in one of them, or the session was stopped before
+-- the last one
 abbrev pub FailsAmong : SessionFault → List Told → Seen → Seen → Type 0
 FailsAmong (Refused refusal) told old new = ⊥
 FailsAmong NoMemory told old new = (old.state.stopped ≡ false) × StopsAmong next Halts told old new
@@ -148,16 +150,16 @@ FailsAmong Stopped told old new = (is_late told old.state ≡ true) × (new ≡ 
 
 -- ---- for private functions
 
--- a session that is running took what it was told, and this is its answer
+-- a running session handled an input, with this answer
 abbrev pub Does : Told → Seen → Answer → Seen → Type 0
 Does told old a new =
     ((step_on told old.state).answer ≡ answered a) × (new ≡ after (out_of (step_on told old.state)) old)
 
--- nothing but lines was added
+-- the state is unchanged, and lines may have been added
 abbrev pub Undone : Seen → Seen → Type 0
 Undone old new = (new.state ≡ old.state) × Begins old.trace new.trace
 
--- a press was half done
+-- a key press is incomplete
 abbrev pub HalfDone : Seen → Seen → Type 0
 HalfDone old new =
     (new.state ≡ record old.state { core = new.state.core; pressed = new.state.pressed })

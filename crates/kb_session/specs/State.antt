@@ -1,17 +1,16 @@
--- The plain model of a session: its state, and what each thing that it is told does to it, with the lines and
--- the answer.
+-- The model of a session: its state, and for each input the next state, the trace lines and the answer.
 use Rattle.std.specs.Prelude.{◌≡◌, ℕ, ◌+◌, Bool, true, false, List, [], ◌∷◌, ◌++◌, Option}
 use Rattle.std.specs.Prelude.{Some, None, option_map}
 use Rattle.std.specs.Prelude.{Result, Ok, Err}
-use Rattle.kb_context.specs.Refusal.{refused_for}
+use Rattle.kb_base.specs.Refusal.{refused_for}
 use Rattle.kb_context.specs.ScopeFault.{number_of}
 use Rattle.kb_context.specs.Scopes.{ScopesData, place_of, set_fault, with_value, without_value}
 use Rattle.kb_context.specs.Scopes.{with_focus}
 use Rattle.kb_context.specs.declared.fault.ScopeFault.{ScopeFault}
 use Rattle.kb_context.specs.declared.fault.ScopeFault.TheVariants.{UnknownScope}
-use Rattle.kb_context.specs.declared.refusal.Refusal.{Refusal}
+use Rattle.kb_base.specs.declared.refusal.Refusal.{Refusal}
 use Rattle.kb_code.specs.Handler.{HandlerData}
-use Rattle.kb_codes.specs.Live.{caller_of}
+use Rattle.kb_handler_table.specs.Live.{caller_of}
 use Rattle.kb_core.specs.Core.{new_core, with_scopes}
 use Rattle.kb_core.specs.Native.{name_of}
 use Rattle.kb_core.specs.declared.native.Native.{Native}
@@ -22,40 +21,39 @@ use Rattle.kb_registry.specs.Fault as registry
 use Rattle.kb_registry.specs.Live.{Live, registration_fault, registered, holder, disposed}
 use Rattle.kb_registry.specs.declared.fault.RegistryFault.{RegistryFault}
 use Rattle.kb_rules.specs.RuleList.{Listed}
-use Rattle.kb_rules.specs.declared.origin.Origin.TheVariants.{User}
-use Rattle.kb_rules.specs.declared.unread.UnreadAt.{UnreadAt}
+use Rattle.kb_base.specs.declared.note.Origin.TheVariants.{User}
+use Rattle.kb_base.specs.declared.note.UnreadPattern.{UnreadPattern}
 use Rattle.kb_bindings.specs.Sources.{Sources, with_user_rules, pressed, still_pressed}
 use Rattle.kb_session.specs.Press.{press_started}
-use Rattle.kb_sound.specs.Stays.{IsSound}
-use Rattle.kb_start.specs.Start.{Started}
-use Rattle.kb_start.specs.declared.start.Finish.{Finish}
-use Rattle.kb_start.specs.declared.start.Finish.TheVariants.{Done, NotFound, BadArguments, Trapped}
-use Rattle.kb_bindings.specs.Unread.{in_rules, unread_of}
-use Rattle.kb_bindings.specs.declared.unread.UnreadIn.{UnreadIn}
+use Rattle.kb_soundness.specs.Stays.{IsSound}
+use Rattle.kb_execute.specs.Start.{Started}
+use Rattle.kb_execute.specs.declared.start.Finish.{Finish}
+use Rattle.kb_execute.specs.declared.start.Finish.TheVariants.{Done, NotFound, BadArguments, Trapped}
+use Rattle.kb_bindings.specs.Unread.{unread_of}
 use Rattle.kb_stream.specs.Fold.{Out}
 use Rattle.kb_trace.specs.Lines as line
 use Rattle.kb_trace.specs.declared.event.Event.{Event}
 use Rattle.kb_trace.specs.declared.event.Event.TheVariants as event
 
--- the patterns that aren't read are told list by list, of the load and then of each reload that was taken
+-- the unread patterns have one list for the load and one for each successful reload
 pub record State : Type 0 where
   pub core : Core
   pub sources : Sources
   pub live : Live
   pub pressed : List Keystroke
   pub stopped : Bool
-  pub unread : List (List UnreadIn)
+  pub unread : List (List UnreadPattern)
 
--- what a session is told: an event, the bytes of the user's rules, to be read anew, with the marks of
--- their patterns that aren't read, a closure for a native, to be registered, or a ticket, to be disposed of
+-- an input of a session: an event; the bytes of the user's rules for a reload, with the marks of their
+-- unread patterns; a native whose closure is registered; or a ticket to dispose of
 pub data Told : Type 0 where
   happens : Event → Told
-  reload : List ℕ → List UnreadAt → Told
+  reload : List ℕ → List UnreadPattern → Told
   register : Native → Told
   dispose : ℕ → Told
 
--- what it answers: it is done, or with the ticket of a closure that was registered, or with the closure back
--- that was disposed of; a session that was stopped is halted
+-- the answer to an input: done; the ticket of a registered closure; the closure of a disposed ticket; a
+-- refusal; or halted, if the session was already stopped
 pub data Answered : Type 0 where
   did : Answered
   ticket : ℕ → Answered
@@ -75,43 +73,43 @@ stepped s lines answer = record { state = s; lines = lines; answer = answer }
 abbrev pub out_of : Stepped → Out State
 out_of p = record { state = p.state; lines = p.lines }
 
--- a refusal changes nothing, and has its line
+-- a refusal changes nothing and has a trace line
 abbrev pub refuse : Refusal → State → Stepped
 refuse r s = stepped s (line.refused_line r ∷ []) (refused r)
 
--- the core with other scopes, and the same text
+-- the core with other scopes and the same text
 abbrev pub in_scopes : ScopesData → State → State
 in_scopes scopes s = record s { core = with_scopes s.core scopes }
 
--- the line of a chord that is left, where one is open
+-- the line of a chord that ends, if one is open
 abbrev pub left_lines : List Keystroke → List (List ℕ)
 left_lines [] = []
 left_lines (key ∷ keys) = line.left_line (key ∷ keys) ∷ []
 
--- a chord that is open is left, and then comes a line
+-- an open chord ends, and then a line follows
 abbrev pub leave : List ℕ → State → Stepped
 leave last s = stepped (record s { pressed = [] }) (left_lines s.pressed ++ last ∷ []) did
 
--- a handler that can't go on stops the session
+-- a trap of a handler stops the session
 abbrev pub stops : Finish → Bool
 stops Done = false
 stops NotFound = false
 stops BadArguments = false
 stops Trapped = true
 
--- a press starts what it starts, and leaves some keystrokes pressed
+-- a key press has an effect, and leaves some keystrokes in the chord
 abbrev pub begun : Started → List Keystroke → State → Stepped
 begun p pressed s =
     stepped (record s { core = p.core; pressed = pressed; stopped = stops p.finish }) p.lines did
 
--- a press looks at what the focus sees at that moment
+-- a key press, with the context keys that the focus sees at that moment
 abbrev pub press : Keystroke → State → Stepped
 press key s =
     let does = pressed s.pressed key s.core.scopes s.sources in
     begun (press_started (line.key_text s.pressed key) does s.live s.core)
     (still_pressed s.pressed key s.core.scopes s.sources) s
 
--- why the scopes refuse an event, if they do
+-- the fault of an event that the scopes refuse, if they do
 abbrev pub unless_known : Option ℕ → Option ScopeFault
 unless_known None = Some UnknownScope
 unless_known (Some place) = None
@@ -127,8 +125,8 @@ fault_of (event.Unread number) s = None
 abbrev pub refusal_of : Event → State → Option Refusal
 refusal_of e s = option_map (λ fault. refused_for (number_of fault)) (fault_of e s)
 
--- what an event does that the scopes take; the focus leaves a chord, and keys don't; there is nothing to be
--- registered where the host has no closure
+-- the effect of an event that the scopes accept: a change of the focus ends a chord, and changes of
+-- keys don't; if the host has no closure, the event is refused
 abbrev pub taken : Event → State → Stepped
 taken (event.Key key) s = press key s
 taken (event.Focus name) s = leave (line.focus_line name) (in_scopes (with_focus s.core.scopes name) s)
@@ -143,30 +141,30 @@ abbrev pub taken_unless : Option Refusal → Event → State → Stepped
 taken_unless None e s = taken e s
 taken_unless (Some r) e s = refuse r s
 
--- other rules of the user, whose marks are told behind those before
+-- the state with other rules of the user; their unread patterns are a new list after the earlier ones
 abbrev pub with_user : Listed → State → State
 with_user user s = record s {
   sources = with_user_rules user s.sources;
-  unread = s.unread ++ in_rules User user.unread ∷ [];
+  unread = s.unread ++ user.unread ∷ [];
 }
 
--- rules that are read anew leave the chord; a file that is refused changes nothing
+-- a successful reload ends the chord; a refused file changes nothing
 abbrev pub reloaded : Result Listed Refusal → State → Stepped
 reloaded (Ok user) s = leave line.reloaded_line (with_user user s)
 reloaded (Err r) s = refuse r s
 
--- other closures are live
+-- the state with other live commands
 abbrev pub with_live : Live → State → State
 with_live live s = record s { live = live }
 
--- a closure for a native is live from then on, unless it is refused; an open chord stays
+-- a closure for a native is registered, unless that is refused; an open chord stays
 abbrev pub registering : Option RegistryFault → Native → State → Stepped
 registering None native s =
     stepped (with_live (registered native s.live) s)
     (line.registered_line (name_of native) (s.live.made + 1) ∷ []) (ticket (s.live.made + 1))
 registering (Some fault) native s = refuse (refused_for (registry.number_of fault)) s
 
--- the closure of a ticket is live no more, unless a live handler calls its native; an open chord stays
+-- the closure of a ticket is removed, unless a live handler calls its native; an open chord stays
 abbrev pub disposing_unless : Option HandlerData → Native → ℕ → State → Stepped
 disposing_unless None native number s =
     stepped (with_live (disposed number s.live) s) (line.disposed_line (name_of native) number ∷ [])
@@ -174,12 +172,12 @@ disposing_unless None native number s =
 disposing_unless (Some caller) native number s =
     refuse (record { number = 73; detail = Some caller.command }) s
 
--- the same, if the ticket has one
+-- the same for a ticket, if a closure has it
 abbrev pub disposing : Option Native → ℕ → State → Stepped
 disposing (Some native) number s = disposing_unless (caller_of native s.live.code) native number s
 disposing None number s = refuse (refused_for 72) s
 
--- what a session does that is running
+-- the step of a running session
 abbrev pub step_on : Told → State → Stepped
 step_on (happens e) s = taken_unless (refusal_of e s) e s
 step_on (reload bytes marks) s = reloaded (rules_in marks User bytes) s
@@ -190,14 +188,14 @@ abbrev pub step_unless : Bool → Told → State → Stepped
 step_unless true told s = stepped s [] halted
 step_unless false told s = step_on told s
 
--- the step; a session that was stopped stays as it is, so a fold of steps ends at the first stop
+-- the step of a session; a stopped session stays unchanged, so a fold of steps ends at the first stop
 abbrev pub step : Told → State → Stepped
 step told s = step_unless s.stopped told s
 
 abbrev pub next : Told → State → Out State
 next told s = out_of (step told s)
 
--- what a session is loaded as
+-- the state of a new session
 abbrev pub loaded_state : ScopesData → Sources → Live → State
 loaded_state scopes sources live = record {
   core = new_core scopes;
@@ -208,7 +206,7 @@ loaded_state scopes sources live = record {
   unread = unread_of sources ∷ [];
 }
 
--- nothing that it is told stops a session each of whose live handlers is verified, and it stays one
+-- no input stops a running session with verified handlers, and its handlers stay verified
 abbrev pub RunsOn : Type 0
 RunsOn = (told : Told) (s : State) → s.stopped ≡ false → IsSound s.live
     → ((step told s).state.stopped ≡ false) × IsSound (step told s).state.live

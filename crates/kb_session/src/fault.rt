@@ -1,26 +1,26 @@
-//! Why a call of a session was refused. The numbers are the engine's own.
+//! The faults of a session's calls.
 ghost use Rattle.std.specs.Prelude.{◌≡◌};
 ghost use Rattle.kb_session.specs.Fault as fault;
 
-use kb_context::{Failure, NoMemory, Refusal};
+use kb_base::{Failure, NoMemory, Refusal};
 use std::alloc::AllocError;
 use thiserror::Error;
 
-/// Why a call of a session did nothing more.
+/// The reason why a session's call failed.
 #[derive(Debug, Drop, Error)]
 pub enum SessionFault {
-    /// What was asked is refused: nothing changed but the trace, which has the line of the refusal.
+    /// The call was refused. The state is unchanged, and the trace has the line of the refusal.
     #[error("the call is refused")]
     Refused(Refusal),
-    /// Memory was refused. From then on the session is stopped.
+    /// Memory was refused. The session is stopped from then on.
     #[error("out of memory")]
     NoMemory,
-    /// The session was stopped before.
+    /// The session was already stopped. Nothing changed.
     #[error("the session is stopped")]
     Stopped,
 }
 
-/// The fault that a failure is, or refused memory. It takes no memory.
+/// Splits a failure: `Ok` with the fault, or `Err` for refused memory.
 pub(crate) fn fault_in<F>(failure: Failure<F>) -> Result<F, NoMemory>
     ensures { result ≡ fault.fault_in failure }
 {
@@ -31,7 +31,8 @@ pub(crate) fn fault_in<F>(failure: Failure<F>) -> Result<F, NoMemory>
 }
 
 impl SessionFault {
-    /// The number under which the engine lists the fault. It takes no memory.
+    /// The number of the fault in the table of faults: that of the refusal, 5 for `NoMemory`, 97 for
+    /// `Stopped`. (Our decision.)
     pub fn number(&self) -> u32
         ensures { result ≡ fault.session_number self.now }
     {

@@ -1,8 +1,9 @@
-//! What callers may rely on of sessions whose handlers are verified.
+//! Theorems about sessions with verified handlers.
 ghost use Rattle.kb_session.specs.State.{RunsOn};
 
-/// Nothing that it is told stops a session each of whose live handlers is verified, as one that
-/// `Session::load` gives, and it stays one: no handler ever gets stuck, and only refused memory stops it.
+/// If each live handler is verified, as in a session from `Session::load`, then no input stops a
+/// running session, and each live handler stays verified. No handler ever traps, so only refused memory
+/// stops the session.
 pub fn runs_on_when_verified()
     ensures { RunsOn }
 {}

@@ -1,26 +1,26 @@
-//! A press: the rule that it starts, and the lines of that.
+//! Key presses: the search for a rule, the start of its command, and the trace lines.
 ghost use Rattle.std.specs.Prelude.{◌≡◌, [], ◌∷◌, ◌++◌, IfOk, OnOk, OnErr, option_map, string_bytes};
 ghost use Rattle.serde_json.specs.View.{view};
 ghost use Rattle.kb_stream.specs.Lines.{Begins};
 ghost use Rattle.kb_bindings.specs.Sources.{pressed, still_pressed};
-ghost use Rattle.kb_start.specs.declared.start.Finish.TheVariants.{Done};
+ghost use Rattle.kb_execute.specs.declared.start.Finish.TheVariants.{Done};
 ghost use Rattle.kb_session.specs.Press.{press_started, rule_started};
 ghost use Rattle.kb_trace.specs.Lines as line;
 
+use kb_base::NoMemory;
 use kb_bindings::Bindings;
-use kb_context::NoMemory;
+use kb_execute::{Finish, HeldCore, start_command};
 use kb_keys::Keystroke;
 use kb_registry::{HostCommand, Registry};
 use kb_resolve::{ChordState, Pressed};
 use kb_rules::{Json, Rule};
-use kb_start::{Finish, HeldCore, start_command};
 use kb_stream::Lines;
 use kb_trace::lines;
 use serde_json::Value;
 use std::alloc::Global;
 
-/// Presses a key, which may start a rule's command, and adds the lines of that. Where memory is refused,
-/// the old lines still come first.
+/// Presses a key, which may start the command of a rule, and adds the trace lines. On `NoMemory` the
+/// old lines are still there, before any new ones.
 #[tactic(auto, using(kb_stream::proofs::Undoing::undoing))]
 pub(crate) fn press_key<C: HostCommand>(
     alloc: Global,
@@ -53,7 +53,7 @@ pub(crate) fn press_key<C: HostCommand>(
     }
 }
 
-/// Adds the line that a text begins and another one ends: nothing starts.
+/// Adds a line that consists of the two texts. No command starts.
 fn done_with(trace: &mut Lines, text: String, end: &str) -> Result<Finish, NoMemory>
     ensures ok { OnOk result (trace.new ≡ trace.old ++ (string_bytes text ++ end.now) ∷ []) }
     ensures finish { IfOk result (λ finish. finish ≡ Done) }
@@ -63,7 +63,7 @@ fn done_with(trace: &mut Lines, text: String, end: &str) -> Result<Finish, NoMem
     Ok(Finish::Done)
 }
 
-/// Starts the command of a rule, and adds its lines, the first of which begins with a text.
+/// Starts the command of a rule, and adds its trace lines. The first line begins with `text`.
 #[tactic(auto, using(kb_stream::proofs::Undoing::undoing_behind))]
 fn start_rule<C: HostCommand>(
     alloc: Global,
@@ -93,7 +93,7 @@ fn start_rule<C: HostCommand>(
     start_command(alloc, command, given, registry, core, trace)
 }
 
-/// The value that is given with a command, lent. It takes no memory.
+/// The JSON value of a rule's arguments, or `None` if it has none.
 fn value_of(given: Option<&Json>) -> Option<&Value>
     ensures { option_map (λ v. view v.now) result ≡ option_map (λ json. json.now) given.entry }
 {

@@ -1,15 +1,15 @@
-//! A session: its state, what it is told and does, and the trace of that.
+//! A session: its state, its calls, and its trace.
 ghost use Rattle.std.specs.Prelude.{◌≡◌, false, [], ◌∷◌, ◌++◌, take, map};
 ghost use Rattle.std.specs.Prelude.{OnOk, OnErr, IfOk, IfErr};
-ghost use Rattle.kb_context.specs.Refusal.{refused_for};
+ghost use Rattle.kb_base.specs.Refusal.{refused_for};
 ghost use Rattle.kb_context.specs.ScopeFault.{number_of};
 ghost use Rattle.kb_rules.specs.RuleList.{AreRightlyMarked};
 ghost use Rattle.kb_bindings.specs.Load.{files_of, MarksAreRight};
 ghost use Rattle.kb_bindings.specs.Unread.{unread_of};
-ghost use Rattle.kb_context.specs.declared.failure.Failure.TheVariants as failure;
+ghost use Rattle.kb_base.specs.declared.failure.Failure.TheVariants as failure;
 ghost use Rattle.kb_session.specs.Session.{Loads, LoadsRaw, Takes, Does, halt, Undone, HalfDone};
 ghost use Rattle.kb_session.specs.Session.{loaded_session};
-ghost use Rattle.kb_sound.specs.Stays.{IsSound};
+ghost use Rattle.kb_soundness.specs.Stays.{IsSound};
 ghost use Rattle.kb_session.specs.Session.{FailsAt, FailsAmong, is_late};
 ghost use Rattle.kb_bindings.specs.Sources.{source_of};
 ghost use Rattle.kb_session.specs.State.{happens, reload, next, left_lines, with_user, stops};
@@ -19,19 +19,19 @@ ghost use Rattle.kb_stream.specs.Fold.{after_all};
 ghost use Rattle.kb_trace.specs.Lines as line;
 
 use crate::fault::{SessionFault, fault_in};
+use crate::handled::{Handled, started_nothing};
 use crate::press::press_key;
-use kb_bindings::{
-    Bindings, Inputs, LoadFault, Loaded, UnreadIn, Warning, load_files, unread_rules,
-};
-use kb_context::{ContextValue, Failure, NoMemory, Refusal, ScopeFault, Scopes, Seq};
+use kb_base::{Failure, NoMemory, Refusal, Seq, UnreadPattern, Warning};
+use kb_bindings::{Bindings, Loaded, load_files, unread_rules};
+use kb_context::{ContextValue, ScopeFault, Scopes};
 use kb_core::Core;
-use kb_files::read_rules;
+use kb_execute::{Finish, HeldCore};
+use kb_files::{Inputs, LoadFault, read_rules};
 use kb_keys::Keystroke;
-use kb_live::{checked_commands, raw_commands};
+use kb_load_commands::{checked_commands, raw_commands};
 use kb_registry::{HostCommand, Registry};
 use kb_resolve::ChordState;
 use kb_rules::{Origin, RuleList};
-use kb_start::{Finish, HeldCore};
 use kb_stream::Lines;
 use kb_trace::{Answer, Event, lines};
 use std::alloc::Global;
@@ -40,13 +40,14 @@ use std::marker::Model;
 
 mod closures;
 
-/// A session of the engine, over the host's closures for native commands. Contracts see its state (the core
-/// with its text and scopes, what binds keys, which natives have a closure that is live, the
-/// keystrokes of the chord that is open, whether it is stopped, and which patterns weren't read in the
-/// load and in each reload), and the trace that led to it. Once
-/// memory was refused, or a handler couldn't go on, it is stopped for good: each later call answers
-/// `Stopped`, and `trace` gives the lines up to the one call that was refused memory, or up to the handler's
-/// trap.
+/// A session of the engine, with the host's closures for native commands. Contracts see its state and
+/// its trace. The state consists of the core with its text and scopes, the sources of the key bindings,
+/// the live commands, the keystrokes of the open chord, whether the session is stopped, and the unread
+/// patterns of the load and of each reload.
+///
+/// Refused memory or a trap of a handler stops the session for good. Each later call returns `Stopped`.
+/// The trace then ends with the line of the trap, or with the last line before the call that was
+/// refused memory.
 #[derive(Drop)]
 pub struct Session<C: HostCommand> {
     core: HeldCore,
@@ -54,7 +55,7 @@ pub struct Session<C: HostCommand> {
     registry: Registry<C>,
     chord: ChordState,
     stopped: bool,
-    unread: Seq<Seq<UnreadIn>>,
+    unread: Seq<Seq<UnreadPattern>>,
     trace: Lines,
     alloc: Global,
 }
@@ -65,10 +66,9 @@ impl<C: HostCommand> Model for Session<C> {
     ghost use Rattle.kb_files.specs.contracts.extension_file.Extension as extension;
     ghost use Rattle.kb_rules.specs.contracts.removal.Removal as removal;
     ghost use Rattle.kb_rules.specs.contracts.rule.Rule as rule;
-    ghost use Rattle.kb_rules.specs.contracts.unread.UnreadAt as marks;
-    ghost use Rattle.kb_rules.specs.contracts.warning.Warning as warning;
+    ghost use Rattle.kb_base.specs.contracts.note.UnreadPattern as marks;
+    ghost use Rattle.kb_base.specs.contracts.note.Warning as warning;
     ghost use Rattle.kb_session.specs.State.{State};
-    ghost use Rattle.kb_bindings.specs.contracts.unread.UnreadIn as told;
     ghost use Rattle.kb_stream.specs.Fold.{Traced};
 
     ghost Value = { Traced State };
@@ -81,7 +81,6 @@ impl<C: HostCommand> Model for Session<C> {
       removal.the_row.coded,
       warning.the_row.coded,
       marks.the_row.coded,
-      told.the_row.coded,
     ) };
 
     ghost view = { λ s. record {
@@ -98,19 +97,26 @@ impl<C: HostCommand> Model for Session<C> {
 }
 
 impl<C: HostCommand> Session<C> {
-    /// A session of these files, without text and trace, in which these closures are registered in order,
-    /// with the tickets from 1 on, and then the handlers of the extensions' files of handlers in load order,
-    /// each verified against what its extension may call: the live natives, the handlers of the extensions
-    /// that it depends on, and its own (our decision). All extensions are enabled. At most 1,000,000 closures
-    /// are registered in a session's life (our decision).
+    /// Creates a session from these files, with an empty text and an empty trace. It registers the
+    /// closures in order, with tickets from 1 on, and then the handlers of the extensions' handler
+    /// files, in load order. Each handler is verified against the commands that its extension may call:
+    /// the live native commands, the handlers of the extensions that it depends on, and its own
+    /// handlers. All extensions are enabled. A session allows at most 1,000,000 registrations of
+    /// closures. (The verification, the limit and the order of the errors are our decisions.)
     ///
-    /// Errors: the first file that is refused, and why, in this order (our decision): the layout (1 to 4, 40,
-    /// 41, 21, 22), the default rules, the user's rules (1 to 4, 41 each), more than 100 extensions (44), for
-    /// each extension in load order its manifest (1 to 4, 40, 41) and its file of handlers (1 to 4, 40 to 44,
-    /// 50 to 52), an extension that repeats the identifier of an earlier one (91), one that depends on an
-    /// extension that isn't before it (90), two closures for one native (70), then for each extension in load
-    /// order the first handler that isn't accepted (60 to 69, with its command and place) and a handler whose
-    /// name is taken (70); or refused memory. The closures are then dropped.
+    /// Errors: refused memory, or the first fault, with its file, in this order:
+    /// - the layout: 1 to 4, 40, 41, 21, 22
+    /// - the default rules, and then the user's rules: 1 to 4, 41 each
+    /// - more than 100 extensions: 44
+    /// - for each extension in load order its manifest: 1 to 4, 40, 41; and its handler file: 1 to 4,
+    ///   40 to 44, 50 to 52
+    /// - an extension with the identifier of an earlier one: 91
+    /// - an extension that depends on an extension that isn't loaded before it: 90
+    /// - two closures for one native command: 70
+    /// - for each extension in load order the first handler that the verifier rejects: 60 to 69, with
+    ///   its command and place; and a handler whose name is taken: 70
+    ///
+    /// On an error the closures are dropped.
     #[tactic(auto, using(crate::proofs::LoadLemmas::loading, crate::proofs::SoundLoads::loads_sound))]
     pub fn load(
         alloc: Global,
@@ -119,10 +125,11 @@ impl<C: HostCommand> Session<C> {
     ) -> Result<Session<C>, Failure<LoadFault>>
         ensures read { Loads (files_of inputs.entry) (map C.stands_for natives.items) result }
 
-        // A pattern is told as unread only where `regex` doesn't read it, and isn't told only where it does.
+        // A pattern is reported as unread only if `regex` rejects it, for its syntax or for its depth
+        // of nesting. Each pattern with a syntax that `regex` rejects is reported.
         ensures right { IfOk result (λ session. MarksAreRight (files_of inputs.entry) session.state.sources) }
 
-        // Each live handler is verified, so that only refused memory stops the session (`laws`).
+        // Each live handler is verified, so only refused memory stops the session (`laws`).
         ensures sound { IfOk result (λ session. IsSound session.state.live) }
     {
         let Loaded {
@@ -133,16 +140,18 @@ impl<C: HostCommand> Session<C> {
         match checked_commands(alloc, natives, bindings.extensions(), handlers) {
             Ok(registry) => Session::begun(alloc, scopes, bindings, registry),
             Err(failure) => {
-                // (written down, since it is dropped by a call then, and not part by part in each proof)
+                // Explicit, so the value is dropped by a call, and the proofs don't drop it field by
+                // field.
                 drop(bindings);
                 Err(failure)
             }
         }
     }
 
-    /// The same, but that nobody verifies the handlers. One that can't go on stops the session.
+    /// Creates a session as `load` does, but without the verification of handlers. A handler that traps
+    /// stops the session.
     ///
-    /// Errors: as those of `load`, without 60 to 69.
+    /// Errors: those of `load`, except 60 to 69.
     #[tactic(auto, using(crate::proofs::LoadLemmas::loading))]
     pub fn load_raw(
         alloc: Global,
@@ -166,7 +175,7 @@ impl<C: HostCommand> Session<C> {
         }
     }
 
-    /// A session with these scopes, bindings and commands, without text and trace.
+    /// A session with these scopes, bindings and commands, with an empty text and an empty trace.
     fn begun(
         alloc: Global,
         scopes: Scopes,
@@ -192,8 +201,7 @@ impl<C: HostCommand> Session<C> {
         })
     }
 
-    /// Ends the session: its trace stays, and all else that it has is dropped, its closures among it. It
-    /// takes no memory.
+    /// Ends the session and returns its trace. Everything else is dropped, also the closures.
     pub fn into_trace(self) -> Lines
         ensures { result ≡ self.trace }
     {
@@ -206,62 +214,78 @@ impl<C: HostCommand> Session<C> {
         trace
     }
 
-    /// All lines that the session has written, the first first. It takes no memory.
+    /// All trace lines so far, in order.
     pub fn trace(&self) -> &Lines
         ensures { result.now ≡ self.now.trace }
     {
         &self.trace
     }
 
-    /// What is said of the entries of the files as they stand: of the default rules, of the extensions in
-    /// load order, of each its commands, its rules and its items of the palette, and of the user's rules. It
-    /// takes no memory.
+    /// The warnings for single entries of the current files, in this order: the default rules, the
+    /// extensions in load order (for each its commands, its rules and its palette items), and the
+    /// user's rules.
     pub fn warnings(&self) -> &[Warning]
         ensures { result.now ≡ warnings_of self.now.state.sources }
     {
         self.bindings.warnings()
     }
 
-    /// How messages name the file of an entry: `defaults`, `user`, or the extension's identifier as its
-    /// manifest spells it. It takes no memory.
+    /// The name of an entry's file in messages: `defaults`, `user`, or the identifier of the extension
+    /// as its manifest spells it.
     pub fn source(&self, origin: Origin) -> &str
         ensures { result.now ≡ source_of self.now.state.sources origin }
     {
         self.bindings.source(origin)
     }
 
-    /// The patterns of clauses that weren't read, of the files of the load and then of the rules of each
-    /// reload that was taken, each list in the order of `warnings`: with the bytes that it was told, these
-    /// determine what the session does. It takes no memory.
-    pub fn unread(&self) -> &[Seq<UnreadIn>]
+    /// The unread patterns (those that `regex` rejects): one list for the files of the load, and one
+    /// for the user's rules of each successful reload. Each list has the order of `warnings`. Together
+    /// with the inputs these lists determine what the session does.
+    pub fn unread(&self) -> &[Seq<UnreadPattern>]
         ensures { result.now ≡ self.now.state.unread }
     {
         self.unread.as_slice()
     }
 
-    /// Whether memory was refused or a handler couldn't go on, so that each call answers `Stopped`. It takes
-    /// no memory.
+    /// Whether the session is stopped, after refused memory or a trap of a handler. Each call then
+    /// returns `Stopped`.
     pub fn is_stopped(&self) -> bool
         ensures { result ≡ self.now.state.stopped }
     {
         self.stopped
     }
 
-    /// Stops the session, as refused memory does: a caller that was refused memory for what it was
-    /// to tell the session stops it, so that no later line follows one that is missing. It takes no
-    /// memory.
+    /// Stops the session, as refused memory does. A caller that was refused memory while it prepared an
+    /// input calls it, so the trace has no lines after a missing input.
     pub fn stop(&mut self)
         ensures { self.new ≡ halt self.old }
     {
         self.stopped = true;
     }
 
-    /// Handles one event. A handler that can't go on has its line, and stops the session (our decision).
+    /// Handles one event. A change of the focus ends an open chord, and a change of a key doesn't. A
+    /// handler that traps has its trace line, and stops the session. (These are our decisions.)
     ///
-    /// Errors: `Stopped` where the session was stopped before; `NoMemory` where memory was refused: the
-    /// session is stopped and else as before, but for the core and the chord where the event is a press.
+    /// Errors: `Stopped` if the session was already stopped; `NoMemory` if memory was refused. Then the
+    /// session is stopped and otherwise unchanged, except for the core and the chord if the event is a
+    /// key press.
     pub fn handle(&mut self, event: Event) -> Result<Answer, SessionFault>
         ensures ok { IfOk result (λ answer. Takes (happens event) self.old answer self.new) }
+        ensures err { IfErr result (λ fault. FailsAt fault (happens event) self.old self.new) }
+    {
+        match self.handle_fully(event) {
+            Ok(handled) => Ok(handled.answer),
+            Err(fault) => Err(fault),
+        }
+    }
+
+    /// Handles one event as `handle` does, and also returns how a command that it started ended.
+    ///
+    /// Errors: those of `handle`.
+    #[tactic(auto, using(crate::proofs::Stopping::stopping))]
+    pub fn handle_fully(&mut self, event: Event) -> Result<Handled, SessionFault>
+        ensures ok { IfOk result (λ handled. Takes (happens event) self.old handled.answer self.new) }
+        ensures stops { IfOk result (λ handled. self.new.state.stopped ≡ stops handled.finish) }
         ensures err { IfErr result (λ fault. FailsAt fault (happens event) self.old self.new) }
     {
         if self.stopped {
@@ -270,29 +294,34 @@ impl<C: HostCommand> Session<C> {
         let mark = self.trace.len();
         let done = match event {
             Event::Key(key) => self.press(key),
-            Event::Focus(scope) => self.focus(scope.as_str()),
-            Event::SetKey(scope, key, value) => self.set_key(scope.as_str(), key.as_str(), value),
-            Event::UnsetKey(scope, key) => self.unset_key(scope.as_str(), key.as_str()),
-            Event::NoClosure => self.note_no_closure(),
-            Event::Unread(number) => self.note_unread(number),
+            Event::Focus(scope) => started_nothing(self.focus(scope.as_str())),
+            Event::SetKey(scope, key, value) => {
+                started_nothing(self.set_key(scope.as_str(), key.as_str(), value))
+            }
+            Event::UnsetKey(scope, key) => started_nothing(self.unset_key(
+                scope.as_str(),
+                key.as_str(),
+            )),
+            Event::NoClosure => started_nothing(self.note_no_closure()),
+            Event::Unread(number) => started_nothing(self.note_unread(number)),
         };
         match done {
-            Ok(answer) => Ok(answer),
+            Ok(handled) => Ok(handled),
             Err(_) => Err(self.halted_at(mark)),
         }
     }
 
-    /// Reads the user's rules anew, from the bytes of their file. Rules that are taken leave a chord
-    /// that is open (our decision). A file that is refused changes nothing but the trace.
+    /// Reads the user's rules again, from the bytes of their file. A successful reload ends an open
+    /// chord (our decision). A refused file changes nothing but the trace.
     ///
-    /// Errors: `Stopped` where the session was stopped before; `NoMemory` where memory was refused: the
-    /// session is stopped and else as before.
+    /// Errors: `Stopped` if the session was already stopped; `NoMemory` if memory was refused. Then the
+    /// session is stopped and otherwise unchanged.
     pub fn reload_user(&mut self, bytes: &[u8]) -> Result<Answer, SessionFault>
         ensures ok { IfOk result (λ answer.
             Takes (reload bytes.now self.new.state.sources.user.unread) self.old answer self.new) }
         ensures err { IfErr result (λ fault. FailsAt fault (reload bytes.now []) self.old self.new) }
 
-        // The marks of the user's rules stay right.
+        // The marks of the user's rules stay correct.
         ensures right { AreRightlyMarked self.old.state.sources.user
             → AreRightlyMarked self.new.state.sources.user }
     {
@@ -308,9 +337,9 @@ impl<C: HostCommand> Session<C> {
 
     /// Handles the events in order.
     ///
-    /// Errors: `Stopped` where the session was stopped before, or a handler that couldn't go on stopped it
-    /// and an event is left; `NoMemory` where memory was refused in an event: no later one is handled, and
-    /// the session is stopped.
+    /// Errors: `Stopped` if the session was already stopped, or if a trap of a handler stopped it
+    /// before the last event; `NoMemory` if memory was refused in an event. Then no later event is
+    /// handled, and the session is stopped.
     #[tactic(auto, using(crate::proofs::Runs::progress))]
     pub fn run(&mut self, events: Vec<Event>) -> Result<(), SessionFault>
         ensures running { OnOk result (is_late (map happens events.items) self.old.state ≡ false) }
@@ -327,7 +356,7 @@ impl<C: HostCommand> Session<C> {
         Ok(())
     }
 
-    /// Takes back all lines but the first ones, and stops the session.
+    /// Truncates the trace to its first `mark` lines, and stops the session.
     fn halted_at(&mut self, mark: usize) -> SessionFault
         ensures session { self.new ≡ halt (record self.old { trace = take mark self.old.trace }) }
         ensures fault { result ≡ NoMemory }
@@ -336,7 +365,7 @@ impl<C: HostCommand> Session<C> {
         self.halted()
     }
 
-    /// Stops the session, since memory was refused.
+    /// Stops the session after refused memory.
     fn halted(&mut self) -> SessionFault
         ensures session { self.new ≡ halt self.old }
         ensures fault { result ≡ NoMemory }
@@ -345,8 +374,10 @@ impl<C: HostCommand> Session<C> {
         SessionFault::NoMemory
     }
 
-    fn press(&mut self, key: Keystroke) -> Result<Answer, NoMemory>
-        ensures ok { IfOk result (λ answer. Does (happens (Event.Key key)) self.old answer self.new) }
+    fn press(&mut self, key: Keystroke) -> Result<Handled, NoMemory>
+        ensures ok { IfOk result (λ handled.
+            Does (happens (Event.Key key)) self.old handled.answer self.new) }
+        ensures stops { IfOk result (λ handled. self.new.state.stopped ≡ stops handled.finish) }
         ensures err { OnErr result (HalfDone self.old self.new) }
     {
         let finish = press_key(
@@ -359,11 +390,14 @@ impl<C: HostCommand> Session<C> {
             &mut self.trace,
         )?;
         self.stopped = stops(finish);
-        Ok(Answer::Did)
+        Ok(Handled {
+            answer: Answer::Did,
+            finish,
+        })
     }
 
-    /// Gives the focus to a scope. A chord that is open is left (our decision). The lines come first, since
-    /// they take memory and the rest doesn't.
+    /// Sets the focus to a scope. An open chord ends. The lines are written first, since only they
+    /// allocate.
     #[tactic(auto, using(kb_stream::proofs::Undoing::undoing))]
     fn focus(&mut self, scope: &str) -> Result<Answer, NoMemory>
         ensures ok { IfOk result (λ answer. Does (happens (Event.Focus scope.now)) self.old answer self.new) }
@@ -381,8 +415,8 @@ impl<C: HostCommand> Session<C> {
         }
     }
 
-    /// Gives a key a value in a scope. A chord that is open stays (our decision). The line comes first, since
-    /// what is done can't be undone.
+    /// Sets a key in a scope. An open chord stays open. The line is written first, since the change of
+    /// the scopes can't be undone.
     #[tactic(auto, using(kb_stream::proofs::Undoing::undoing))]
     fn set_key(&mut self, scope: &str, key: &str, value: ContextValue) -> Result<Answer, NoMemory>
         ensures ok { IfOk result (λ answer.
@@ -397,8 +431,8 @@ impl<C: HostCommand> Session<C> {
         }
     }
 
-    /// Takes a key out of a scope. A chord that is open stays (our decision). The line comes first, since it
-    /// takes memory and the rest doesn't.
+    /// Removes a key from a scope. An open chord stays open. The line is written first, since only it
+    /// allocates.
     #[tactic(auto, using(kb_stream::proofs::Undoing::undoing))]
     fn unset_key(&mut self, scope: &str, key: &str) -> Result<Answer, NoMemory>
         ensures ok { IfOk result (λ answer.
@@ -413,7 +447,7 @@ impl<C: HostCommand> Session<C> {
         }
     }
 
-    /// Notes that the host has no closure to be registered (98).
+    /// Reports that the host has no closure to register (98).
     #[tactic(auto, using(kb_stream::proofs::Undoing::undoing))]
     fn note_no_closure(&mut self) -> Result<Answer, NoMemory>
         ensures ok { IfOk result (λ answer. Does (happens Event.NoClosure) self.old answer self.new) }
@@ -431,7 +465,7 @@ impl<C: HostCommand> Session<C> {
         Ok(Answer::Did)
     }
 
-    /// Notes that a chord is left, if one is open.
+    /// Adds the line of a chord that ends, if one is open.
     fn note_leaving(&mut self) -> Result<(), NoMemory>
         ensures ok { OnOk result
             (self.new ≡ record self.old { trace = self.old.trace ++ left_lines self.old.state.pressed }) }
@@ -444,7 +478,7 @@ impl<C: HostCommand> Session<C> {
         lines::left_line(&mut self.trace, pressed)
     }
 
-    /// Notes that the user's rules were read anew, which leaves a chord.
+    /// Adds the lines of a reload of the user's rules, which ends an open chord.
     #[tactic(auto, using(kb_stream::proofs::Undoing::undoing))]
     fn note_reload(&mut self) -> Result<(), NoMemory>
         ensures ok { OnOk result (self.new ≡ record self.old {
@@ -456,7 +490,7 @@ impl<C: HostCommand> Session<C> {
         lines::reloaded_line(&mut self.trace)
     }
 
-    /// Takes back all lines but the first ones, and notes the line of a refusal in their place.
+    /// Truncates the trace to its first `mark` lines, and adds the line of a refusal.
     fn refuse_instead(&mut self, mark: usize, fault: ScopeFault) -> Result<Answer, NoMemory>
         ensures answer { IfOk result (λ answer. answer ≡ Answer.Refused (refused_for (number_of fault))) }
         ensures ok { OnOk result (self.new ≡ record self.old {
@@ -468,7 +502,7 @@ impl<C: HostCommand> Session<C> {
         self.refuse(Refusal::of(fault.number()))
     }
 
-    /// Notes the line of a refusal.
+    /// Adds the line of a refusal.
     fn refuse(&mut self, refusal: Refusal) -> Result<Answer, NoMemory>
         ensures answer { IfOk result (λ answer. answer ≡ Answer.Refused refusal) }
         ensures ok { OnOk result
@@ -496,7 +530,7 @@ impl<C: HostCommand> Session<C> {
         }
     }
 
-    /// Takes rules of the user in the place of those that it has. What takes memory comes first.
+    /// Replaces the user's rules. Everything that allocates is done first.
     #[tactic(auto, using(kb_stream::proofs::Undoing::undoing))]
     fn take_rules(&mut self, user: RuleList) -> Result<(), NoMemory>
         ensures ok { OnOk result (self.new ≡ record self.old {
@@ -506,7 +540,7 @@ impl<C: HostCommand> Session<C> {
         ensures err { OnErr result (Undone self.old self.new) }
     {
         self.note_reload()?;
-        let unread = unread_rules(self.alloc, Origin::User, &user)?;
+        let unread = unread_rules(self.alloc, &user)?;
         let renewed = self.bindings.renewed(self.alloc, user)?;
         self.unread.push(unread)?;
         self.chord.leave();
@@ -515,8 +549,8 @@ impl<C: HostCommand> Session<C> {
     }
 }
 
-/// The lists of unread patterns that a session has at first: that of its load.
-fn first_list(alloc: Global, bindings: &Bindings) -> Result<Seq<Seq<UnreadIn>>, NoMemory>
+/// The lists of unread patterns of a new session: one list, for the load.
+fn first_list(alloc: Global, bindings: &Bindings) -> Result<Seq<Seq<UnreadPattern>>, NoMemory>
     ensures { IfOk result (λ lists. lists ≡ unread_of bindings.now ∷ []) }
 {
     let mut lists = Seq::new(alloc);
@@ -524,7 +558,7 @@ fn first_list(alloc: Global, bindings: &Bindings) -> Result<Seq<Seq<UnreadIn>>, 
     Ok(lists)
 }
 
-/// Whether a start that ended so stops the session. It takes no memory.
+/// Whether a command that ended in this way stops the session.
 fn stops(finish: Finish) -> bool
     ensures { result ≡ stops finish }
 {

@@ -1,4 +1,5 @@
--- Lines as one text: a line more, fewer lines, a line and the rest of the lines.
+-- Lemmas on lines as one text: adding a line, truncating, and cutting out one line or all lines from an
+-- index on.
 use Rattle.std.proofs.Common.{◌≡◌, ℕ, ◌+◌, ◌-◌, ◌<◌, ◌≤◌, zero, suc, List, [], ◌∷◌, ◌++◌, refl, sym, ap, ◌∙◌}
 use Rattle.std.proofs.Common.{append_assoc, append-nil, length, take, drop, get_or, subst, arith}
 use Rattle.std.specs.Prelude.{Some, slice_get}

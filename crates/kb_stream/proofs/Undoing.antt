@@ -1,4 +1,4 @@
--- Lines that go back to what they were.
+-- Lines that are truncated to what they were before.
 use Rattle.std.proofs.Common.{◌≡◌, ℕ, List, ◌++◌, sym, ap, ◌∙◌, length, take, drop, append-nil, append_assoc}
 use Rattle.std.proofs.Common.{[]}
 use Rattle.std.proofs.Math.Seq.{take-append_seam}

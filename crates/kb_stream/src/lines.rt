@@ -1,20 +1,20 @@
-//! Lines that are kept as one text.
+//! A list of lines, stored as one text.
 ghost use Rattle.std.specs.Prelude.{◌≡◌, ◌≤◌, [], ◌∷◌, ◌++◌, length, take, drop, OnOk, OnErr, option_map};
 ghost use Rattle.std.specs.Prelude.{◌<◌, ◌-◌, string_bytes, slice_get};
 ghost use Rattle.std.specs.List.{All};
 ghost use Rattle.std.specs.Str.{IsUtf8};
 ghost use Rattle.kb_stream.specs.Writing.{text_of_lines};
 
-use kb_context::NoMemory;
+use kb_base::NoMemory;
 use std::alloc::Global;
 use std::marker::Model;
 use std::{mem, str};
 
-/// Lines that are added at the end and lent as one text, each with a line feed behind it, so that many are
-/// written at once. Contracts see the list of the lines.
+/// A list of lines that grows at its end. The lines are stored as one text, each followed by a line feed,
+/// so that many lines can be written at once. Contracts see the list of the lines.
 ///
-/// A line is written into a text of its own first, whose memory is that of the line before (`begin_line`).
-/// So a line that memory is refused to leaves nothing behind, and none takes memory of its own for long.
+/// The caller first writes a line into a text of its own (`begin_line`) and then adds it (`push`). That
+/// text reuses the memory of the line before it. If memory runs out, the list stays as it was.
 #[derive(Drop)]
 pub struct Lines {
     text: Vec<u8>,
@@ -35,7 +35,7 @@ impl Model for Lines {
 }
 
 impl Lines {
-    /// No lines. It takes no memory.
+    /// An empty list.
     pub fn new(alloc: Global) -> Lines
         ensures { result ≡ [] }
     {
@@ -47,14 +47,14 @@ impl Lines {
         }
     }
 
-    /// How many lines there are. It takes no memory.
+    /// The number of lines.
     pub fn len(&self) -> usize
         ensures { result ≡ length self.now }
     {
         self.ends.len()
     }
 
-    /// The line at a place, counted from 0, or `None` past the last. It takes no memory.
+    /// The line at an index, counted from 0, or `None` after the last line.
     pub fn get(&self, place: usize) -> Option<&str>
         ensures { option_map (λ line. line.now) result ≡ slice_get self.now place }
     {
@@ -68,7 +68,7 @@ impl Lines {
         }
     }
 
-    /// The text of the lines from a place on, each with a line feed behind it. It takes no memory.
+    /// The text of the lines from index `place` on, each followed by a line feed.
     pub fn text_from(&self, place: usize) -> &[u8]
         requires { place ≤ length self.now }
         ensures { result.now ≡ text_of_lines (drop place self.now) }
@@ -85,7 +85,8 @@ impl Lines {
         self.text.as_slice()
     }
 
-    /// Where the line at a place begins in the text; behind the last, where the text ends.
+    /// The byte offset in the text where the line at index `place` begins. For `place` equal to `len`, the
+    /// length of the text.
     fn start_of(&self, place: usize) -> usize
         requires { place ≤ length self.now }
         ensures start { result ≡ length (text_of_lines (take place self.now)) }
@@ -97,7 +98,7 @@ impl Lines {
         self.ends[place - 1]
     }
 
-    /// An empty text to write the next line into, for `push`. It takes no memory.
+    /// An empty text for the next line. Write the line into it and pass it to `push`.
     pub fn begin_line(&mut self) -> String
         ensures empty { string_bytes result ≡ [] }
         ensures same { self.new ≡ self.old }
@@ -107,7 +108,7 @@ impl Lines {
         line
     }
 
-    /// Adds a line at the end. Without memory the lines stay as they were.
+    /// Adds a line at the end. Error: `NoMemory`; the lines are then unchanged.
     pub fn push(&mut self, line: String) -> Result<(), NoMemory>
         ensures ok { OnOk result (self.new ≡ self.old ++ string_bytes line ∷ []) }
         ensures err { OnErr result (self.new ≡ self.old) }
@@ -117,7 +118,7 @@ impl Lines {
         Ok(())
     }
 
-    /// Adds copies of other lines at the end. Without memory the lines stay as they were.
+    /// Adds copies of all lines of `more` at the end. Error: `NoMemory`; the lines are then unchanged.
     pub fn append(&mut self, more: &Lines) -> Result<(), NoMemory>
         ensures ok { OnOk result (self.new ≡ self.old ++ more.now) }
         ensures err { OnErr result (self.new ≡ self.old) }
@@ -136,7 +137,7 @@ impl Lines {
         Ok(())
     }
 
-    /// Adds a copy of a line at the end. Without memory the lines stay as they were.
+    /// Adds a copy of a line at the end. Error: `NoMemory`; the lines are then unchanged.
     fn push_copy(&mut self, line: &str) -> Result<(), NoMemory>
         ensures ok { OnOk result (self.new ≡ self.old ++ line.now ∷ []) }
         ensures err { OnErr result (self.new ≡ self.old) }
@@ -145,7 +146,7 @@ impl Lines {
         Ok(())
     }
 
-    /// Takes all lines away but the first ones, as many as `len`. It takes no memory.
+    /// Keeps the first `len` lines and removes the others.
     pub fn truncate(&mut self, len: usize)
         ensures { self.new ≡ take len self.old }
     {
@@ -157,7 +158,8 @@ impl Lines {
     }
 }
 
-/// The line that begins at one place of a text, where the next begins at another.
+/// The line that begins at byte `start` of a text, without its line feed. The line after it begins at
+/// `next`.
 fn line_between(text: &[u8], start: usize, next: usize) -> &[u8]
     requires some { start < next }
     requires within { next ≤ length text.now }
@@ -166,7 +168,7 @@ fn line_between(text: &[u8], start: usize, next: usize) -> &[u8]
     &text[start..next - 1]
 }
 
-/// Appends a line with its line feed to a text, and the place behind it to those of the others.
+/// Appends a line and a line feed to a text, and the new length of the text to `ends`.
 fn append(text: &mut Vec<u8>, ends: &mut Vec<usize>, line: &str) -> Result<(), NoMemory>
     ensures text { OnOk result (text.new.items ≡ (text.old.items ++ line.now) ++ 10 ∷ []) }
     ensures ends { OnOk result (ends.new.items ≡ ends.old.items ++ length text.new.items ∷ []) }

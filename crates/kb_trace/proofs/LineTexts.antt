@@ -1,4 +1,4 @@
--- The canonical text of a chord that is one keystroke longer.
+-- The canonical text of a chord with one more keystroke.
 use Rattle.std.proofs.Common.{◌≡◌, ℕ, List, [], ◌∷◌, ◌++◌, refl, sym, ap, ◌∙◌, append_assoc, append-nil}
 use Rattle.std.proofs.Common.{length, ◌<◌, arith}
 use Rattle.kb_keys.specs.declared.keystroke.Keystroke.{Keystroke}

@@ -5,14 +5,14 @@ use Rattle.serde_json.specs.Written.{compact_text}
 use Rattle.kb_keys.specs.declared.keystroke.Keystroke.{Keystroke}
 use Rattle.kb_keys.specs.Chord.{chord_spelling}
 use Rattle.kb_core.specs.declared.buffer.Buffer.{Buffer}
-use Rattle.kb_context.specs.Faults.{fault_name}
-use Rattle.kb_context.specs.declared.refusal.Refusal.{Refusal}
+use Rattle.kb_base.specs.Faults.{fault_name}
+use Rattle.kb_base.specs.declared.refusal.Refusal.{Refusal}
 
 -- key ctrl+k ctrl+c
 abbrev pub key_text : List Keystroke → Keystroke → List ℕ
 key_text pressed key = codes "key " ++ chord_spelling (pressed ++ key ∷ [])
 
--- key ctrl+k: start type, from its beginning
+-- the text of the press, then ": start type"
 abbrev pub start_line : List ℕ → List ℕ → List ℕ
 start_line text command = text ++ (codes ": start " ++ command)
 
@@ -74,7 +74,7 @@ trap_line number command place =
     codes "trap " ++ (decimal number ++ (codes " " ++ (fault_name number
     ++ (codes " " ++ (command ++ (codes " " ++ decimal place))))))
 
--- a text as JSON writes it
+-- a text as a JSON string
 abbrev pub json_string : List ℕ → List ℕ
 json_string text = compact_text (string text)
 

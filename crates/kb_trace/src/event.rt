@@ -1,30 +1,31 @@
-//! What a session is told, and what it answers.
-use kb_context::{ContextValue, Refusal, Text};
+//! Events that a session handles, and its answers.
+use kb_base::{Refusal, Text};
+use kb_context::ContextValue;
 use kb_keys::Keystroke;
 
-/// What a session is told.
+/// An event for a session.
 #[derive(Debug, Drop)]
 pub enum Event {
-    /// A press of a key, with the modifiers that are held.
+    /// A key is pressed, with the modifiers that are held.
     Key(Keystroke),
-    /// The scope of a name gets the focus.
+    /// The scope with this name gets the focus.
     Focus(Text),
-    /// In the scope of a name, which comes first, a key gets a value.
+    /// In the scope with the first name, the context key with the second name gets a value.
     SetKey(Text, Text, ContextValue),
-    /// In the scope of a name, which comes first, a key is taken away.
+    /// In the scope with the first name, the context key with the second name is removed.
     UnsetKey(Text, Text),
-    /// A line of a script that can't be read, by its number, counted from 1.
+    /// A line of a script that cannot be parsed, by its number, counted from 1.
     Unread(u64),
-    /// A script names a native command of which the host has no closure left. Its step is the refusal 98,
-    /// and nothing changes (our decision).
+    /// A script registers a closure for a native command of which the host has none left. The trace gets
+    /// the refusal 98, and nothing else changes (our decision).
     NoClosure,
 }
 
-/// What a session answers.
+/// The answer to an event.
 #[derive(Debug, Drop)]
 pub enum Answer {
-    /// What was asked is done, and the trace has its lines.
+    /// The event was handled. The trace has its lines.
     Did,
-    /// It is refused: nothing changed but the trace, which has the line of the refusal.
+    /// The event was refused. Only the trace changed: it has the line of the refusal.
     Refused(Refusal),
 }

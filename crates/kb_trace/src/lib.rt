@@ -1,4 +1,4 @@
-//! What a session is told and answers, and the lines of its trace.
+//! Events and answers of a session, and the lines of its trace.
 #![tactic(auto)]
 
 pub mod event;

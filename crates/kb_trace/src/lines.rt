@@ -1,16 +1,15 @@
-//! The lines of a trace. Each is written into the text of `Lines::begin_line`, so that it takes no memory of
-//! its own for long; where memory is refused, the lines stay as they were.
+//! The lines of a trace. Each function writes its line into the text of `Lines::begin_line`, which reuses
+//! memory, and adds it to the trace. Error: `NoMemory`; the trace is then unchanged.
 ghost use Rattle.std.specs.Prelude.{◌≡◌, [], ◌∷◌, ◌++◌, IfOk, OnOk, OnErr, string_bytes, codes, decimal};
 ghost use Rattle.kb_trace.specs.Lines as line;
 
 use json::Writer;
-use kb_context::{NoMemory, Refusal, fault_name};
+use kb_base::{NoMemory, Refusal, fault_name};
 use kb_core::Buffer;
 use kb_keys::{Keystroke, write_strokes};
 use kb_stream::Lines;
 
-/// `key PRESSED`, the beginning of the line of a press: the keystrokes that were pressed before,
-/// and the one that is pressed.
+/// `key KEYS`, the beginning of the line for a key press: the keystrokes pressed so far, and the new one.
 #[tactic(auto, using(crate::proofs::LineTexts::key_texts))]
 pub fn key_text(
     lines: &mut Lines,
@@ -32,7 +31,7 @@ pub fn key_text(
     Ok(text)
 }
 
-/// The line that a text begins and another one ends.
+/// Adds the line that consists of `text` and `end`.
 pub fn ended(lines: &mut Lines, text: String, end: &str) -> Result<(), NoMemory>
     ensures ok { OnOk result (lines.new ≡ lines.old ++ (string_bytes text ++ end.now) ∷ []) }
     ensures err { OnErr result (lines.new ≡ lines.old) }
@@ -42,7 +41,7 @@ pub fn ended(lines: &mut Lines, text: String, end: &str) -> Result<(), NoMemory>
     lines.push(text)
 }
 
-/// `key PRESSED: start COMMAND`, from its beginning.
+/// Adds the line `key KEYS: start COMMAND`, where `text` is `key KEYS`.
 pub fn start_line(lines: &mut Lines, text: String, command: &str) -> Result<(), NoMemory>
     ensures ok { OnOk result (lines.new ≡ lines.old ++ line.start_line (string_bytes text) command.now ∷ []) }
     ensures err { OnErr result (lines.new ≡ lines.old) }
@@ -53,7 +52,7 @@ pub fn start_line(lines: &mut Lines, text: String, command: &str) -> Result<(), 
     lines.push(text)
 }
 
-/// `left PRESSED`, for an event that leaves a chord.
+/// `left KEYS`: an event leaves a pending chord.
 pub fn left_line(lines: &mut Lines, pressed: &[Keystroke]) -> Result<(), NoMemory>
     ensures ok { OnOk result (lines.new ≡ lines.old ++ line.left_line pressed.now ∷ []) }
     ensures err { OnErr result (lines.new ≡ lines.old) }
@@ -64,7 +63,7 @@ pub fn left_line(lines: &mut Lines, pressed: &[Keystroke]) -> Result<(), NoMemor
     lines.push(text)
 }
 
-/// `focus SCOPE`, for a scope that got the focus.
+/// `focus SCOPE`: a scope got the focus.
 pub fn focus_line(lines: &mut Lines, scope: &str) -> Result<(), NoMemory>
     ensures ok { OnOk result (lines.new ≡ lines.old ++ line.focus_line scope.now ∷ []) }
     ensures err { OnErr result (lines.new ≡ lines.old) }
@@ -74,7 +73,7 @@ pub fn focus_line(lines: &mut Lines, scope: &str) -> Result<(), NoMemory>
     lines.push(text)
 }
 
-/// `set SCOPE KEY`, for a key that got a value.
+/// `set SCOPE KEY`: a context key got a value.
 pub fn set_line(lines: &mut Lines, scope: &str, key: &str) -> Result<(), NoMemory>
     ensures ok { OnOk result (lines.new ≡ lines.old ++ line.set_line scope.now key.now ∷ []) }
     ensures err { OnErr result (lines.new ≡ lines.old) }
@@ -84,7 +83,7 @@ pub fn set_line(lines: &mut Lines, scope: &str, key: &str) -> Result<(), NoMemor
     lines.push(text)
 }
 
-/// `unset SCOPE KEY`, for a key that was taken away.
+/// `unset SCOPE KEY`: a context key was removed.
 pub fn unset_line(lines: &mut Lines, scope: &str, key: &str) -> Result<(), NoMemory>
     ensures ok { OnOk result (lines.new ≡ lines.old ++ line.unset_line scope.now key.now ∷ []) }
     ensures err { OnErr result (lines.new ≡ lines.old) }
@@ -94,7 +93,7 @@ pub fn unset_line(lines: &mut Lines, scope: &str, key: &str) -> Result<(), NoMem
     lines.push(text)
 }
 
-/// `reloaded`, for rules of the user that were read anew.
+/// `reloaded`: the user's rules were read again.
 pub fn reloaded_line(lines: &mut Lines) -> Result<(), NoMemory>
     ensures ok { OnOk result (lines.new ≡ lines.old ++ line.reloaded_line ∷ []) }
     ensures err { OnErr result (lines.new ≡ lines.old) }
@@ -104,7 +103,7 @@ pub fn reloaded_line(lines: &mut Lines) -> Result<(), NoMemory>
     lines.push(text)
 }
 
-/// `registered COMMAND TICKET`, for a closure that was registered.
+/// `registered COMMAND TICKET`: a closure was registered.
 pub fn registered_line(lines: &mut Lines, command: &str, ticket: u64) -> Result<(), NoMemory>
     ensures ok { OnOk result (lines.new ≡ lines.old ++ line.registered_line command.now ticket ∷ []) }
     ensures err { OnErr result (lines.new ≡ lines.old) }
@@ -112,7 +111,7 @@ pub fn registered_line(lines: &mut Lines, command: &str, ticket: u64) -> Result<
     ticketed(lines, "registered ", command, ticket)
 }
 
-/// `disposed COMMAND TICKET`, for a closure that was disposed.
+/// `disposed COMMAND TICKET`: a closure was disposed.
 pub fn disposed_line(lines: &mut Lines, command: &str, ticket: u64) -> Result<(), NoMemory>
     ensures ok { OnOk result (lines.new ≡ lines.old ++ line.disposed_line command.now ticket ∷ []) }
     ensures err { OnErr result (lines.new ≡ lines.old) }
@@ -120,7 +119,7 @@ pub fn disposed_line(lines: &mut Lines, command: &str, ticket: u64) -> Result<()
     ticketed(lines, "disposed ", command, ticket)
 }
 
-/// A line of words, a name and the number of its ticket.
+/// Adds a line of words, a name and the number of a ticket.
 fn ticketed(lines: &mut Lines, words: &str, name: &str, ticket: u64) -> Result<(), NoMemory>
     ensures ok { OnOk result
         (lines.new ≡ lines.old ++ (words.now ++ (name.now ++ (codes " " ++ decimal ticket))) ∷ []) }
@@ -132,7 +131,7 @@ fn ticketed(lines: &mut Lines, words: &str, name: &str, ticket: u64) -> Result<(
     lines.push(text)
 }
 
-/// `run COMMAND`, for an element of `runCommands` that starts.
+/// `run COMMAND`: an element of `runCommands` starts.
 pub fn run_line(lines: &mut Lines, command: &str) -> Result<(), NoMemory>
     ensures ok { OnOk result (lines.new ≡ lines.old ++ line.run_line command.now ∷ []) }
     ensures err { OnErr result (lines.new ≡ lines.old) }
@@ -140,7 +139,7 @@ pub fn run_line(lines: &mut Lines, command: &str) -> Result<(), NoMemory>
     worded(lines, "run ", command)
 }
 
-/// `refused NUMBER NAME`, for what is refused, and behind it what the refusal says more.
+/// `refused NUMBER NAME`, or `refused NUMBER NAME DETAIL` if the refusal has a detail.
 pub fn refused_line(lines: &mut Lines, refusal: &Refusal) -> Result<(), NoMemory>
     ensures ok { OnOk result (lines.new ≡ lines.old ++ line.refused_line refusal.now ∷ []) }
     ensures err { OnErr result (lines.new ≡ lines.old) }
@@ -149,7 +148,7 @@ pub fn refused_line(lines: &mut Lines, refusal: &Refusal) -> Result<(), NoMemory
     lines.push(text)
 }
 
-/// A text with the words of a refusal behind it.
+/// Appends the words of a refusal to a text. Error: `NoMemory`.
 fn refused_text(text: String, refusal: &Refusal) -> Result<String, NoMemory>
     ensures { IfOk result (λ made. string_bytes made ≡ string_bytes text ++ line.refused_line refusal.now) }
 {
@@ -169,7 +168,7 @@ fn refused_text(text: String, refusal: &Refusal) -> Result<String, NoMemory>
     }
 }
 
-/// `not found COMMAND`, for a command that doesn't exist.
+/// `not found COMMAND`: the command does not exist.
 pub fn not_found_line(lines: &mut Lines, command: &str) -> Result<(), NoMemory>
     ensures ok { OnOk result (lines.new ≡ lines.old ++ line.not_found_line command.now ∷ []) }
     ensures err { OnErr result (lines.new ≡ lines.old) }
@@ -177,7 +176,7 @@ pub fn not_found_line(lines: &mut Lines, command: &str) -> Result<(), NoMemory>
     worded(lines, "not found ", command)
 }
 
-/// `bad arguments COMMAND`, for arguments that don't fit the command.
+/// `bad arguments COMMAND`: the arguments do not fit the command.
 pub fn bad_arguments_line(lines: &mut Lines, command: &str) -> Result<(), NoMemory>
     ensures ok { OnOk result (lines.new ≡ lines.old ++ line.bad_arguments_line command.now ∷ []) }
     ensures err { OnErr result (lines.new ≡ lines.old) }
@@ -185,7 +184,7 @@ pub fn bad_arguments_line(lines: &mut Lines, command: &str) -> Result<(), NoMemo
     worded(lines, "bad arguments ", command)
 }
 
-/// A line of words and a name.
+/// Adds a line of words and a name.
 fn worded(lines: &mut Lines, words: &str, name: &str) -> Result<(), NoMemory>
     ensures ok { OnOk result (lines.new ≡ lines.old ++ (words.now ++ name.now) ∷ []) }
     ensures err { OnErr result (lines.new ≡ lines.old) }
@@ -196,7 +195,7 @@ fn worded(lines: &mut Lines, words: &str, name: &str) -> Result<(), NoMemory>
     lines.push(text)
 }
 
-/// `unread line NUMBER`, for a line of a script that can't be read.
+/// `unread line NUMBER`: a line of a script cannot be parsed.
 pub fn unread_line(lines: &mut Lines, number: u64) -> Result<(), NoMemory>
     ensures ok { OnOk result (lines.new ≡ lines.old ++ line.unread_line number ∷ []) }
     ensures err { OnErr result (lines.new ≡ lines.old) }
@@ -206,7 +205,7 @@ pub fn unread_line(lines: &mut Lines, number: u64) -> Result<(), NoMemory>
     lines.push(text)
 }
 
-/// `trap NUMBER NAME COMMAND PLACE`, for a handler that can't go on at one of its instructions.
+/// `trap NUMBER NAME COMMAND PLACE`: a handler trapped at the instruction with the index PLACE.
 pub fn trap_line(
     lines: &mut Lines,
     number: u32,
@@ -222,7 +221,8 @@ pub fn trap_line(
     lines.push(text)
 }
 
-/// `done BEFORE AFTER`, for a command that ran: the texts round the caret as JSON strings.
+/// `done BEFORE AFTER`: a command ran. BEFORE and AFTER are the texts before and after the caret, as JSON
+/// strings.
 pub fn done_line(lines: &mut Lines, buffer: &Buffer) -> Result<(), NoMemory>
     ensures ok { OnOk result (lines.new ≡ lines.old ++ line.done_line buffer.now ∷ []) }
     ensures err { OnErr result (lines.new ≡ lines.old) }
@@ -231,7 +231,7 @@ pub fn done_line(lines: &mut Lines, buffer: &Buffer) -> Result<(), NoMemory>
     lines.push(text)
 }
 
-/// A text with the words of a command that ran behind it.
+/// Appends the words of a `done` line to a text. Error: `NoMemory`.
 fn done_text(text: String, buffer: &Buffer) -> Result<String, NoMemory>
     ensures { IfOk result (λ made. string_bytes made ≡ string_bytes text ++ line.done_line buffer.now) }
 {
@@ -242,8 +242,8 @@ fn done_text(text: String, buffer: &Buffer) -> Result<String, NoMemory>
     with_json(text, buffer.after.as_str())
 }
 
-/// A text with another as a JSON string behind it. It is written right there, by the writer that `serde_json`
-/// prints with, since `serde_json` itself wants a value and a text of its own.
+/// Appends a text as a JSON string. It uses `json::Writer`, with which `serde_json` prints, since
+/// `serde_json` itself would need a value and a text of its own. Error: `NoMemory`.
 #[tactic(auto, using(crate::proofs::LineTexts::print_string))]
 fn with_json(text: String, value: &str) -> Result<String, NoMemory>
     ensures { IfOk result (λ made. string_bytes made ≡ string_bytes text ++ line.json_string value.now) }

@@ -1,10 +1,10 @@
--- The callees, from the first place on.
+-- The callees, by induction from the first place.
 use Rattle.std.proofs.Common.{◌≡◌, ◌<◌, ◌≤◌, ◌+◌, ℕ, zero, suc, List, [], ◌∷◌, ◌++◌, length, map, get_or}
 use Rattle.std.proofs.Common.{Option, Some, None, Ok, sym, ap, ◌∙◌, subst, refl, arith}
 use Rattle.std.specs.Prelude.{slice_get, option_and_then}
 use Rattle.std.specs.FinMap as fin_map
 use Rattle.std.proofs.lemmas.Option.{slice_get_within}
-use Rattle.kb_context.specs.Reading.{◌>>◌, unless}
+use Rattle.kb_base.specs.Reading.{◌>>◌, unless}
 use Rattle.std.specs.Prelude.{nat_le}
 use Rattle.kb_core.specs.declared.arg.Kind.{Kind}
 use Rattle.kb_core.specs.Declaration.{Declaration}
@@ -23,7 +23,7 @@ use Rattle.kb_verify.specs.Accepted.{IsCallee, AreDeclared}
 use Rattle.kb_verify.proofs.Checks.{bound}
 use native.Mathlib.Decide.{ℕ_discrete}
 
--- no call below a place is too deep
+-- no reachable call below a place is too deep
 abbrev pub IsShallowBelow : Commands → HandlerData → ℕ → Type 0
 IsShallowBelow commands h p =
     (q m : ℕ) (d : Declaration) → q < p → IsCallee commands h q m d → d.depth + 1 ≤ h.signature.depth
@@ -45,19 +45,19 @@ pub passed_too : (h : HandlerData) (p : ℕ) (ns : List ℕ) → CalleesBelow h 
     CalleesBelow h (p + 1) ns
 passed_too h p ns below none = next_place h p ns (CalleesBelow.passed below none)
 
--- a mark that is read is the one at its place
+-- the mark that was read is the one at its place
 pub unread : (ms : List Mark) (i : ℕ) (x : Mark) → mark_at ms i ≡ mark.Unreached → i < length ms →
     get_or ms i x ≡ mark.Unreached
 unread (m ∷ ms) zero x e lt = e
 unread (m ∷ ms) (suc i) x e lt = unread ms i x e (omega (arith, lt))
 unread [] i x e lt = absurd (omega (arith, lt))
 
--- where shapes are right, what is called is declared
+-- a check of a call that succeeds has a declared callee
 never_right : (d : Option Declaration) (ks made : List Kind) → d ≡ None → without_args d ks ≡ Ok made → ⊥
 never_right None ks made e is = cc
 never_right (Some x) ks made e is = cc
 
--- what is declared has a name in the list of calls
+-- a declared callee has a name in the list of calls
 named : (commands : Commands) (calls : List (List ℕ)) (n : ℕ) (name : Option (List ℕ)) (d : Declaration) →
     slice_get calls n ≡ name → option_and_then (fin_map.get commands) name ≡ Some d → n < length calls
 named commands calls n (Some x) d e is = slice_get_within calls n x e
@@ -84,7 +84,7 @@ module _ (commands : Commands) (h : HandlerData) where
     | no ne ↦ below q m d (omega (arith, ne, lt)) is
   ]
 
-  -- one call more, and a place without a call
+  -- the step for a call, and for a place without a call
   pub shallow_called : (p n : ℕ) (d : Declaration) → IsShallowBelow commands h p → IsCallee commands h p n d →
       d.depth < h.signature.depth → IsShallowBelow commands h (p + 1)
   shallow_called p n d below is lt =

@@ -1,9 +1,10 @@
--- A check that is right leads on to later places of the code.
-use Rattle.std.proofs.Common.{◌≡◌, ◌<◌, ℕ, suc, Bool, true, false, List, length, refl, arith, Result, Ok, Err}
+-- A check that succeeds leads to later places of the code.
+use Rattle.std.proofs.Common.{◌≡◌, ◌<◌, ℕ, suc, Bool, true, false, List, length, refl, arith, Result}
+use Rattle.std.proofs.Common.{Ok, Err}
 use Rattle.std.specs.Prelude.{⊤, nat_lt, nat_le, ◌&&◌}
 use Rattle.std.proofs.lemmas.Bool.{ltb-true}
 use Rattle.std.proofs.lemmas.Option.{slice_get_within}
-use Rattle.kb_context.specs.Reading.{◌>>=◌, ◌>>◌, guard, unless}
+use Rattle.kb_base.specs.Reading.{◌>>=◌, ◌>>◌, guard, unless}
 use Rattle.kb_core.specs.declared.arg.Kind.{Kind}
 use Rattle.kb_code.specs.declared.instr.Instr.{Instr}
 use Rattle.kb_code.specs.declared.instr.Instr.TheVariants as i
@@ -16,7 +17,7 @@ use Rattle.kb_verify.specs.Check.{check, effect, leads, jumps_on, falls_on}
 use Rattle.kb_verify.specs.Shapes.{HasShapes}
 use Rattle.kb_verify.specs.Marks.{AreLater, AreWithin, LeadsOn}
 
--- a reading that is right had a right part
+-- a sequence of two readings that succeeds has a first part that succeeds
 abbrev pub IsBound : {A B : Type 0} → Result A Defect → (A → Result B Defect) → B → Type 0
 IsBound {A = A} r f x = (a : A) × (r ≡ Ok a) × (f a ≡ Ok x)
 

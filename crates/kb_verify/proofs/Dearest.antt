@@ -1,5 +1,6 @@
--- The pass backward, and a dearest path.
-use Rattle.std.proofs.Common.{◌≡◌, ◌<◌, ◌≤◌, ℕ, suc, ◌+◌, ◌^◌, max, zero, inl, inr, List, [], ◌∷◌, ◌++◌, length}
+-- The backward pass, and a most expensive path.
+use Rattle.std.proofs.Common.{◌≡◌, ◌<◌, ◌≤◌, ℕ, suc, ◌+◌, ◌^◌, max, zero, inl, inr, List, [], ◌∷◌, ◌++◌}
+use Rattle.std.proofs.Common.{length}
 use Rattle.std.proofs.Common.{Some, refl, sym, ap, ◌∙◌, subst, arith, append_assoc, if◌then◌else◌}
 use Rattle.std.specs.Prelude.{slice_get, slice_set, slice_index, nat_lt}
 use Rattle.std.proofs.lemmas.Bool.{cases_lt, lt-ltb, le-ltb}
@@ -25,7 +26,7 @@ later_is costs p q lt = ap (λ b. if b then slice_index costs q else 0) (lt-ltb 
 later_not : (costs : List ℕ) (p q : ℕ) → q ≤ p → later_cost costs p q ≡ 0
 later_not costs p q le = ap (λ b. if b then slice_index costs q else 0) (le-ltb p q le)
 
--- a cost that is written leaves the costs from it on, which look at later ones only
+-- writing the cost of a place keeps the costs of the later places, which read only later ones
 later_same : (costs : List ℕ) (p q r v : ℕ) → p ≤ q →
     later_cost (slice_set costs p v) q r ≡ later_cost costs q r
 later_same costs p q r v le = elim (ℕ_discrete r p) [
@@ -50,7 +51,7 @@ rest_at : (costs : List ℕ) (i : Instr) (p : ℕ) (exits : Exits) → exits_of 
     rest_cost costs p (exits_of (suc p) i) ≡ rest_cost costs p exits
 rest_at costs i p exits e = ap (rest_cost costs p) e
 
--- one step of a walk
+-- one step of the search for a path
 step_even : (spent k from next here : ℕ) → here ≡ capped (next + k) → capped (spent + here) ≡ from →
     capped (spent + k + next) ≡ from
 step_even spent k from next here e f = omega (arith, e, f)
@@ -58,12 +59,12 @@ step_even spent k from next here e f = omega (arith, e, f)
 add_on : (a b c : ℕ) → a + (b + c) ≡ a + b + c
 add_on a b c = omega arith
 
--- a path of the dearest cost
+-- a most expensive path
 abbrev pub IsDearestPath : Commands → HandlerData → List ℕ → List Step → Type 0
 IsDearestPath commands h costs path = (c : ℕ) × Path commands h 0 path c × (capped c ≡ slice_index costs 0)
 
 module _ (commands : Commands) (h : HandlerData) where
-  -- one more place, from the end
+  -- the step for one more place, from the end
   pub one_less : (costs : List ℕ) (p : ℕ) (i : Instr) → slice_get h.code p ≡ Some i → p < length costs →
       ((q : ℕ) → p < q → IsDearest commands h costs q) → (q : ℕ) → p ≤ q →
       IsDearest commands h (slice_set costs p (dearest commands h costs p i)) q
@@ -94,7 +95,8 @@ module _ (commands : Commands) (h : HandlerData) where
       let here : later_cost costs p r ≡ slice_index costs r = later_is costs p r lt in
       most (cost commands h i) d (rest_cost costs p (exits_of (suc p) i)) (slice_index costs p) (omega (arith, most_on, rest, here)) (are.each p i at)
 
--- a walk so far: any path from here on is a path from the start, and the dearest one is a dearest one
+-- the invariant of the search: each path from here continues to a path from the start, and a most
+-- expensive one to a most expensive one
 pub record IsWalked (commands : Commands) (h : HandlerData) (costs : List ℕ) (place : ℕ) (path : List Step) : Type 0 where
   pub here : Reachable h.code place
   pub spent : ℕ
@@ -162,7 +164,7 @@ module _ (commands : Commands) (h : HandlerData) where
       let top : max (later_cost costs p q) (later_cost costs p r) ≡ slice_index costs r = omega (arith, b, lt) in
       (later.1, walk_on costs are p r path (Jumps ∷ []) i w at (follows h.code p r i at exit later.1 within.1) (rest_at costs i p (Two q r) e ∙ top) (λ rest d on. jumps i at e later.1 on))
 
-  -- the same, by the costs that the code compares
+  -- the same, with the costs that the code compares
   pub walk_jumps : (costs : List ℕ) → AreCosts commands h costs → LeadsOn h.code →
       (p q r a b : ℕ) (path longer : List Step) (i : Instr) → IsWalked commands h costs p path →
       slice_get h.code p ≡ Some i → exits_of (suc p) i ≡ Two q r → a ≡ later_cost costs p q →
@@ -193,9 +195,9 @@ module _ (commands : Commands) (h : HandlerData) where
       let even = w.even in
       (w.spent + k, subst (λ l. Path commands h 0 l (w.spent + k)) (append-nil path) all, omega (arith, here, even))
 
--- ---- some path is as dear as the costs say
+-- ---- some path has the computed cost
 
--- a path of the dearest cost from a place
+-- a path from a place with the computed cost
 abbrev pub HasDearest : Commands → HandlerData → List ℕ → ℕ → Type 0
 HasDearest commands h costs p =
     (path : List Step) × (c : ℕ) × Path commands h p path c × (capped c ≡ slice_index costs p)
@@ -205,7 +207,7 @@ as_dear k c next here e f = omega (arith, e, f)
 
 module _ (commands : Commands) (h : HandlerData) (costs : List ℕ) (are : AreCosts commands h costs)
     (leads : LeadsOn h.code) where
-  -- from a place at which an instruction stands, by what is had from all later places that are reached
+  -- the step for a place, from the paths of all later reachable places
   dearest_by : (p : ℕ) (i : Instr) → Reachable h.code p → slice_get h.code p ≡ Some i →
       ((q : ℕ) → p < q → Reachable h.code q → HasDearest commands h costs q) → (exits : Exits) →
       exits_of (suc p) i ≡ exits → HasDearest commands h costs p
@@ -245,7 +247,8 @@ module _ (commands : Commands) (h : HandlerData) (costs : List ℕ) (are : AreCo
       dearest_by p _ r (at_place h.code h.code p refl (reach_within h.code p r))
       (λ q lt s. dearest_from n q (omega (arith, le, lt)) s) (exits_of (suc p) _) refl
 
-  -- where no path costs more than a number of 64 bits, the first cost is what a dearest path costs
+  -- where no path costs more than some number of 64 bits, the first cost is that of a most expensive
+  -- path
   pub dearest_is : (budget : ℕ) → budget < 2 ^ 64 → 0 < length h.code
       → ((path : List Step) (c : ℕ) → Path commands h 0 path c → c ≤ budget)
       → IsDearestCost commands h (slice_index costs 0)

@@ -53,7 +53,7 @@ abbrev pub follows : (code : List Instr) (p q : ℕ) (i : Instr) → slice_get c
 follows code p q i at x later within =
     record { instr = i; at = at; exit = exit_is (exits_of (suc p) i) q x; later = later; within = within }
 
--- what follows is an exit of the instruction that stands there
+-- a place that follows is an exit of the instruction
 pub exit_of : (code : List Instr) (p q : ℕ) (i : Instr) → slice_get code p ≡ Some i → (f : Follows code p q) →
     f.instr ≡ i → IsExit (exits_of (suc p) i) q
 exit_of code p q i at f same =
@@ -63,7 +63,7 @@ pub reach_within : (code : List Instr) (p : ℕ) → Reachable code p → p < le
 reach_within code p (first lt) = lt
 reach_within code p (onward r f) = f.within
 
--- an instruction that is read is the one at its place
+-- the instruction that was read is the one at its place
 pub at_place : (code read : List Instr) (p : ℕ) → read ≡ code → p < length code →
     slice_get code p ≡ Some (get_or read p Return)
 at_place code read p same lt = slice_get-get_or code p Return lt ∙ ap (λ xs. Some (get_or xs p Return)) (sym same)

@@ -6,6 +6,7 @@ pub mod Listed
 pub mod Lists
 pub mod Packed
 pub mod Passes
+pub mod ProviderLemmas
 pub mod Refutes
 pub mod SameLemmas
 pub mod Swapped

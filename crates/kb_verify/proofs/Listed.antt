@@ -16,7 +16,7 @@ use Rattle.kb_verify.specs.Accepted.{IsCallee, AreCallees, AreDeclared, HasCalle
 use Rattle.kb_verify.proofs.Calls.{one_index}
 use native.Mathlib.Decide.{ℕ_discrete}
 
--- there is one list of what is called below a place
+-- the list of callees below a place is unique
 one_more : (ns ms : List ℕ) (n m : ℕ) → ns ≡ ms → n ≡ m → ns ++ n ∷ [] ≡ ms ++ m ∷ []
 one_more ns ms n m e f = ap (λ l. l ++ n ∷ []) e ∙ ap (λ x. ms ++ x ∷ []) f
 
@@ -38,7 +38,7 @@ one_list h p q ns ms (CalleesBelow.passed {p = r} a none) (CalleesBelow.called {
 one_list h p q ns ms (CalleesBelow.passed {p = r} a none) (CalleesBelow.passed {p = s} b other) e =
     one_list h r s ns ms a b (omega (arith, e))
 
--- what was called at all places are the callees
+-- the calls of all places are the callees
 pub callees_are : (h : HandlerData) (ns : List ℕ) → CalleesBelow h (length h.code) ns → ns ≡ callees_of h
 callees_are h ns below = one_list h (length h.code) (length h.code) ns (callees_of h) below (all_called h) refl
 
@@ -69,7 +69,7 @@ listed_below h p ns (CalleesBelow.passed {p = r} before none) q n lt is = elim (
   | no d ↦ listed_below h r ns before q n (omega (arith, d, lt)) is
 ]
 
--- a callee at a number in the list
+-- a callee at a position of the list
 abbrev At : List Callee → ℕ → ℕ → Type 0
 At callees k n = (c : Callee) × (slice_get callees k ≡ Some c) × (c.index ≡ n)
 
@@ -102,7 +102,7 @@ module _ (commands : Commands) (h : HandlerData) where
       let same : c.0.signature ≡ d = cc in
       (there.0, c.1 ∙ ap Some (same_callee c.0 index d c.2 same))
 
-  -- what is declared has a name
+  -- a declared callee has a name
   named_at : (c : Callee) (name : Option (List ℕ)) → slice_get h.calls c.index ≡ name →
       option_and_then (fin_map.get commands) name ≡ Some c.signature → IsNamed commands h c
   named_at c (Some x) e is = record { name = x; named = e; declares = is }

@@ -1,5 +1,6 @@
--- Parameters against arguments from the last on, which is on top.
-use Rattle.std.proofs.Common.{◌≡◌, ◌<◌, ◌≤◌, ℕ, suc, true, false, List, [], ◌∷◌, ◌++◌, length, take, drop, get_or}
+-- Parameters against arguments, from the last argument on, which is on top.
+use Rattle.std.proofs.Common.{◌≡◌, ◌<◌, ◌≤◌, ℕ, suc, true, false, List, [], ◌∷◌, ◌++◌, length, take}
+use Rattle.std.proofs.Common.{drop, get_or}
 use Rattle.std.proofs.Common.{Ok, Err, Some, sym, ap, ◌∙◌, arith}
 use Rattle.std.specs.Prelude.{reverse, ◌&&◌, if◌then◌else◌}
 use Rattle.std.proofs.lemmas.Bool.{le-ltb}
@@ -21,7 +22,7 @@ one_behind (q ∷ ps) (j ∷ ks) p k e =
     ap (λ b. takes q.kind j && b) (one_behind ps ks p k (omega (arith, e)))
     ∙ sym (and_assoc (takes q.kind j) (takes_each ps ks) (takes p.kind k))
 
--- the last of some parameters takes the kind on top, and those before it the rest
+-- the last parameter accepts the kind on top, and those before it the rest
 last_takes : (ps : List Param) (i : ℕ) (p : Param) (k : Kind) (rest : List Kind) → i < length ps →
     i ≤ length rest → takes_each (take (suc i) ps) (reverse (take (suc i) (k ∷ rest)))
     ≡ (takes_each (take i ps) (reverse (take i rest)) && takes (get_or ps i p).kind k)
@@ -32,7 +33,7 @@ last_takes ps i p k rest lt le =
     ∙ ap (takes_each (take i ps ++ get_or ps i p ∷ [])) (reverse-append (k ∷ []) (take i rest))
     ∙ one_behind (take i ps) (reverse (take i rest)) (get_or ps i p) k few
 
--- one that doesn't take its argument is enough for all of them
+-- if one parameter rejects its argument, the whole list rejects the arguments
 pub takes_none : (ps : List Param) (i : ℕ) (p : Param) (k : Kind) (ks rest : List Kind) → i < length ps →
     i ≤ length rest → takes (get_or ps i p).kind k ≡ false → ks ≡ k ∷ rest →
     takes_each (take (suc i) ps) (reverse (take (suc i) ks)) ≡ false
@@ -40,7 +41,7 @@ takes_none ps i p k ks rest lt le wrong is =
     ap (λ xs. takes_each (take (suc i) ps) (reverse (take (suc i) xs))) is ∙ last_takes ps i p k rest lt le
     ∙ ap (λ b. takes_each (take i ps) (reverse (take i rest)) && b) wrong ∙ and-false _
 
--- and one that does leaves what those before it take
+-- if one parameter accepts its argument, the result is that of the parameters before it
 pub takes_rest : (ps : List Param) (i : ℕ) (p : Param) (k : Kind) (ks rest : List Kind) → i < length ps →
     i ≤ length rest → takes (get_or ps i p).kind k ≡ true → ks ≡ k ∷ rest →
     takes_each (take (suc i) ps) (reverse (take (suc i) ks)) ≡ takes_each (take i ps) (reverse (take i rest))
@@ -48,7 +49,7 @@ takes_rest ps i p k ks rest lt le right is =
     ap (λ xs. takes_each (take (suc i) ps) (reverse (take (suc i) xs))) is ∙ last_takes ps i p k rest lt le
     ∙ ap (λ b. takes_each (take i ps) (reverse (take i rest)) && b) right ∙ and-true _
 
--- the verdict, where one argument is wrong
+-- the result where one argument is wrong
 pub wrong_argument : (d : Declaration) (ks : List Kind) → length d.params ≤ length ks →
     takes_each d.params (reverse (take (length d.params) ks)) ≡ false →
     Err defect.WrongArgument ≡ without_args (Some d) ks

@@ -1,4 +1,4 @@
--- The pass forward.
+-- The forward pass.
 use Rattle.std.proofs.Common.{◌≡◌, ◌≢◌, ◌<◌, ◌≤◌, inl, inr, ⊎_elim, ℕ, zero, suc, ◌+◌, List, [], ◌∷◌, ◌++◌}
 use Rattle.std.proofs.Common.{length, get_or, replicate, Ok, Err, Some, refl, sym, ap, ◌∙◌, subst, arith}
 use Rattle.std.specs.Prelude.{slice_get}
@@ -28,7 +28,7 @@ pub read_as : (ms : List Mark) (i : ℕ) (x y : Mark) → i < length ms → x �
     mark_at ms i ≡ y
 read_as ms i x y lt e f = get_or_from_slice_get ms i x mark.Unreached (slice_get-get_or ms i x lt ∙ ap Some (sym e)) ∙ f
 
--- a shape that meets a mark
+-- a mark keeps the shapes that reached it when one more does
 meets_grown : (m n : Mark) (after a : List Kind) → Meets m after n → HasBeen m a → HasBeen n a
 meets_grown mark.Unreached n after a w b = absurd (⊎_elim (λ e. cc) (λ e. cc) b)
 meets_grown (mark.Has before) n after a w b = ⊎_elim (λ s. ⊎_elim (λ e. inl (s.1 ∙ e)) (λ e. inr (s.1 ∙ e)) b) (λ d. inr d.1) w
@@ -39,11 +39,11 @@ meets_hit mark.Unreached n after w = inl w
 meets_hit (mark.Has before) n after w = ⊎_elim (λ s. inl (s.1 ∙ ap mark.Has s.0)) (λ d. inr d.1) w
 meets_hit mark.Differs n after w = inr w
 
--- at the place, and at another
+-- case distinction: one place, or another
 at_or_other : (q : ℕ) (P : ℕ → Type 0) → P q → ((r : ℕ) → r ≢ q → P r) → (r : ℕ) → P r
 at_or_other q P here other r = elim (ℕ_discrete r q) [ yes e ↦ subst P (sym e) here | no d ↦ other r d ]
 
--- what holds of all marks, and is kept where a shape meets one, holds after a flow
+-- a property of all marks that one more shape preserves holds after a propagation
 carried_to : (ms ns : List Mark) (q : ℕ) (after : List Kind) → q < length ms → FlowsTo ms q after ns →
     (P : ℕ → Mark → Type 0) → ((m n : Mark) → Meets m after n → P q m → P q n) →
     ((r : ℕ) → P r (mark_at ms r)) → (r : ℕ) → P r (mark_at ns r)
@@ -87,7 +87,7 @@ hit (Two a b) ms ns after on f q x =
 same_marks : (ms : List Mark) (i r : ℕ) → r ≤ i → mark_at ms r ≡ mark_at ms r
 same_marks ms i r le = refl
 
--- the shapes that the marks give
+-- the shape of a mark
 abbrev pub shape_in : Mark → List Kind
 shape_in mark.Unreached = []
 shape_in (mark.Has ks) = ks
@@ -105,7 +105,7 @@ been_has m a ks b e = ⊎_elim (λ f. cc) (λ f. cc) b
 root_shape : (m : Mark) → HasBeen m [] → shape_in m ≡ []
 root_shape m b = ⊎_elim (λ e. ap shape_in e) (λ e. ap shape_in e) b
 
--- the marks at the start
+-- the marks before the pass
 blank_at : (n p : ℕ) → mark_at (replicate n mark.Unreached) p ≡ mark.Unreached
 blank_at zero p = refl
 blank_at (suc n) zero = refl
@@ -124,7 +124,7 @@ module _ (commands : Commands) (h : HandlerData) where
       ⊎_elim (λ e. subst (Explains commands h i ms q) (sym e.1) x) (λ d. subst (Explains commands h i ms q) (sym d.1) (before, after, x, s, d.0)) w
   meets_explained i ms q mark.Differs n after s w x = subst (Explains commands h i ms q) (sym w) x
 
-  -- what was sent stays, where the marks that were looked at stay
+  -- what was sent stays sent while the marks of checked places stay the same
   sent_on : (i : ℕ) (ms ns : List Mark) → ((r : ℕ) → r ≤ i → mark_at ns r ≡ mark_at ms r) →
       (q : ℕ) (a : List Kind) → Sent commands h i ms q a → Sent commands h (i + 1) ns q a
   sent_on i ms ns kept q a Sent.starts = Sent.starts
@@ -140,7 +140,7 @@ module _ (commands : Commands) (h : HandlerData) where
       mark_at ms p ≡ mark.Has ks → Reachable h.code p
   here_reached i ms p ks marked e = marked.reached p (λ f. let g : mark.Has ks ≡ mark.Unreached = sym e ∙ f in cc)
 
-  -- a place that can't be reached was looked at
+  -- the step for an unreachable place
   pub skipped : (i : ℕ) (ms : List Mark) → IsMarked commands h i ms → mark_at ms i ≡ mark.Unreached →
       IsMarked commands h (i + 1) ms
   skipped i ms marked e = record {
@@ -151,7 +151,7 @@ module _ (commands : Commands) (h : HandlerData) where
     explained = λ p. explains_on i ms ms (same_marks ms i) p (mark_at ms p) (marked.explained p);
   }
 
-  -- one more place was looked at
+  -- the step for a reachable place
   pub looked_on : (i : ℕ) (ms ns : List Mark) (ks after : List Kind) (instr : Instr) →
       IsMarked commands h i ms → mark_at ms i ≡ mark.Has ks → slice_get h.code i ≡ Some instr →
       check commands h i ks instr ≡ Ok after → length ns ≡ length h.code →
@@ -211,7 +211,7 @@ module _ (commands : Commands) (h : HandlerData) where
             };
       }
 
-  -- what was sent comes, and what comes is in the mark
+  -- a shape that was sent reaches its place, and a shape that reaches a place is in its mark
   sent_comes : (i : ℕ) (ms : List Mark) → IsMarked commands h i ms → (q : ℕ) (a : List Kind) →
       Sent commands h i ms q a → Comes commands h (shapes_in ms) q a
   sent_comes i ms marked q a Sent.starts = Comes.starts
@@ -229,7 +229,7 @@ module _ (commands : Commands) (h : HandlerData) where
       let one : l.after ≡ a = cc in
       subst (HasBeen (mark_at ms q)) one (l.flows q (exit_of h.code p q l.instr l.at f same))
 
-  -- where two shapes differ, the place is the first that is wrong
+  -- where two shapes differ, the place is the first with a defect
   pub differs_first : (i : ℕ) (ms : List Mark) → IsMarked commands h i ms → mark_at ms i ≡ mark.Differs →
       IsFirstWrong commands h i defect.ShapesDiffer
   differs_first i ms marked e =
@@ -241,7 +241,7 @@ module _ (commands : Commands) (h : HandlerData) where
         is_wrong = differ (sent_comes i ms marked i x.0 x.2) (sent_comes i ms marked i x.1 x.3) x.4;
       }
 
-  -- where the check fails, too
+  -- where the check fails, the place is the first with a defect
   pub fails_first : (i : ℕ) (ms : List Mark) (ks : List Kind) (instr : Instr) (wrong : Defect) →
       IsMarked commands h i ms → mark_at ms i ≡ mark.Has ks → slice_get h.code i ≡ Some instr →
       check commands h i ks instr ≡ Err wrong → IsFirstWrong commands h i wrong

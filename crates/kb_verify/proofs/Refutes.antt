@@ -1,12 +1,12 @@
--- A fault leaves no way to be accepted.
+-- A handler with a fault is not accepted.
 use Rattle.std.proofs.Common.{◌≡◌, ◌<◌, ◌≤◌, ◌⊎◌, ⊎_elim, ℕ, Bool, true, false, List, [], length, Ok, Err}
 use Rattle.std.proofs.Common.{refl, sym, ap, ◌∙◌, subst, arith}
 use Rattle.std.specs.Prelude.{nat_lt}
 use Rattle.std.proofs.lemmas.Bool.{ltb-true, ltb-false}
 use Rattle.std.proofs.lemmas.Option.{slice_get_within}
 use Rattle.kb_core.specs.declared.arg.Kind.{Kind}
-use Rattle.kb_context.specs.declared.failure.Failure.{Failure}
-use Rattle.kb_context.specs.declared.failure.Failure.TheVariants as failure
+use Rattle.kb_base.specs.declared.failure.Failure.{Failure}
+use Rattle.kb_base.specs.declared.failure.Failure.TheVariants as failure
 use Rattle.kb_code.specs.declared.instr.Instr.{Instr}
 use Rattle.kb_code.specs.Handler.{HandlerData}
 use Rattle.kb_code.specs.Reachable.{Reachable, first, onward}
@@ -35,7 +35,7 @@ module _ (commands : Commands) (h : HandlerData) where
   same_right p ks ls a b i e l r =
       let both : Ok b ≡ Ok a = sym r ∙ ap (λ x. check commands h p x i) e ∙ l in cc
 
-  -- two assignments agree where both hold
+  -- two assignments of shapes agree where both hold
   agree : (place bound : ℕ) (shape other : ℕ → List Kind) → HasShapesBelow commands h shape place →
       HasShapesBelow commands h other bound → (p : ℕ) → p < place → p < bound → Reachable h.code p →
       other p ≡ shape p
@@ -59,7 +59,7 @@ module _ (commands : Commands) (h : HandlerData) where
       let upper = has.each p f.instr there r f.at in
       upper.flows q in_bound f ∙ same_right p (shape p) (other p) a upper.after f.instr (agree place bound shape other below has p here there r) right upper.is_right
 
-  -- what comes to a place by one of two assignments below it comes by the other
+  -- a shape that reaches a place by one assignment reaches it by the other
   comes_too : (place : ℕ) (shape other : ℕ → List Kind) → HasShapesBelow commands h shape place →
       HasShapesBelow commands h other place → (q : ℕ) (a : List Kind) → q ≤ place →
       Comes commands h shape q a → Comes commands h other q a
@@ -73,7 +73,7 @@ module _ (commands : Commands) (h : HandlerData) where
   some_comes place shape below (first some) = ([], Comes.starts)
   some_comes place shape below (onward {p = p} r f) = let lower = below.each p f.instr f.later r f.at in (lower.after, Comes.flows r f lower.is_right)
 
-  -- a place that is wrong is right by no assignment
+  -- a place with a defect is right by no assignment
   pub wrong_refutes : (place bound : ℕ) (wrong : Defect) (shape other : ℕ → List Kind) →
       Reachable h.code place → HasShapesBelow commands h shape place → HasShapesBelow commands h other bound →
       place < bound → IsWrongAt commands h shape place wrong → ⊥
@@ -90,7 +90,7 @@ module _ (commands : Commands) (h : HandlerData) where
       HasShapes commands h → ⊥
   first_refutes place wrong w has = wrong_refutes place (length h.code) wrong w.shape has.0 w.reachable w.below has.1 (reach_within h.code place w.reachable) w.is_wrong
 
-  -- there is one first place that is wrong, and one thing wrong there
+  -- the first place with a defect, and its defect, are unique
   same_wrong : (place : ℕ) (a b : Defect) (shape other : ℕ → List Kind) → Reachable h.code place →
       HasShapesBelow commands h shape place → HasShapesBelow commands h other place →
       IsWrongAt commands h shape place a → IsWrongAt commands h other place b → a ≡ b

@@ -1,4 +1,4 @@
--- When two declarations are the same, they are equal.
+-- Declarations that `same_declaration` accepts are equal.
 use Rattle.std.proofs.Common.{◌≡◌, ◌∙◌, refl, sym, ap, Bool, true, false, ◌&&◌, List, [], ◌∷◌, true≢false}
 use Rattle.std.specs.Prelude.{bytes_eq, nat_eq}
 use Rattle.std.proofs.lemmas.Slice.Eq.{bytes_eq-Decides}

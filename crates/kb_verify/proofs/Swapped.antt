@@ -1,8 +1,8 @@
--- Other commands, which declare the callees alike.
+-- Another table of commands that declares the same for the callees.
 use Rattle.std.proofs.Common.{◌≡◌, ℕ, suc, ◌+◌, inl, inr, List, [], ◌∷◌, length, Option, Some, None, refl}
 use Rattle.std.proofs.Common.{sym, ap, ◌∙◌, subst}
 use Rattle.std.specs.Prelude.{slice_get, nat_le}
-use Rattle.kb_context.specs.Reading.{◌>>=◌, ◌>>◌, unless}
+use Rattle.kb_base.specs.Reading.{◌>>=◌, ◌>>◌, unless}
 use Rattle.kb_core.specs.declared.arg.Kind.{Kind}
 use Rattle.kb_core.specs.Declaration.{Declaration}
 use Rattle.kb_code.specs.declared.instr.Instr.{Instr}
@@ -24,7 +24,7 @@ use Rattle.kb_verify.proofs.Checks.{all_lead_on}
 use Rattle.kb_verify.proofs.Edges.{follows}
 
 module _ (commands other : Commands) (h : HandlerData) (has : HasShapes commands h) (swapped : IsSwapped commands other h) where
-  -- what is called at a place that is reached is declared alike
+  -- a reachable call has the same declaration in both tables
   alike_at : (p n : ℕ) → Reachable h.code p → slice_get h.code p ≡ Some (i.Call n) →
       declaration_at other h n ≡ declaration_at commands h n
   alike_at p n reached at = by (declaration_at commands h n) refl where
@@ -80,7 +80,7 @@ module _ (commands other : Commands) (h : HandlerData) (has : HasShapes commands
       AreWithin (exits_of (suc p) instr) (length h.code)
   within p instr reached at = (all_lead_on commands h has).within p instr reached at
 
-  -- a path by the one is a path by the other
+  -- a path by one table is a path by the other
   path_too : (p : ℕ) (path : List Step) (c : ℕ) → Reachable h.code p → Path other h p path c →
       Path commands h p path c
   path_too p path c reached (returns instr at e) =

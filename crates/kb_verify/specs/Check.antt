@@ -1,8 +1,9 @@
--- The check of an instruction at a place. A shape lists the kinds of the operands, the topmost first.
+-- The check of one instruction. A shape lists the kinds of the operands on the stack, the topmost
+-- first.
 use Rattle.std.specs.Prelude.{ℕ, suc, Bool, true, false, nat_lt, nat_le, ◌&&◌, if◌then◌else◌, ⊤}
 use Rattle.std.specs.Prelude.{List, [], ◌∷◌, length, reverse, take, drop}
 use Rattle.std.specs.Prelude.{Option, Some, None, slice_get, Result, Ok, Err}
-use Rattle.kb_context.specs.Reading.{◌>>=◌, ◌>>◌, seen, unless, guard}
+use Rattle.kb_base.specs.Reading.{◌>>=◌, ◌>>◌, seen, unless, guard}
 use Rattle.kb_core.specs.declared.arg.Kind.{Kind}
 use Rattle.kb_core.specs.declared.arg.Kind.TheVariants as kind
 use Rattle.kb_core.specs.declared.parameter.Param.{Param}
@@ -14,7 +15,7 @@ use Rattle.kb_verify.specs.declared.fault.Defect.{Defect}
 use Rattle.kb_verify.specs.declared.fault.Defect.TheVariants as defect
 use Rattle.kb_verify.specs.Callable.{Commands, declaration_at}
 
--- whether what takes operands of the first kind takes one of the second
+-- whether a parameter of the first kind accepts an operand of the second
 abbrev pub takes : Kind → Kind → Bool
 takes kind.Any k = true
 takes kind.Text kind.Text = true
@@ -22,17 +23,17 @@ takes kind.Number kind.Number = true
 takes kind.Truth kind.Truth = true
 takes _ _ = false
 
--- the same of a list of parameters
+-- whether each parameter accepts its argument
 abbrev pub takes_each : List Param → List Kind → Bool
 takes_each [] [] = true
 takes_each (p ∷ ps) (k ∷ ks) = takes p.kind k && takes_each ps ks
 takes_each _ _ = false
 
--- a shape, or what is wrong
+-- a shape or a defect
 abbrev pub Checked : Type 0
 Checked = Result (List Kind) Defect
 
--- a kind on top, where something stands at its index
+-- push a kind, if the text or parameter of the index exists
 abbrev pub with_text : Option (List ℕ) → Kind → List Kind → Checked
 with_text None k ks = Err defect.WrongOperand
 with_text (Some text) k ks = Ok (k ∷ ks)
@@ -49,7 +50,7 @@ abbrev pub swapped : List Kind → Checked
 swapped (y ∷ x ∷ ks) = Ok (x ∷ y ∷ ks)
 swapped _ = Err defect.MissingOperand
 
--- without the topmost one or two, of a kind
+-- pop one or two operands of a kind
 abbrev pub without_one : Kind → List Kind → Checked
 without_one k [] = Err defect.MissingOperand
 without_one k (x ∷ ks) = if takes k x then Ok ks else Err defect.WrongOperand
@@ -58,7 +59,7 @@ abbrev pub without_two : Kind → List Kind → Checked
 without_two k (y ∷ x ∷ ks) = if takes k y && takes k x then Ok ks else Err defect.WrongOperand
 without_two k _ = Err defect.MissingOperand
 
--- without the arguments of a command, the last on top
+-- pop the arguments of a command; the last is on top
 abbrev pub without_args : Option Declaration → List Kind → Checked
 without_args None ks = Err defect.UnknownCommand
 without_args (Some d) ks =
@@ -66,18 +67,18 @@ without_args (Some d) ks =
     else if takes_each d.params (reverse (take (length d.params) ks)) then Ok (drop (length d.params) ks)
     else Err defect.WrongArgument
 
--- a kind put on what was left
+-- push a kind on the result of a check
 abbrev pub put : Kind → Checked → Checked
 put k left = seen (λ ks. k ∷ ks) left
 
--- at most 64 operands may stand
+-- at most 64 operands are allowed
 abbrev pub fitting : List Kind → Checked
 fitting ks = unless defect.TooHigh (nat_le (length ks) 64) ks
 
 abbrev pub fitted : Checked → Checked
 fitted left = left >>= fitting
 
--- what an instruction makes of a shape
+-- the effect of an instruction on a shape
 abbrev pub effect : Commands → HandlerData → Instr → List Kind → Checked
 effect commands h i.Return ks = Ok ks
 effect commands h (i.Text n) ks = with_text (slice_get h.texts n) kind.Text ks
@@ -104,21 +105,21 @@ effect commands h (i.Context n) ks = with_text (slice_get h.texts n) kind.Any ks
 effect commands h i.Before ks = Ok (kind.Number ∷ ks)
 effect commands h i.After ks = Ok (kind.Number ∷ ks)
 
--- a jump goes to a later place of the code, and the next place is within the code
+-- a jump goes to a later place of the code; the next place is within the code
 abbrev pub jumps_on : ℕ → ℕ → ℕ → Result ⊤ Defect
 jumps_on size place to = guard defect.BadJump (nat_lt place to && nat_lt to size)
 
 abbrev pub falls_on : ℕ → ℕ → Result ⊤ Defect
 falls_on size place = guard defect.FallsOff (nat_lt (suc place) size)
 
--- where an instruction leads is right
+-- all exits of an instruction are later places of the code
 abbrev pub leads : ℕ → ℕ → Instr → Result ⊤ Defect
 leads size place i.Return = Ok tt
 leads size place (i.Jump to) = jumps_on size place to
 leads size place (i.JumpIfFalse to) = jumps_on size place to >> falls_on size place
 leads size place _ = falls_on size place
 
--- what is behind an instruction: its operands come first, then where it leads, then that 64 have room
+-- the check of an instruction: first its operands, then its exits, then the limit of 64 operands
 abbrev pub check : Commands → HandlerData → ℕ → List Kind → Instr → Checked
 check commands h place ks instr =
     effect commands h instr ks >>= (λ after.

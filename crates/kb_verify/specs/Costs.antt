@@ -1,4 +1,4 @@
--- The dearest costs of what is left, kept up to the largest number of 64 bits.
+-- The cost of the most expensive path from each place, saturating at the largest number of 64 bits.
 use Rattle.std.specs.Prelude.{◌≡◌, ℕ, suc, ◌+◌, ◌-◌, ◌^◌, min, max, nat_lt, if◌then◌else◌}
 use Rattle.std.specs.Prelude.{List, length, Some, slice_get, slice_index}
 use Rattle.kb_code.specs.declared.instr.Instr.{Instr}
@@ -21,11 +21,11 @@ rest_cost costs p Stop = 0
 rest_cost costs p (One q) = later_cost costs p q
 rest_cost costs p (Two q r) = max (later_cost costs p q) (later_cost costs p r)
 
--- the dearest cost from a place, by those of the later places
+-- the cost from a place, computed from the costs of the later places
 abbrev pub dearest : Commands → HandlerData → List ℕ → ℕ → Instr → ℕ
 dearest commands h costs p i = capped (rest_cost costs p (exits_of (suc p) i) + cost commands h i)
 
--- the dearest cost from each place
+-- the cost from each place
 pub record AreCosts (commands : Commands) (h : HandlerData) (costs : List ℕ) : Type 0 where
   pub size : length costs ≡ length h.code
   pub each : (p : ℕ) (i : Instr) → slice_get h.code p ≡ Some i →

@@ -1,4 +1,4 @@
--- Number and place of each fault.
+-- The number and the place of each fault.
 use Rattle.std.specs.Prelude.{ℕ}
 use Rattle.kb_verify.specs.declared.fault.Defect.TheVariants as defect
 use Rattle.kb_verify.specs.declared.fault.VerifyFault.{VerifyFault}

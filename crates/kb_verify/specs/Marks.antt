@@ -1,4 +1,4 @@
--- The marks of the pass forward.
+-- The marks of the forward pass.
 use Rattle.std.specs.Prelude.{◌≡◌, ℕ, suc, ◌<◌, ◌≢◌, ◌⊎◌, List, [], length, Some, Ok}
 use Rattle.std.specs.Prelude.{slice_get, slice_set, slice_index_or}
 use Rattle.kb_core.specs.declared.arg.Kind.{Kind}
@@ -16,28 +16,28 @@ use Rattle.kb_verify.specs.Check.{check}
 abbrev pub mark_at : List Mark → ℕ → Mark
 mark_at ms p = slice_index_or ms p mark.Unreached
 
--- a mark has been given this shape, and perhaps others
+-- this shape reached a mark, and maybe others did too
 abbrev pub HasBeen : Mark → List Kind → Type 0
 HasBeen m after = (m ≡ mark.Has after) ⊎ (m ≡ mark.Differs)
 
--- a mark, and then a shape
+-- the mark after one more shape
 abbrev pub Meets : Mark → List Kind → Mark → Type 0
 Meets mark.Unreached after n = n ≡ mark.Has after
 Meets (mark.Has before) after n =
     ((before ≡ after) × (n ≡ mark.Has before)) ⊎ ((before ≢ after) × (n ≡ mark.Differs))
 Meets mark.Differs after n = n ≡ mark.Differs
 
--- a shape flows to a place
+-- the marks after a shape reached one place
 abbrev pub FlowsTo : List Mark → ℕ → List Kind → List Mark → Type 0
 FlowsTo ms to after ns = (m : Mark) × Meets (mark_at ms to) after m × (ns ≡ slice_set ms to m)
 
--- a shape flows from an instruction
+-- the marks after a shape was propagated to all exits of an instruction
 abbrev pub FlowsFrom : Exits → List Mark → List Kind → List Mark → Type 0
 FlowsFrom Stop ms after ns = ns ≡ ms
 FlowsFrom (One q) ms after ns = FlowsTo ms q after ns
 FlowsFrom (Two q r) ms after ns = (ks : List Mark) × FlowsTo ms q after ks × FlowsTo ks r after ns
 
--- a place is an exit, exits are within so many places, and later than a place
+-- a place is an exit; all exits are less than a size; all exits are later than a place
 abbrev pub IsExit : Exits → ℕ → Type 0
 IsExit Stop q = ⊥
 IsExit (One a) q = q ≡ a
@@ -53,14 +53,14 @@ AreLater Stop p = Unit {0}
 AreLater (One q) p = p < q
 AreLater (Two q r) p = (p < q) × (p < r)
 
--- each instruction that is reached leads to later places of the code
+-- each reachable instruction leads to later places of the code
 pub record LeadsOn (code : List Instr) : Type 0 where
   pub later : (p : ℕ) (i : Instr) → Reachable code p → slice_get code p ≡ Some i →
       AreLater (exits_of (suc p) i) p
   pub within : (p : ℕ) (i : Instr) → Reachable code p → slice_get code p ≡ Some i →
       AreWithin (exits_of (suc p) i) (length code)
 
--- a shape was sent to a place, at the start or by one of the places that were looked at
+-- a shape was sent to a place, at the start or from one of the checked places
 pub data Sent (commands : Commands) (h : HandlerData) (i : ℕ) (ms : List Mark) :
     ℕ → List Kind → Type 0 where
   starts : Sent commands h i ms 0 []
@@ -68,14 +68,14 @@ pub data Sent (commands : Commands) (h : HandlerData) (i : ℕ) (ms : List Mark)
       (f : Follows h.code p q) → check commands h p before f.instr ≡ Ok after →
       Sent commands h i ms q after
 
--- what was sent explains a mark
+-- the shapes that were sent to a place explain its mark
 abbrev pub Explains : Commands → HandlerData → ℕ → List Mark → ℕ → Mark → Type 0
 Explains commands h i ms q mark.Unreached = Unit {0}
 Explains commands h i ms q (mark.Has ks) = Sent commands h i ms q ks
 Explains commands h i ms q mark.Differs =
     (a : List Kind) × (b : List Kind) × Sent commands h i ms q a × Sent commands h i ms q b × (a ≢ b)
 
--- what is known of a place that was looked at
+-- the facts about a place that was checked
 pub record Looked (commands : Commands) (h : HandlerData) (ms : List Mark) (p : ℕ) : Type 0 where
   pub before : List Kind
   pub after : List Kind
@@ -85,7 +85,7 @@ pub record Looked (commands : Commands) (h : HandlerData) (ms : List Mark) (p : 
   pub right : check commands h p before instr ≡ Ok after
   pub flows : (q : ℕ) → IsExit (exits_of (suc p) instr) q → HasBeen (mark_at ms q) after
 
--- the marks, where all places below i were looked at
+-- the invariant of the pass after all places below i were checked
 pub record IsMarked (commands : Commands) (h : HandlerData) (i : ℕ) (ms : List Mark) : Type 0 where
   pub size : length ms ≡ length h.code
   pub root : HasBeen (mark_at ms 0) []

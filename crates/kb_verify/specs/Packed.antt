@@ -1,4 +1,4 @@
--- Kinds in two words: each has a bit of either, the topmost the lowest.
+-- Kinds in two words: each kind has one bit in each word, and the topmost kind has the lowest bits.
 use Rattle.std.specs.Prelude.{◌≡◌, ◌<◌, ℕ, zero, suc, ◌+◌, ◌*◌, ◌/◌, ◌%◌, ◌^◌, List, [], ◌∷◌, length}
 use Rattle.std.proofs.Common.{refl, ap, arith}
 use Rattle.kb_core.specs.declared.arg.Kind.{Kind}
@@ -17,14 +17,14 @@ high_bit kind.Number = 0
 high_bit kind.Truth = 1
 high_bit kind.Any = 1
 
--- the kind that has these bits
+-- the kind with these two bits
 abbrev pub kind_of : ℕ → ℕ → Kind
 kind_of zero zero = kind.Text
 kind_of (suc _) zero = kind.Number
 kind_of zero (suc _) = kind.Truth
 kind_of (suc _) (suc _) = kind.Any
 
--- so many kinds in two words
+-- the kinds that two words hold
 abbrev pub kinds_in : ℕ → ℕ → ℕ → List Kind
 kinds_in zero low high = []
 kinds_in (suc height) low high = kind_of (low % 2) (high % 2) ∷ kinds_in height (low / 2) (high / 2)
@@ -38,7 +38,7 @@ abbrev pub high_word : List Kind → ℕ
 high_word [] = 0
 high_word (k ∷ ks) = 2 * high_word ks + high_bit k
 
--- the words, and how many kinds they hold, come back
+-- packing inverts unpacking: the number of kinds, and both words
 pub counted : (h l g : ℕ) → length (kinds_in h l g) ≡ h
 counted zero l g = refl
 counted (suc h) l g = ap suc (counted h (l / 2) (g / 2))

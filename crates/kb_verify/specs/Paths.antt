@@ -1,4 +1,4 @@
--- The paths of a handler, and what they cost.
+-- The paths of a handler and their costs.
 use Rattle.std.specs.Prelude.{◌≡◌, ℕ, suc, ◌+◌, ◌<◌, ◌≤◌, List, [], ◌∷◌, Option, Some, None, slice_get}
 use Rattle.kb_core.specs.Declaration.{Declaration}
 use Rattle.kb_code.specs.declared.exits.Exits.TheVariants.{Stop, One, Two}
@@ -14,7 +14,7 @@ abbrev pub budget_in : Option Declaration → ℕ
 budget_in None = 0
 budget_in (Some d) = d.budget
 
--- an instruction costs 1, and a call what its callee declares besides
+-- an instruction costs 1, and a call also the declared budget of its callee
 abbrev pub cost : Commands → HandlerData → Instr → ℕ
 cost commands h (Call n) = 1 + budget_in (declaration_at commands h n)
 cost commands h _ = 1
@@ -33,17 +33,17 @@ pub data Path (commands : Commands) (h : HandlerData) : ℕ → List Step → �
       exits_of (suc p) i ≡ Two q r → p < r → Path commands h r steps c →
       Path commands h p (Jumps ∷ steps) (cost commands h i + c)
 
--- no path costs more than the budget that is declared
+-- no path costs more than the declared budget
 abbrev pub IsWithinBudget : Commands → HandlerData → Type 0
 IsWithinBudget commands h = (path : List Step) (c : ℕ) → Path commands h 0 path c → c ≤ h.signature.budget
 
--- a path costs more
+-- this path costs more than the declared budget
 pub record IsOverBudget (commands : Commands) (h : HandlerData) (path : List Step) : Type 0 where
   pub cost : ℕ
   pub is_path : Path commands h 0 path cost
   pub over : h.signature.budget < cost
 
--- what a dearest path costs: a path costs this, and none costs more
+-- the cost of a most expensive path: some path has this cost, and none costs more
 pub record IsDearestCost (commands : Commands) (h : HandlerData) (cost : ℕ) : Type 0 where
   pub path : List Step
   pub is_path : Path commands h 0 path cost

@@ -1,4 +1,4 @@
-//! One pass backward, for the costs, and a dearest path.
+//! The backward pass, which computes costs, and the search for a most expensive path.
 ghost use Rattle.std.specs.Prelude.{◌≡◌, ◌<◌, ◌+◌, ◌^◌, ℕ, length, IfOk, slice_index, option_copied};
 ghost use Rattle.kb_verify.specs.Costs.{AreCosts, capped, dearest, later_cost};
 ghost use Rattle.kb_verify.specs.Marks.{LeadsOn};
@@ -8,11 +8,12 @@ use crate::callable::{Callable, SharedSignature};
 use crate::check::signature_at;
 use crate::fault::Step;
 use crate::forward::exits_at;
+use kb_base::{NoMemory, Seq};
 use kb_code::{Exits, Handler, Instr};
-use kb_context::{NoMemory, Seq};
 use std::alloc::Global;
 
-/// The dearest cost from each place, up to the largest number there is.
+/// The cost of the most expensive path from each place to a return. Costs saturate at the largest
+/// `u64`.
 pub(crate) fn dearest_costs(
     alloc: Global,
     callable: &Callable,
@@ -29,7 +30,7 @@ pub(crate) fn dearest_costs(
     Ok(costs)
 }
 
-/// The dearest cost from a place, by those of the later places.
+/// The cost of the most expensive path from a place, computed from the costs of the later places.
 fn dearest_at(
     callable: &Callable,
     handler: &Handler,
@@ -52,7 +53,8 @@ fn dearest_at(
     rest.saturating_add(instr_cost(callable, handler, instr))
 }
 
-/// The cost from a later place.
+/// The cost of the most expensive path from a later place. It is 0 where `next` is not a later place of
+/// the code.
 fn cost_from(costs: &[u64], place: usize, next: usize) -> u64
     ensures { result ≡ later_cost costs.now place next }
 {
@@ -63,8 +65,8 @@ fn cost_from(costs: &[u64], place: usize, next: usize) -> u64
     }
 }
 
-/// What an instruction of a handler costs: 1, and a call besides that the budget of the command that it
-/// calls, where there is one. It takes no memory.
+/// The cost of an instruction of a handler: 1, and for a call also the budget that the called command
+/// declares. A call of a command that isn't callable costs 1.
 pub fn instr_cost(callable: &Callable, handler: &Handler, instr: Instr) -> u64
     ensures { result ≡ cost callable.now handler.now instr }
 {
@@ -74,7 +76,7 @@ pub fn instr_cost(callable: &Callable, handler: &Handler, instr: Instr) -> u64
     }
 }
 
-/// The budget of a signature, if there is one.
+/// The budget of a signature, or 0 if there is none.
 fn budget_in(signature: Option<&SharedSignature>) -> u32
     ensures { result ≡ budget_in (option_copied signature.entry) }
 {
@@ -84,7 +86,7 @@ fn budget_in(signature: Option<&SharedSignature>) -> u32
     }
 }
 
-/// A path of the dearest cost.
+/// The steps of a most expensive path from the first place to a return.
 pub(crate) fn dearest_path(
     alloc: Global,
     callable: &Callable,

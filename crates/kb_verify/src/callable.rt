@@ -1,15 +1,15 @@
-//! What a handler may call.
+//! The commands that handlers may call, and their signatures.
 ghost use Rattle.std.specs.Prelude.{◌≡◌, IfOk, OnOk, OnErr, false, option_copied};
 ghost use Rattle.std.specs.FinMap as map;
 ghost use Rattle.kb_verify.specs.Callable.{with_first};
 
-use kb_context::{NoMemory, Seq, Text, TextMap};
+use kb_base::{NoMemory, Seq, Text, TextMap};
 use kb_core::{Param, Signature};
 use std::alloc::Global;
 use std::marker::Model;
 use std::rc::Rc;
 
-/// A signature that several hold. Contracts see the signature itself.
+/// A signature with shared ownership (reference counted). Contracts see the signature itself.
 #[derive(Drop)]
 pub struct SharedSignature {
     signature: Rc<Signature>,
@@ -24,7 +24,7 @@ impl Model for SharedSignature {
 }
 
 impl SharedSignature {
-    /// A copy of a signature, for several to hold.
+    /// A copy of a signature that can be shared.
     pub(crate) fn of(alloc: Global, signature: &Signature) -> Result<SharedSignature, NoMemory>
         ensures { IfOk result (λ made. made ≡ signature.now) }
     {
@@ -35,8 +35,8 @@ impl SharedSignature {
         })
     }
 
-    /// The same signature for one more to hold. It isn't copied. `NoMemory` where the count of those that
-    /// hold it can't grow.
+    /// One more reference to the same signature, without a copy. `NoMemory` if the reference count
+    /// can't grow.
     pub fn share(&self) -> Result<SharedSignature, NoMemory>
         ensures { IfOk result (λ made. made ≡ self.now) }
     {
@@ -45,7 +45,7 @@ impl SharedSignature {
         })
     }
 
-    /// The signature, lent. It takes no memory.
+    /// Borrows the signature.
     pub fn as_signature(&self) -> &Signature
         ensures { result.now ≡ self.now }
     {
@@ -53,7 +53,7 @@ impl SharedSignature {
     }
 }
 
-/// Parameters with names of their own.
+/// A copy of parameters, with their names.
 fn copied(alloc: Global, params: &[Param]) -> Result<Seq<Param>, NoMemory>
     ensures { IfOk result (λ copied. copied ≡ params.now) }
 {
@@ -67,8 +67,8 @@ fn copied(alloc: Global, params: &[Param]) -> Result<Seq<Param>, NoMemory>
     Ok(copied)
 }
 
-/// The commands that a handler may call, by name, with their signatures. Contracts see a finite map from
-/// names. It is made once for all handlers of a file; a name is looked up once, however many there are.
+/// The commands that a handler may call: their names and signatures. Contracts see a finite map from
+/// names. One table serves all handlers of a file, and a look-up by name searches a map.
 #[derive(Drop)]
 pub struct Callable {
     table: TextMap<SharedSignature>,
@@ -88,7 +88,7 @@ impl Model for Callable {
 }
 
 impl Callable {
-    /// No commands. It takes no memory.
+    /// A table without commands.
     pub fn new(alloc: Global) -> Callable
         ensures { result ≡ map.empty }
     {
@@ -97,8 +97,9 @@ impl Callable {
         }
     }
 
-    /// Adds a command with a copy of its signature, unless there is one of its name: the first of equal
-    /// names counts (our decision). Without memory nothing is added.
+    /// Adds a command with a copy of its signature. If the table already has a command of this name, it
+    /// stays as it is (our decision: the first of equal names counts), and nothing is allocated. On
+    /// `NoMemory` the table is unchanged.
     pub fn add(&mut self, alloc: Global, name: &str, signature: &Signature) -> Result<(), NoMemory>
         ensures ok { OnOk result (self.new ≡ with_first name.now signature.now self.old) }
         ensures err { OnErr result (self.new ≡ self.old) }
@@ -111,7 +112,7 @@ impl Callable {
         self.table.set(alloc, name, signature)
     }
 
-    /// The signature of a command, or `None` where no command has the name.
+    /// The signature of the command with a name, or `None` if the table has no such command.
     pub fn get(&self, name: &str) -> Option<&SharedSignature>
         ensures { option_copied result ≡ map.get self.now name.now }
     {

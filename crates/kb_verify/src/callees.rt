@@ -1,4 +1,4 @@
-//! The callees, and how deep they nest.
+//! The commands that a handler calls, and the check of their depths.
 ghost use Rattle.std.specs.Prelude.{◌≡◌, ◌<◌, length, MatchOption, MatchResult};
 ghost use Rattle.kb_code.specs.Reachable.{Calls};
 ghost use Rattle.kb_verify.specs.Accepted.{AreCallees, IsCallee, IsShallow};
@@ -11,21 +11,21 @@ use crate::callable::{Callable, SharedSignature};
 use crate::check::signature_at;
 use crate::fault::VerifyFault;
 use crate::forward::Mark;
+use kb_base::{Failure, Seq};
 use kb_code::{Handler, Instr};
-use kb_context::{Failure, Seq};
 use std::alloc::Global;
 
-/// A command that a handler calls. Its name isn't copied: it is that of the handler's list of calls at the
-/// index.
+/// A command that a handler calls. The handler's list of calls has its name, at the index.
 #[derive(Drop)]
 pub struct Callee {
     /// The index of the command's name in the handler's list of calls.
     pub index: u16,
-    /// What the command declared when the handler was verified.
+    /// The signature that the command declared when the handler was verified.
     pub signature: SharedSignature,
 }
 
-/// The callees, or the first call that nests too deep.
+/// The callees, or the fault of the first call whose command declares a depth that isn't less than the
+/// handler's.
 pub(crate) fn shallow_callees(
     alloc: Global,
     callable: &Callable,
@@ -55,7 +55,7 @@ pub(crate) fn shallow_callees(
     Ok(Seq::from_vec(callees))
 }
 
-/// The callee at a place, if a call stands there and is reached.
+/// The callee at a place, or `None` if no reachable call is there.
 fn callee_at<'a>(
     callable: &'a Callable,
     handler: &Handler,

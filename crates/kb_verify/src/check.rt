@@ -8,11 +8,11 @@ ghost use Rattle.kb_verify.specs.Check.{without_two};
 use crate::callable::{Callable, SharedSignature};
 use crate::fault::Defect;
 use crate::shape::Shape;
+use kb_base::Text;
 use kb_code::{Handler, Instr};
-use kb_context::Text;
 use kb_core::{Kind, Param};
 
-/// The shape behind an instruction, by that in front of it, or what is wrong.
+/// The shape after an instruction, computed from the shape before it, or the defect of the instruction.
 pub(crate) fn check_instr(
     callable: &Callable,
     handler: &Handler,
@@ -29,7 +29,7 @@ pub(crate) fn check_instr(
             leads(size, place, instr)?;
             Ok(after)
         }
-        // Where it leads is told before that too many operands stand.
+        // Control-flow defects (64, 65) take precedence over too many operands (67).
         Err(Defect::TooHigh) => {
             leads(size, place, instr)?;
             Err(Defect::TooHigh)
@@ -38,9 +38,9 @@ pub(crate) fn check_instr(
     }
 }
 
-/// What an instruction makes of a shape, or what is wrong with its index, the operands or their number.
-/// Each arm is one call: a value in between would be made ready here for each instruction, whichever arm it
-/// takes.
+/// The effect of an instruction on a shape, or a defect of its index, its operands or their number.
+/// Each arm is one call: the compiler would prepare a temporary value of any arm for each instruction,
+/// even if it takes another arm.
 fn apply(
     callable: &Callable,
     handler: &Handler,
@@ -77,35 +77,35 @@ fn apply(
     }
 }
 
-/// The operands without the topmost, which is of a kind.
+/// Pops the topmost operand, which must have a kind.
 fn less_one(kind: Kind, shape: Shape) -> Result<Shape, Defect>
     ensures { result ≡ fitted (without_one kind shape) }
 {
     without_one(kind, shape)?.fitted()
 }
 
-/// The operands without the arguments of a command.
+/// Pops the arguments of a command.
 fn less_args(signature: Option<&SharedSignature>, shape: Shape) -> Result<Shape, Defect>
     ensures { result ≡ fitted (without_args (option_copied signature.entry) shape) }
 {
     without_args(signature, shape)?.fitted()
 }
 
-/// A kind in place of the topmost operand, which is of another one.
+/// Pops the topmost operand, which must have the kind `taken`, and pushes the kind `made`.
 fn from_one(taken: Kind, made: Kind, shape: Shape) -> Result<Shape, Defect>
     ensures { result ≡ fitted (put made (without_one taken shape)) }
 {
     without_one(taken, shape)?.with(made)
 }
 
-/// A kind in place of the two topmost operands, which are of another one.
+/// Pops the two topmost operands, which must have the kind `taken`, and pushes the kind `made`.
 fn from_two(taken: Kind, made: Kind, shape: Shape) -> Result<Shape, Defect>
     ensures { result ≡ fitted (put made (without_two taken shape)) }
 {
     without_two(taken, shape)?.with(made)
 }
 
-/// Whether an instruction leads to later places of the code, or what is wrong.
+/// Checks that all exits of an instruction are later places of the code.
 fn leads(size: usize, place: usize, instr: Instr) -> Result<(), Defect>
     requires { place < size }
     ensures { result ≡ leads size place instr }
@@ -121,7 +121,7 @@ fn leads(size: usize, place: usize, instr: Instr) -> Result<(), Defect>
     }
 }
 
-/// Whether a jump goes to a later place of the code.
+/// Checks that a jump goes to a later place of the code.
 fn jumps_on(size: usize, place: usize, to: usize) -> Result<(), Defect>
     ensures { result ≡ jumps_on size place to }
 {
@@ -132,7 +132,7 @@ fn jumps_on(size: usize, place: usize, to: usize) -> Result<(), Defect>
     }
 }
 
-/// Whether the next place is one of the code.
+/// Checks that the next place is within the code.
 fn falls_on(size: usize, place: usize) -> Result<(), Defect>
     requires { place < size }
     ensures { result ≡ falls_on size place }
@@ -144,7 +144,8 @@ fn falls_on(size: usize, place: usize) -> Result<(), Defect>
     }
 }
 
-/// The signature of the command that the handler's list of calls has at an index, if it may be called.
+/// The signature of the command at an index of the handler's list of calls. `None` if there is no such
+/// index, or if the command is not callable.
 pub(crate) fn signature_at<'a>(
     callable: &'a Callable,
     handler: &Handler,
@@ -158,7 +159,7 @@ pub(crate) fn signature_at<'a>(
     }
 }
 
-/// A kind on top, where there is a text.
+/// Pushes a kind, if the text exists.
 fn with_text(text: Option<&Text>, kind: Kind, shape: Shape) -> Result<Shape, Defect>
     ensures { result ≡ fitted (with_text (option_copied text.entry) kind shape) }
 {
@@ -168,7 +169,7 @@ fn with_text(text: Option<&Text>, kind: Kind, shape: Shape) -> Result<Shape, Def
     }
 }
 
-/// A parameter's kind on top, where there is a parameter.
+/// Pushes the kind of a parameter, if the parameter exists.
 fn with_param(param: Option<&Param>, shape: Shape) -> Result<Shape, Defect>
     ensures { result ≡ fitted (with_param (option_copied param.entry) shape) }
 {
@@ -178,7 +179,7 @@ fn with_param(param: Option<&Param>, shape: Shape) -> Result<Shape, Defect>
     }
 }
 
-/// The topmost kind once more.
+/// Pushes the topmost kind again.
 fn doubled(shape: Shape) -> Result<Shape, Defect>
     ensures { result ≡ fitted (doubled shape) }
 {
@@ -188,7 +189,7 @@ fn doubled(shape: Shape) -> Result<Shape, Defect>
     }
 }
 
-/// The two topmost kinds, exchanged.
+/// Exchanges the two topmost kinds.
 fn swapped(shape: Shape) -> Result<Shape, Defect>
     ensures { result ≡ fitted (swapped shape) }
 {
@@ -201,7 +202,7 @@ fn swapped(shape: Shape) -> Result<Shape, Defect>
     rest.with(y)?.with(x)
 }
 
-/// The operands without the topmost, which is of a kind.
+/// The shape without its topmost operand, which must have a kind.
 fn without_one(kind: Kind, shape: Shape) -> Result<Shape, Defect>
     ensures { result ≡ without_one kind shape }
 {
@@ -214,7 +215,7 @@ fn without_one(kind: Kind, shape: Shape) -> Result<Shape, Defect>
     Ok(rest)
 }
 
-/// The operands without the two topmost, which are of a kind.
+/// The shape without its two topmost operands, which must have a kind.
 fn without_two(kind: Kind, shape: Shape) -> Result<Shape, Defect>
     ensures { result ≡ without_two kind shape }
 {
@@ -231,7 +232,7 @@ fn without_two(kind: Kind, shape: Shape) -> Result<Shape, Defect>
     }
 }
 
-/// The operands without the arguments of a command, the last of which is on top.
+/// The shape without the arguments of a command. The last argument is on top.
 fn without_args(signature: Option<&SharedSignature>, shape: Shape) -> Result<Shape, Defect>
     ensures { result ≡ without_args (option_copied signature.entry) shape }
 {
@@ -253,7 +254,7 @@ fn without_args(signature: Option<&SharedSignature>, shape: Shape) -> Result<Sha
     Ok(rest)
 }
 
-/// Whether what takes operands of the first kind takes one of the second.
+/// Whether a parameter of the first kind accepts an operand of the second.
 fn takes(kind: Kind, operand: Kind) -> bool
     ensures { result ≡ takes kind operand }
 {

@@ -1,4 +1,4 @@
-//! What a dearest path of a handler costs.
+//! The cost of the most expensive path of a handler.
 ghost use Rattle.std.specs.Prelude.{IfOk, IfErr, MatchResult};
 ghost use Rattle.kb_verify.specs.Accepted.{IsAccepted};
 ghost use Rattle.kb_verify.specs.Faults.{IsFailure, IsTrueFault};
@@ -7,12 +7,12 @@ ghost use Rattle.kb_verify.specs.Paths.{IsDearestCost};
 use crate::callable::Callable;
 use crate::fault::VerifyFault;
 use crate::verified::examine;
+use kb_base::Failure;
 use kb_code::Handler;
-use kb_context::Failure;
 use std::alloc::Global;
 
-/// What a dearest path of a handler costs that is accepted against the commands that it may call, or the
-/// first fault of any other, as `verify` tells it. The handler is lent.
+/// Verifies a borrowed handler and returns the cost of its most expensive path. The errors are those of
+/// `verify`: the first fault of a handler that is not accepted, or refused memory.
 pub fn dearest_cost(
     alloc: Global,
     callable: &Callable,

@@ -1,67 +1,70 @@
-//! Why a handler isn't accepted.
+//! The faults for which the verifier rejects a handler.
 ghost use Rattle.std.specs.Prelude.{◌≡◌};
 ghost use Rattle.kb_verify.specs.Fault.{number_of, place_of};
 
-use kb_context::Seq;
+use kb_base::Seq;
 use thiserror::Error;
 
-/// What is wrong at a place that is reached. The cases are our decision, in the order of their numbers, 60
-/// to 67.
+/// A defect at a reachable place. The cases are our decision. They are in the order of their numbers,
+/// 60 to 67.
 #[derive(Clone, Copy, Debug, PartialEq, Eq, Error)]
 pub enum Defect {
-    /// The instruction takes more operands than stand.
+    /// The instruction takes more operands than are on the stack.
     #[error("too few operands")]
     MissingOperand,
-    /// An operand is of a kind that the instruction doesn't take, or there is no text or argument of the
+    /// An operand has a kind that the instruction doesn't accept, or no text or parameter has the
     /// instruction's index.
     #[error("a wrong operand")]
     WrongOperand,
-    /// The command that is called may not be called, or there is no call of the instruction's index.
+    /// The called command is not callable, or the list of calls has no entry at the instruction's
+    /// index.
     #[error("an unknown command")]
     UnknownCommand,
-    /// An argument of the call is of a kind that the command doesn't take.
+    /// An argument of the call has a kind that the command doesn't accept.
     #[error("a wrong argument")]
     WrongArgument,
-    /// A jump goes to no later place of the code.
+    /// A jump doesn't go to a later place of the code.
     #[error("a bad jump")]
     BadJump,
-    /// The code ends behind the instruction, which is no return.
+    /// The code ends after this instruction, which isn't a return.
     #[error("the code falls off its end")]
     FallsOff,
-    /// Two ways to the place leave operands of different kinds.
+    /// Two paths reach the place with operands of different kinds.
     #[error("two ways with different operands")]
     ShapesDiffer,
-    /// More than 64 operands would stand.
+    /// The stack would have more than 64 operands.
     #[error("too many operands")]
     TooHigh,
 }
 
-/// How a path goes on at a branch. A path has one step for each `JumpIfFalse` (our decision).
+/// The direction that a path takes at a branch. A path has one step for each `JumpIfFalse` (our
+/// decision).
 #[derive(Clone, Copy, Debug, PartialEq, Eq)]
 pub enum Step {
-    /// It goes on at the next place.
+    /// It continues at the next place.
     Falls,
-    /// It jumps.
+    /// It jumps to the target.
     Jumps,
 }
 
-/// Why a handler isn't accepted. Places count instructions from 0. The numbers, and the order in which faults
-/// are looked for, are our decision.
+/// The reason why a handler isn't accepted. A place is the index of an instruction, from 0. The numbers
+/// and the order of the checks are our decision.
 #[derive(Debug, Drop, Error)]
 pub enum VerifyFault {
-    /// What is wrong at the first place of those that are reached at which anything is.
+    /// The defect of the first reachable place that has one, and this place.
     #[error("{0} at place {1}")]
     Wrong(Defect, usize),
-    /// A path from the first place to a return that costs more than the handler declares.
+    /// The steps of a path from the first place to a return that costs more than the budget that the
+    /// handler declares.
     #[error("a path costs more than the budget")]
     OverBudget(Seq<Step>),
-    /// The first place with a call of a command that may nest as deep as the handler declares, or deeper.
+    /// The first place with a call of a command whose declared depth is not less than the handler's.
     #[error("the call at place {0} nests too deep")]
     OverDepth(usize),
 }
 
 impl VerifyFault {
-    /// The fault's number, by which messages name it: 60 to 69.
+    /// The number of the fault in messages: 60 to 69.
     pub fn number(&self) -> u32
         ensures { result ≡ number_of self.now }
     {
@@ -79,7 +82,7 @@ impl VerifyFault {
         }
     }
 
-    /// The place of the fault, which is the first one where a path costs too much.
+    /// The place of the fault. It is 0 for a path that costs too much.
     pub fn place(&self) -> usize
         ensures { result ≡ place_of self.now }
     {

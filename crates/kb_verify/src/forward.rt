@@ -1,4 +1,4 @@
-//! One pass forward, for the shapes.
+//! The forward pass, which computes shapes.
 ghost use Rattle.std.specs.Prelude.{◌≡◌, ◌<◌, ◌+◌, ◌-◌, ◌^◌, ◌∷◌, [], suc, length, replicate};
 ghost use Rattle.std.specs.Prelude.{IfOk, MatchResult};
 ghost use Rattle.kb_code.specs.Exits.{exits_of};
@@ -9,11 +9,11 @@ use crate::callable::Callable;
 use crate::check::check_instr;
 use crate::fault::{Defect, VerifyFault};
 use crate::shape::Shape;
+use kb_base::{Failure, NoMemory};
 use kb_code::{Exits, Handler, Instr};
-use kb_context::{Failure, NoMemory};
 use std::alloc::Global;
 
-/// What came to a place: no shape yet, one, or two that differ.
+/// The shapes that reached a place so far: none, one, or two different ones.
 #[derive(Clone, Copy, Debug)]
 pub(crate) enum Mark {
     Unreached,
@@ -21,7 +21,7 @@ pub(crate) enum Mark {
     Differs,
 }
 
-/// The shapes of all places that are reached, or the first place that is wrong.
+/// The shapes of all reachable places, or the first defect.
 pub(crate) fn assign(
     alloc: Global,
     callable: &Callable,
@@ -40,7 +40,8 @@ pub(crate) fn assign(
     Ok(marks)
 }
 
-/// The marks of so many places before any is looked at: no operand stands at the first.
+/// The marks of `size` places before the pass. The first place has the empty shape, since a handler
+/// starts without operands.
 fn blank(alloc: Global, size: usize) -> Result<Vec<Mark>, NoMemory>
     requires { 0 < size }
     ensures { IfOk result (λ marks. marks.items ≡ Mark.Has [] ∷ replicate (size - 1) Mark.Unreached) }
@@ -50,7 +51,7 @@ fn blank(alloc: Global, size: usize) -> Result<Vec<Mark>, NoMemory>
     Ok(marks)
 }
 
-/// Looks at a place, and lets the shape behind it flow on.
+/// Checks the instruction at a place, and propagates the shape after it to its exits.
 fn look(
     callable: &Callable,
     handler: &Handler,
@@ -78,7 +79,7 @@ fn look(
     }
 }
 
-/// The exits of an instruction at a place.
+/// The exits of the instruction at a place.
 pub(crate) fn exits_at(instr: Instr, place: usize) -> Exits
     requires { place + 1 < 2 ^ 64 }
     ensures { result ≡ exits_of (suc place) instr }
@@ -86,7 +87,7 @@ pub(crate) fn exits_at(instr: Instr, place: usize) -> Exits
     Exits::of(instr, place + 1)
 }
 
-/// A shape flows to all exits.
+/// Propagates a shape to all exits.
 fn flow_from(marks: &mut Vec<Mark>, exits: Exits, after: Shape)
     requires { AreWithin exits (length marks.old.items) }
     ensures flows { FlowsFrom exits marks.old.items after marks.new.items }
@@ -102,7 +103,7 @@ fn flow_from(marks: &mut Vec<Mark>, exits: Exits, after: Shape)
     }
 }
 
-/// A shape flows to a place.
+/// Propagates a shape to one place.
 fn flow_to(marks: &mut Vec<Mark>, to: usize, after: Shape)
     requires { to < length marks.old.items }
     ensures flows { FlowsTo marks.old.items to after marks.new.items }
@@ -111,7 +112,7 @@ fn flow_to(marks: &mut Vec<Mark>, to: usize, after: Shape)
     marks[to] = meet(marks[to], after);
 }
 
-/// A mark, where one more shape comes.
+/// The mark of a place after one more shape reaches it.
 fn meet(mark: Mark, after: Shape) -> Mark
     ensures { Meets mark after result }
 {

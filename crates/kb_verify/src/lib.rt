@@ -1,4 +1,6 @@
-//! The verifier of handler code: which handlers may run without a trap, and why others may not.
+//! The verifier of handler code. It accepts only handlers that can't trap, and reports why it rejects a
+//! handler.
+//! others.
 #![tactic(auto)]
 
 mod backward;
@@ -9,6 +11,7 @@ pub mod costing;
 pub mod fault;
 mod forward;
 pub mod laws;
+pub mod provider;
 mod same;
 mod shape;
 pub mod verified;
@@ -18,4 +21,5 @@ pub use callable::{Callable, SharedSignature};
 pub use callees::Callee;
 pub use costing::dearest_cost;
 pub use fault::{Defect, Step, VerifyFault};
+pub use provider::{Provider, callable_of};
 pub use verified::{Verified, verify};

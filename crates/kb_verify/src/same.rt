@@ -1,4 +1,4 @@
-//! Whether two commands declare the same.
+//! Comparison of signatures.
 ghost use Rattle.std.specs.Prelude.{◌≡◌};
 ghost use Rattle.kb_verify.specs.Same.{same_declaration, same_kind, same_params};
 
@@ -6,8 +6,7 @@ use crate::callable::SharedSignature;
 use kb_core::{Kind, Param, Signature};
 
 impl SharedSignature {
-    /// Whether a command's signature is the same: its parameters, with their names, its budget and its depth.
-    /// It takes no memory.
+    /// Whether two signatures are equal: parameters with their names, budget and depth.
     pub fn is_same(&self, other: &Signature) -> bool
         ensures { result ≡ same_declaration self.now other.now }
     {
@@ -18,7 +17,7 @@ impl SharedSignature {
     }
 }
 
-/// Whether two lists of parameters are the same.
+/// Whether two lists of parameters are equal.
 fn same_params(own: &[Param], other: &[Param]) -> bool
     ensures { result ≡ same_params own.now other.now }
 {

@@ -1,4 +1,4 @@
-//! Shapes: the kinds of the operands at a place.
+//! Shapes: the kinds of the operands on the stack at a place.
 ghost use Rattle.std.specs.Prelude.{◌≡◌, ◌≤◌, ◌∷◌, ◌↔◌, [], length, MatchOption, IsTrue};
 ghost use Rattle.kb_verify.specs.Check.{fitting};
 ghost use Rattle.kb_verify.specs.Packed.{low_bit, high_bit, kind_of};
@@ -7,12 +7,12 @@ use crate::fault::Defect;
 use kb_core::Kind;
 use std::marker::Model;
 
-/// How many operands may stand.
+/// The largest number of operands on the stack.
 const OPERAND_LIMIT: usize = 64;
 
-/// The kinds of the operands at a place, at most 64. A kind has a bit in each of two words, so that a shape
-/// is copied and compared as numbers are (a byte among whole words would be copied in pieces, with what
-/// fills it up). Contracts see the kinds from the top.
+/// The kinds of the operands on the stack at a place, at most 64. Each kind has one bit in each of two
+/// words, so a shape is copied and compared as three numbers. (A field of one byte would be copied in
+/// pieces, together with its padding.) Contracts see a list of kinds, the topmost first.
 #[derive(Clone, Copy, Debug)]
 pub(crate) struct Shape {
     height: usize,
@@ -42,7 +42,7 @@ impl Model for Shape {
 }
 
 impl Shape {
-    /// No operand.
+    /// The empty stack.
     pub(crate) fn new() -> Shape
         ensures { result ≡ [] }
     {
@@ -53,7 +53,7 @@ impl Shape {
         }
     }
 
-    /// How many operands there are.
+    /// The number of operands.
     pub(crate) fn len(self) -> usize
         ensures len { result ≡ length self }
         ensures fits { length self ≤ 64 }
@@ -61,14 +61,14 @@ impl Shape {
         self.height
     }
 
-    /// These operands: no more stand than may.
+    /// The shape itself. A shape never has more operands than allowed.
     pub(crate) fn fitted(self) -> Result<Shape, Defect>
         ensures { result ≡ fitting self }
     {
         Ok(self)
     }
 
-    /// One more on top, if it may stand.
+    /// Pushes a kind. `TooHigh` if the stack already has 64 operands.
     pub(crate) fn with(self, kind: Kind) -> Result<Shape, Defect>
         ensures { result ≡ fitting (kind ∷ self) }
     {
@@ -82,7 +82,7 @@ impl Shape {
         })
     }
 
-    /// The topmost kind and those below it.
+    /// The topmost kind and the shape below it, or `None` for the empty stack.
     pub(crate) fn split(self) -> Option<(Kind, Shape)>
         ensures { MatchOption result (self ≡ []) (λ parts. self ≡ parts.0 ∷ parts.1) }
     {
@@ -97,7 +97,7 @@ impl Shape {
         Some((kind_of(self.low % 2, self.high % 2), below))
     }
 
-    /// Whether both are the same.
+    /// Whether both shapes are equal.
     pub(crate) fn is_same(self, other: Shape) -> bool
         ensures { IsTrue result ↔ (self ≡ other) }
     {
@@ -129,7 +129,7 @@ fn high_bit(kind: Kind) -> u64
     }
 }
 
-/// The kind that has these bits.
+/// The kind with these two bits.
 fn kind_of(low: u64, high: u64) -> Kind
     ensures { result ≡ kind_of low high }
 {

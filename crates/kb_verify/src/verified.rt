@@ -1,4 +1,4 @@
-//! Handlers that are accepted.
+//! Handlers that the verifier accepted.
 ghost use Rattle.std.specs.Prelude.{◌≡◌, ◌<◌, length, MatchResult, IfOk, IfErr};
 ghost use Rattle.kb_verify.specs.Accepted.{AreCallees, IsAccepted, IsChecked};
 ghost use Rattle.kb_verify.specs.Faults.{IsFailure, IsTrueFault};
@@ -10,13 +10,13 @@ use crate::callable::Callable;
 use crate::callees::{Callee, shallow_callees};
 use crate::fault::{Defect, VerifyFault};
 use crate::forward::assign;
+use kb_base::{Failure, Seq};
 use kb_code::Handler;
-use kb_context::{Failure, Seq};
 use std::alloc::Global;
 use std::marker::Model;
 
-/// A handler that is accepted against some commands that it may call, with its callees as these commands
-/// declare them.
+/// A handler that was accepted with some table of callable commands, and its callees with the
+/// signatures that this table declares.
 #[derive(Drop)]
 pub struct Verified {
     handler: Handler,
@@ -43,7 +43,7 @@ impl Verified {
         &self.handler
     }
 
-    /// The callees: one for each call at a place that is reached, in order of place.
+    /// The callees: one for each reachable call, in order of their places.
     pub fn callees(&self) -> &[Callee]
         ensures callees { result.now ≡ self.now.callees }
         ensures accepted { IsChecked self.now }
@@ -51,7 +51,7 @@ impl Verified {
         self.callees.as_slice()
     }
 
-    /// The handler and its callees, given back. It takes no memory.
+    /// The handler and its callees, by value.
     pub fn into_parts(self) -> (Handler, Seq<Callee>)
         ensures handler { result.0 ≡ self.handler }
         ensures callees { result.1 ≡ self.callees }
@@ -62,10 +62,10 @@ impl Verified {
     }
 }
 
-/// Takes a handler that is accepted against the commands that it may call, and hands any other back with its
-/// first fault (our decision: shapes, 60 to 67, come before the budget, 69, and that before the depth, 68).
-/// It is linear in the code. Refused memory hands the handler back too; no handler without code is refused
-/// for that.
+/// Verifies a handler against the commands that it may call, in time linear in its code. A handler that
+/// isn't accepted is returned with its first fault. Our decision: defects of places, 60 to 67, come
+/// before the budget, 69, and the budget before the depth, 68. `NoMemory` also returns the handler. The
+/// check of a handler without code never allocates.
 pub fn verify(
     alloc: Global,
     handler: Handler,
@@ -83,7 +83,7 @@ pub fn verify(
     }
 }
 
-/// What a dearest path of a handler costs that is accepted, and its callees.
+/// The cost of the most expensive path of an accepted handler, and its callees.
 pub(crate) fn examine(
     alloc: Global,
     callable: &Callable,
@@ -103,7 +103,7 @@ pub(crate) fn examine(
     Ok((cost, callees))
 }
 
-/// What a dearest path costs, where that is within the budget.
+/// The cost of the most expensive path, if it is within the budget.
 fn cost_within_budget(
     alloc: Global,
     callable: &Callable,

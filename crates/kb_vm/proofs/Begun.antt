@@ -1,11 +1,12 @@
--- A handler whose first instruction is there, or isn't.
-use Rattle.std.proofs.Common.{◌≡◌, ◌∙◌, ℕ, zero, suc, true, List, [], ◌∷◌, ◌++◌, Option, Some, None, sym, ap, subst}
+-- The start of a handler, with and without a first instruction that can be paid for.
+use Rattle.std.proofs.Common.{◌≡◌, ◌∙◌, ℕ, zero, suc, true, List, [], ◌∷◌, ◌++◌, Option, Some, None}
+use Rattle.std.proofs.Common.{sym, ap, subst}
 use Rattle.std.proofs.Common.{true≢false}
 use Rattle.std.specs.Prelude.{slice_get, is_ok, Err}
 use Rattle.kb_core.specs.declared.arg.Arg.{Arg}
 use Rattle.kb_code.specs.declared.instr.Instr.{Instr}
 use Rattle.kb_code.specs.Handler.{HandlerData}
-use Rattle.kb_codes.specs.Callee.{Table}
+use Rattle.kb_code.specs.Commands.{Table}
 use Rattle.kb_vm.specs.declared.trap.Trap.{Trap}
 use Rattle.kb_vm.specs.Effect.{effect}
 use Rattle.kb_vm.specs.Meaning.{Step, World, Answer, Done, Stuck, fetched, follow, with_step, run}
@@ -54,7 +55,7 @@ module _ (table : Table) (h : HandlerData) (args : List Arg) (w : World) where
   stuck_by (Some instr) zero trap e = ap (λ t. Stuck t h.command 0 w) (sym (ap (trap_in trap) e))
   stuck_by (Some instr) (suc left) trap e = absurd (true≢false (sym (ap is_ok e)))
 
-  -- and without one it is stuck
+  -- without one the handler traps
   pub first_stuck : (trap : Trap) → Err trap ≡ fetched_at (slice_get h.code 0) h.signature.budget
       → run table h args h.signature.budget outset w ≡ Stuck trap h.command 0 w
   first_stuck trap e =

@@ -1,4 +1,4 @@
--- A run does not depend on its bound, so it is what each instruction makes of it.
+-- A run does not depend on its bound, so it is one step followed by a run.
 use Rattle.std.proofs.Common.{◌≡◌, ◌<◌, ◌≤◌, ℕ, zero, suc, ◌-◌, Bool, true, false, List, Option, Some, None}
 use Rattle.std.proofs.Common.{nat_le, refl, ap, ◌∙◌, arith, if◌then◌else◌}
 use Rattle.std.specs.Prelude.{slice_get, nat_lt}
@@ -6,14 +6,15 @@ use Rattle.kb_core.specs.declared.arg.Arg.{Arg}
 use Rattle.kb_code.specs.declared.instr.Instr.{Instr}
 use Rattle.kb_code.specs.Handler.{HandlerData}
 use Rattle.kb_vm.specs.declared.trap.Trap.TheVariants.{OutOfBudget, BadCode}
-use Rattle.kb_codes.specs.Callee.{Callee, Plain, Coded, Table, declared_by}
+use Rattle.kb_code.specs.Commands.{Callee, Plain, Coded, Table, declared_by}
 use Rattle.kb_vm.specs.Effect.{Effect, Stop, Leave, Next, Goto, Enter, effect}
-use Rattle.kb_vm.specs.Meaning.{World, with_step, with_line, Answer, Done, Stuck, and_then, fetched, Runner, run_callee}
+use Rattle.kb_vm.specs.Meaning.{World, with_step, with_line, Answer, Done, Stuck, and_then, fetched}
+use Rattle.kb_vm.specs.Meaning.{Runner, run_callee}
 use Rattle.kb_vm.specs.Meaning.{follow, step, go, run}
 use Rattle.kb_vm.specs.Position.{Position, outset, moved, passed}
 use borrow.Author.Tests.{leb-true}
 
--- the same with allowances up to a limit
+-- two runners agree for remaining budgets up to a limit
 abbrev Agree : Runner → Runner → ℕ → Type 0
 Agree f g limit = (h : HandlerData) (args : List Arg) (left : ℕ) (at : Position) (w : World)
     → left < limit → f h args left at w ≡ g h args left at w
@@ -77,7 +78,7 @@ module _ (f g : Runner) (limit : ℕ) (same : Agree f g limit) where
       let e = effect table h args w.core at.operands instr in
       follow_same h args left at (with_step instr left e w) e (omega arith)
 
--- any two bounds above the allowance
+-- any two bounds above the remaining budget give the same run
 bounds_same : (table : Table) (n m : ℕ) (h : HandlerData) (args : List Arg) (left : ℕ) (at : Position)
     (w : World) → left < n → left < m → go n table h args left at w ≡ go m table h args left at w
 bounds_same table zero m h args left at w lt lu = absurd (omega arith)
@@ -88,7 +89,7 @@ bounds_same table (suc n) (suc m) h args left at w lt lu =
     bounds_same table n m h' args' left' at' w' (omega arith) (omega arith))
     table h args at w (slice_get h.code at.place) left (omega arith)
 
--- a run is one instruction, and then a run
+-- a run is one step followed by a run
 pub run_step : (table : Table) (h : HandlerData) (args : List Arg) (left : ℕ) (at : Position) (w : World)
     → run table h args left at w ≡ step table (run table) h args left at w
 unfolding run

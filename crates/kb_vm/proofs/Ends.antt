@@ -2,7 +2,8 @@
 use Rattle.std.proofs.Common.{◌≡◌, ◌≤◌, ℕ, ◌-◌, List, ◌++◌, length, take, drop, map, sym, ap, ◌∙◌, arith}
 use Rattle.std.proofs.Common.{length-drop}
 use Rattle.std.specs.Prelude.{reverse}
-use Rattle.std.proofs.lemmas.List.{take-append-drop, reverse-append, reverse-reverse, length-reverse, length-map, drop-map, take-map, take_all}
+use Rattle.std.proofs.lemmas.List.{take-append-drop, reverse-append, reverse-reverse, length-reverse}
+use Rattle.std.proofs.lemmas.List.{length-map, drop-map, take-map, take_all}
 use Rattle.std.proofs.Math.Seq.{take-append_seam, drop-append_seam}
 
 split : {X : Type 0} (xs : List X) (at : ℕ) → reverse xs ≡ reverse (drop at xs) ++ reverse (take at xs)
@@ -28,7 +29,7 @@ kept xs n at le e =
     ∙ ap (λ m. drop m (reverse (drop at xs) ++ reverse (take at xs))) (size xs n at le e)
     ∙ drop-append_seam (reverse (drop at xs)) (reverse (take at xs)))
 
--- the same of a list that is seen through a function
+-- the same for a list that is mapped
 module _ {X Y : Type 0} (f : X → Y) (xs : List X) (ys : List Y) (n at : ℕ) where
   same_length : reverse (map f xs) ≡ ys → length (map f xs) ≡ length ys
   same_length e = sym (length-reverse (map f xs)) ∙ ap length e

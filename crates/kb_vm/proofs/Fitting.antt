@@ -1,5 +1,6 @@
--- Lists of other lengths don't fit, and no native takes more arguments than a list may have.
-use Rattle.std.proofs.Common.{◌≡◌, List, [], ◌∷◌, length, Bool, true, false, refl, sym, ap, ◌∙◌, suc, ◌&&◌, map}
+-- Arguments of another number than the parameters don't fit, and no native has more than 8 parameters.
+use Rattle.std.proofs.Common.{◌≡◌, List, [], ◌∷◌, length, Bool, true, false, refl, sym, ap, ◌∙◌, suc}
+use Rattle.std.proofs.Common.{◌&&◌, map}
 use Rattle.std.proofs.lemmas.List.{length-map}
 use Rattle.kb_core.specs.declared.arg.Arg.{Arg}
 use Rattle.kb_core.specs.declared.parameter.Param.{Param}
@@ -16,7 +17,7 @@ other_lengths [] (a ∷ rest) h = refl
 other_lengths (p ∷ ps) [] h = refl
 other_lengths (p ∷ ps) (a ∷ rest) h = both_false (is_of p.kind a) _ (other_lengths ps rest (λ e. h (ap suc e)))
 
--- the same of lists that are seen through functions
+-- the same for lists that are mapped
 pub other_lengths_seen : {X Y : Type 0} (f : X → Param) (g : Y → Arg) (xs : List X) (ys : List Y)
     → (length xs ≡ length ys → ⊥) → false ≡ fits (map f xs) (map g ys)
 other_lengths_seen f g xs ys h =

@@ -1,5 +1,6 @@
--- The frames that wait, and what has happened before.
-use Rattle.std.proofs.Common.{◌≡◌, ℕ, zero, suc, ◌-◌, Bool, true, false, List, [], ◌∷◌, ◌++◌, Option, Some, None}
+-- The waiting frames, and the worlds on the way to an answer.
+use Rattle.std.proofs.Common.{◌≡◌, ℕ, zero, suc, ◌-◌, Bool, true, false, List, [], ◌∷◌, ◌++◌, Option}
+use Rattle.std.proofs.Common.{Some, None}
 use Rattle.std.proofs.Common.{nat_le, refl, sym, ap, ◌∙◌, if◌then◌else◌, append_assoc}
 use Rattle.std.specs.Prelude.{slice_get, nat_lt}
 use Rattle.std.proofs.lemmas.List.{append-nil}
@@ -11,10 +12,11 @@ use Rattle.kb_vm.specs.declared.machine.Frame.{Frame}
 use Rattle.kb_vm.specs.declared.machine.Machine.{Machine}
 use Rattle.kb_vm.specs.declared.trap.Trap.{Trap}
 use Rattle.kb_vm.specs.declared.trap.Trap.TheVariants.{OutOfBudget, BadCode}
-use Rattle.kb_codes.specs.Callee.{Callee, Plain, Coded, Table, declared_by}
+use Rattle.kb_code.specs.Commands.{Callee, Plain, Coded, Table, declared_by}
 use Rattle.kb_vm.specs.Effect.{Effect, Stop, Leave, Next, Goto, Enter, effect}
 use Rattle.kb_vm.specs.CallLine.{call_line}
-use Rattle.kb_vm.specs.Meaning.{World, with_step, with_line, native_called, Answer, Done, Stuck, and_then, fetched}
+use Rattle.kb_vm.specs.Meaning.{World, with_step, with_line, native_called, Answer, Done, Stuck}
+use Rattle.kb_vm.specs.Meaning.{and_then, fetched}
 use Rattle.kb_vm.specs.Meaning.{Runner, run_callee, follow, go, run}
 use Rattle.kb_vm.specs.Outcome.{world_of, BeginsWith, Precedes}
 use Rattle.kb_vm.specs.Position.{Position, outset, moved, passed}
@@ -31,7 +33,7 @@ finish_stuck table [] trap command place w = refl
 finish_stuck table (g ∷ fs) trap command place w =
     ap (λ b. and_then b (resume table g)) (finish_stuck table fs trap command place w)
 
--- a list is the beginning of itself, and of what goes on behind it
+-- a list begins with itself, and a longer list with it
 begins_same : {X : Type 0} (xs : List X) → BeginsWith xs xs
 begins_same xs = ([], sym (append-nil xs))
 
@@ -73,7 +75,7 @@ precedes_native n args w = record {
   natives = (n ∷ [], refl);
 }
 
--- what was there stays in what is run
+-- a runner keeps what happened before
 abbrev Keeps : Runner → Type 0
 Keeps f = (h : HandlerData) (args : List Arg) (left : ℕ) (at : Position) (w : World)
     → Precedes w (world_of (f h args left at w))
@@ -147,7 +149,7 @@ finish_keeps table [] a x p = p
 finish_keeps table (f ∷ fs) a x p =
     and_then_keeps (finish table fs a) (resume table f) x (resume_keeps table f) (finish_keeps table fs a x p)
 
--- what is left to do goes on from what was there
+-- the rest of a run keeps what happened before
 rest_keeps : (table : Table) (m : Machine) (w : World) → Precedes w (world_of (rest table m w))
 rest_keeps table m w = finish_keeps table m.callers _ w (resume_keeps table m.frame w)
 
@@ -175,7 +177,7 @@ at_outset turns operands t o =
     ap (λ ts. record { place = 0; turns = ts; operands = operands }) t
     ∙ ap (λ os. record { place = 0; turns = []; operands = os }) o
 
--- a handler gets a frame, and its caller waits
+-- a handler is entered, and its caller waits
 pub coded_rest : (table : Table) (m : Machine) (h : HandlerData) (args : List Arg) (w : World) (fs : List Frame)
     (left : ℕ) (at : Position) → fs ≡ m.callers ++ m.frame ∷ [] → left ≡ h.signature.budget → at ≡ outset
     → after_coded table m h args w ≡ finish table fs (run table h args left at w)

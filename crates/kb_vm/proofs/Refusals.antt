@@ -1,5 +1,6 @@
--- The steps to which memory may be refused.
-use Rattle.std.proofs.Common.{◌≡◌, ◌⊎◌, inl, inr, ◌||◌, ℕ, Bool, true, false, List, [], ◌∷◌, Option, Some, None}
+-- The steps at which memory may be refused.
+use Rattle.std.proofs.Common.{◌≡◌, ◌⊎◌, inl, inr, ◌||◌, ℕ, Bool, true, false, List, [], ◌∷◌, Option}
+use Rattle.std.proofs.Common.{Some, None}
 use Rattle.std.proofs.Common.{refl, sym, ap, ◌∙◌, true≢false, if◌then◌else◌, length}
 use Rattle.std.specs.Prelude.{nat_lt, slice_get, option_map, pos}
 use Rattle.kb_core.specs.declared.arg.Arg.{Arg}
@@ -8,14 +9,15 @@ use Rattle.kb_core.specs.declared.run.Core.{Core}
 use Rattle.kb_code.specs.declared.instr.Instr.{Instr}
 use Rattle.kb_code.specs.declared.instr.Instr.TheVariants as i
 use Rattle.kb_code.specs.Handler.{HandlerData}
-use Rattle.kb_codes.specs.Callee.{Table}
+use Rattle.kb_code.specs.Commands.{Table}
 use Rattle.kb_vm.specs.declared.trap.Trap.TheVariants.{BadCode}
 use Rattle.kb_vm.specs.declared.values.One.{One}
 use Rattle.kb_vm.specs.declared.values.One.TheVariants as one
 use Rattle.kb_vm.specs.declared.values.Two.{Two}
 use Rattle.kb_vm.specs.declared.values.Two.TheVariants as two
 use Rattle.kb_vm.specs.Action.{is_stop}
-use Rattle.kb_vm.specs.Effect.{Effect, Stop, Leave, Next, Goto, Enter, effect, pushed, pushed_at, pushed_context}
+use Rattle.kb_vm.specs.Effect.{Effect, Stop, Leave, Next, Goto, Enter, effect, pushed, pushed_at}
+use Rattle.kb_vm.specs.Effect.{pushed_context}
 use Rattle.kb_vm.specs.Effect.{dropped, doubled, swapped, made, with_one, with_two, branched}
 use Rattle.kb_vm.specs.Meaning.{World, with_step}
 use Rattle.kb_vm.specs.Memory.{makes_text, is_call, asks_memory, goes_on, RefusedLast}
@@ -72,7 +74,7 @@ branches to (Truth false ∷ operands) = refl
 branches to (Text text ∷ operands) = refl
 branches to (Number n ∷ operands) = refl
 
--- only a call calls a command
+-- only a call instruction calls a command
 only_calls : (table : Table) (h : HandlerData) (args : List Arg) (core : Core) (operands : List Arg) (instr : Instr)
     → (is_enter (effect table h args core operands instr) ≡ false)
     ⊎ ((is_call instr ≡ true) × (makes_text instr ≡ false))
@@ -125,7 +127,7 @@ module _ (table : Table) (h : HandlerData) (args : List Arg) (core : Core) (oper
   abbrev its : Effect
   its = effect table h args core operands instr
 
-  -- a call of a command may be refused memory
+  -- memory may be refused at a call of a command
   pub call_refused : is_enter its ≡ true → goes_on left its ≡ true → RefusedLast (with_step instr left its w)
   call_refused enters goes =
       refused_last instr left its w (asks (only_calls table h args core operands instr)) goes
@@ -135,7 +137,7 @@ module _ (table : Table) (h : HandlerData) (args : List Arg) (core : Core) (oper
       asks (inl calm) = absurd (true≢false (sym enters ∙ calm))
       asks (inr call) = either_asks (makes_text instr) (is_call instr) call.0
 
-  -- and so may an instruction that makes a text
+  -- and at an instruction that creates a text
   pub text_refused : makes_text instr ≡ true → is_stop its ≡ false → RefusedLast (with_step instr left its w)
   text_refused makes_one stays =
       refused_last instr left its w (first_asks (makes_text instr) (is_call instr) makes_one)

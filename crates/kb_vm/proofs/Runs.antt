@@ -1,4 +1,4 @@
--- A frame that runs on, instruction by instruction.
+-- The run of a frame, instruction by instruction.
 use Rattle.std.proofs.Common.{◌≡◌, ◌<◌, ◌≤◌, ℕ, zero, suc, ◌+◌, ◌-◌, Bool, List, [], ◌∷◌, Option, Some, None}
 use Rattle.std.proofs.Common.{true≢false, refl, sym, ap, subst, ◌∙◌, arith, if◌then◌else◌}
 use Rattle.std.specs.Prelude.{slice_get, Result, Ok, Err, is_ok}
@@ -9,7 +9,7 @@ use Rattle.kb_core.specs.declared.run.Core.{Core}
 use Rattle.kb_code.specs.declared.instr.Instr.{Instr}
 use Rattle.kb_code.specs.declared.instr.Instr.TheVariants as i
 use Rattle.kb_code.specs.Handler.{HandlerData}
-use Rattle.kb_codes.specs.Callee.{Table}
+use Rattle.kb_code.specs.Commands.{Table}
 use Rattle.kb_vm.specs.declared.machine.Pause.TheVariants as pause
 use Rattle.kb_vm.specs.declared.machine.Paused.{Paused}
 use Rattle.kb_vm.specs.declared.trap.Trap.{Trap}
@@ -40,7 +40,7 @@ some_fetched (Some i) zero instr e = absurd (true≢false (ap is_ok e))
 some_fetched (Some i) (suc left) instr e = (ap Some (sym (ap (instr_in instr) e)), omega arith)
 
 module _ (table : Table) (h : HandlerData) (args : List Arg) (at : Position) (w : World) where
-  -- the answer, by the instruction at the place and the allowance
+  -- the answer, by the instruction at the place and the remaining budget
   at_place : Option Instr → ℕ → Answer
   at_place o left = fetched o left (λ trap. Stuck trap h.command at.place w) (λ instr rest. let e = effect table h args w.core at.operands instr in follow (run table) h args rest at (with_step instr rest e w) e)
 
@@ -69,7 +69,7 @@ module _ (table : Table) (h : HandlerData) (args : List Arg) (at : Position) (w 
       → run table h args left at w ≡ Stuck trap h.command at.place w
   stuck_run left trap is = run_at left ∙ stuck_at _ left trap is
 
--- one instruction more
+-- one more instruction
 begun_more : (n m : ℕ) (w u : World) (instr : Instr) (left : ℕ) (e : Effect) → Begun n w u → m ≡ n + 1
     → Begun m w (with_step instr left e u)
 begun_more n m w u instr left e b is =
@@ -85,7 +85,7 @@ module _ (h : HandlerData) (args : List Arg) (core : Core) (first : List Arg) (s
   abbrev standing : List ℕ → ℕ → List Arg → Position
   standing turns place operands = record { place = place; turns = turns; operands = operands }
 
-  -- what is left to do of a frame's run, from a place with an allowance and operands
+  -- the rest of a frame's run, from a place with a remaining budget and operands
   abbrev pub Far : ℕ → ℕ → List Arg → Type 0
   Far place left operands =
       (turns : List ℕ) (table : Table) (w : World) → w.core ≡ core → (v : World) × Begun (before - left) w v
@@ -99,7 +99,7 @@ module _ (h : HandlerData) (args : List Arg) (core : Core) (first : List Arg) (s
     refl,
   )
 
-  -- no instruction, or none that is paid for
+  -- there is no instruction, or it can't be paid for
   pub stops : (place left : ℕ) (operands : List Arg) (trap : Trap) (p : Paused) → Far place left operands
       → Err trap ≡ fetched_at (slice_get h.code place) left
       → p ≡ record { place = place; left = left; why = pause.Stop trap }
@@ -115,7 +115,7 @@ module _ (h : HandlerData) (args : List Arg) (core : Core) (first : List Arg) (s
     abbrev its : Table → Effect
     its table = effect table h args core operands instr
 
-    -- one more is begun
+    -- one more instruction is begun
     more : (turns : List ℕ) (table : Table) (w : World) → w.core ≡ core → (u : World)
         × Begun (before - (left - 1)) w (with_step instr (left - 1) (its table) u)
         × (run table h args before (standing turns start first) w

@@ -1,4 +1,4 @@
--- The start of a command, where nothing ran.
+-- The start of a command in which nothing runs.
 use Rattle.std.proofs.Common.{◌≡◌, inl, ℕ, List, [], Bool, false, refl, sym, ap, arith, if◌then◌else◌, ◌∙◌}
 use Rattle.kb_core.specs.declared.arg.Arg.{Arg}
 use Rattle.kb_core.specs.declared.run.Core.{Core}
@@ -6,7 +6,7 @@ use Rattle.kb_core.specs.Signature.{fits}
 use Rattle.kb_vm.specs.declared.machine.Outcome.{Outcome}
 use Rattle.kb_vm.specs.declared.machine.End.TheVariants as end
 use Rattle.kb_vm.specs.declared.trap.Trap.TheVariants.{WrongArgument}
-use Rattle.kb_codes.specs.Callee.{Callee, Table, declared_by}
+use Rattle.kb_code.specs.Commands.{Callee, Table, declared_by}
 use Rattle.kb_vm.specs.Meaning.{World, Answer, Stuck, run_callee, run, first_world, start_callee}
 use Rattle.kb_vm.specs.Memory.{IsBegun}
 use Rattle.kb_vm.specs.Outcome.{Shows, Precedes, Ends, world_of}
@@ -35,7 +35,7 @@ pub lacks_first : (core : Core) (a : Answer) (o : Outcome) → o.core ≡ core �
 lacks_first core a o c l s keeps begun =
     (first_world core, unspent_shows core _ _ _ c l s, keeps, inl (refl, begun))
 
--- what an outcome takes over from a machine
+-- an outcome has the fields of the machine that ended
 pub taken_shows : (v : World) (core : Core) (lines : List (List ℕ)) (spent : ℕ) (o : Outcome) → o.core ≡ core
     → o.lines ≡ lines → o.spent ≡ spent → Shows v core lines spent → Shows v o.core o.lines o.spent
 taken_shows v core lines spent o c l s shows = record {

@@ -9,13 +9,14 @@ use Rattle.kb_vm.specs.declared.machine.Turn.{Turn}
 use Rattle.kb_vm.specs.declared.machine.Turn.TheVariants as turn
 use Rattle.kb_vm.specs.declared.trap.Trap.TheVariants.{OutOfBudget, BadCode}
 use Rattle.kb_vm.specs.CallLine.{call_line}
-use Rattle.kb_codes.specs.Callee.{Callee, Plain, Coded, Table, declared_by}
+use Rattle.kb_code.specs.Commands.{Callee, Plain, Coded, Table, declared_by}
 use Rattle.kb_vm.specs.Effect.{Enter, Goto}
 use Rattle.kb_vm.specs.Meaning.{World, with_line, Answer, Done, Stuck, and_then, run_callee, run}
 use Rattle.kb_vm.specs.Meaning.{native_called, first_world}
 use Rattle.kb_vm.specs.Outcome.{Shows}
 use Rattle.kb_vm.specs.Position.{outset, moved, passed}
-use Rattle.kb_vm.specs.State.{finish, position_of, rest, rest_of, TurnedFrom, Pays, PaysFrom, credit, Begins, Begun}
+use Rattle.kb_vm.specs.State.{finish, position_of, rest, rest_of, TurnedFrom, Pays, PaysFrom, credit}
+use Rattle.kb_vm.specs.State.{Begins, Begun}
 use Rattle.kb_vm.specs.Action.{IsCallable}
 use Rattle.kb_vm.specs.declared.machine.Frame.{Frame}
 use Rattle.kb_code.specs.Handler.{HandlerData}
@@ -27,7 +28,7 @@ use Rattle.std.proofs.lemmas.List.Sums.{sum_by-append}
 use Rattle.kb_vm.specs.Leave.{Keeps, Left}
 use Rattle.kb_vm.proofs.Frames.{finish_stuck}
 
--- a jump, by whether it leads to a later place
+-- a jump, by whether it goes to a later place
 goto_if : Table → Machine → ℕ → List Arg → World → Bool → Answer
 goto_if table m to operands w b = finish table m.callers (if b then run table m.frame.handler m.frame.args m.frame.left (moved (position_of m.frame) to operands) w else Stuck BadCode m.frame.handler.command m.frame.place w)
 
@@ -57,7 +58,7 @@ entered_poor table m name callee given operands w lt =
     ap (enter_if table m name callee given operands w) (lt-leb _ _ lt)
     ∙ finish_stuck table m.callers OutOfBudget m.frame.handler.command m.frame.place w
 
--- what a callee gives, for which so much was paid
+-- the rest of the run after the frame paid for a callee
 abbrev pub paid : Table → Machine → ℕ → Callee → List Arg → List Arg → World → Answer
 paid table m most callee given operands w =
     finish table m.callers (and_then (run_callee (run table) callee given w)
@@ -84,7 +85,7 @@ line_shows w core lines more spent name given is s = record {
   at_most = s.at_most;
 }
 
--- a frame that ran on shows what it spent
+-- the world after a frame's run has its cost
 pub paused_shows : (w v : World) (core : Core) (lines : List (List ℕ)) (spent n more : ℕ)
     → Shows w core lines spent → Begun n w v → more ≡ n → Shows v core lines (spent + more)
 paused_shows w v core lines spent n more s b is =
@@ -96,7 +97,7 @@ paused_shows w v core lines spent n more s b is =
       at_most = omega (arith, s.at_most, b.steps, is, sum);
     }
 
--- what is paid behind a frame's run is paid of the whole
+-- the cost after a frame's run is a cost of the whole turn
 pub paid_on : (m n : Machine) (t : Turn) → n.spent + credit n ≤ m.spent + credit m → credit n < credit m
     → PaysFrom 0 n t → Pays m t
 paid_on m n (turn.On o) all less p = (omega (arith, all, p.0), omega (arith, less, p.1))
@@ -163,7 +164,7 @@ begun_bound h args core m b =
     let none = ap (sum_by (λ (f : Frame). f.left)) b.no_callers in
     omega (arith, none, b.nothing_spent, b.whole_budget)
 
--- a command that is found is callable
+-- a command that was found is callable
 pub found_callable : (table : Table) (name : List ℕ) (callee : Callee) → Some callee ≡ table name
     → IsCallable table callee
 found_callable table name (Plain native) e = (name, sym e)

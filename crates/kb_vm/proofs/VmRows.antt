@@ -1,5 +1,6 @@
--- Worked rows of the definitions: small commands in code, from their start.
-use Rattle.std.proofs.Common.{◌≡◌, ℕ, List, [], ◌∷◌, Option, Some, None, refl, if◌then◌else◌, codes, bytes_eq, length}
+-- Worked examples of the definitions: runs of small handlers.
+use Rattle.std.proofs.Common.{◌≡◌, ℕ, List, [], ◌∷◌, Option, Some, None, refl, if◌then◌else◌, codes}
+use Rattle.std.proofs.Common.{bytes_eq, length}
 use Rattle.std.proofs.Common.{option_map}
 use Rattle.json.specs.Print.{print_from, escape_byte}
 use Rattle.kb_core.specs.declared.native.Native.{Native}
@@ -10,13 +11,14 @@ use Rattle.kb_code.specs.declared.instr.Instr.{Instr}
 use Rattle.kb_code.specs.declared.instr.Instr.TheVariants as i
 use Rattle.kb_code.specs.Handler.{HandlerData}
 use Rattle.kb_vm.specs.declared.trap.Trap.{Trap}
-use Rattle.kb_vm.specs.declared.trap.Trap.TheVariants.{MissingOperand, UnknownCommand, WrongArgument, OutOfBudget}
+use Rattle.kb_vm.specs.declared.trap.Trap.TheVariants.{MissingOperand, UnknownCommand, WrongArgument}
+use Rattle.kb_vm.specs.declared.trap.Trap.TheVariants.{OutOfBudget}
 use Rattle.kb_vm.specs.declared.trap.Trap.TheVariants.{TooDeep, BadCode}
 use Rattle.kb_vm.specs.CallLine.{list_text}
-use Rattle.kb_codes.specs.Callee.{Plain, Coded, Table}
+use Rattle.kb_code.specs.Commands.{Plain, Coded, Table}
 use Rattle.kb_vm.specs.Meaning.{World, Answer, Done, Stuck, run, start_of}
 
--- a handler x.hi of this code, which may call itself and `type`, beside the native
+-- a handler x.hi with this code, which may call itself and `type`; the native `type` is live too
 handler : ℕ → List Instr → HandlerData
 handler budget code = record {
   command = codes "x.hi";
@@ -34,7 +36,8 @@ table budget code name =
 first : Core
 first = new_core (record { scopes = []; focus = 0 })
 
--- what a row tells of an answer: its trap with the place, and what has happened, with the number of instructions
+-- the checked parts of an answer: its trap with the place, and what happened, with the number of
+-- instructions
 record Row : Type 0 where
   trap : Option (Trap × ℕ)
   core : Core
@@ -52,12 +55,12 @@ row_of (Stuck trap command place w) = row_in (Some (trap, place)) w
 started : ℕ → List Instr → Option Row
 started budget code = option_map row_of (start_of (table budget code) (codes "x.hi") [] first)
 
--- a trap at a place, before anything has happened but for so many instructions
+-- a trap at a place after some instructions, with no other effect
 stuck : Trap → ℕ → ℕ → Option Row
 stuck trap place count =
     Some (record { trap = Some (trap, place); core = first; lines = []; count = count; natives = [] })
 
--- three instructions and a native: "hi" is typed
+-- three instructions and a native: the text "hi" is typed
 types_hi : started 1004 (i.Text 0 ∷ i.Call 0 ∷ i.Return ∷ [])
     ≡ Some (record {
       trap = None;
@@ -69,7 +72,7 @@ types_hi : started 1004 (i.Text 0 ∷ i.Call 0 ∷ i.Return ∷ [])
 unfolding handler table first row_in row_of started run list_text print_from escape_byte
 types_hi = refl
 
--- a budget that holds the callee's, and one instruction too few behind it
+-- a budget that covers the callee's, but one instruction too few after it
 one_too_few : started 1003 (i.Text 0 ∷ i.Call 0 ∷ i.Return ∷ [])
     ≡ Some (record {
       trap = Some (OutOfBudget, 2);
@@ -81,7 +84,7 @@ one_too_few : started 1003 (i.Text 0 ∷ i.Call 0 ∷ i.Return ∷ [])
 unfolding handler table first row_in row_of started run list_text print_from escape_byte
 one_too_few = refl
 
--- a callee's budget is more than is left
+-- the callee's budget is more than the remaining one
 too_dear : started 1002 (i.Text 0 ∷ i.Call 0 ∷ i.Return ∷ []) ≡ stuck OutOfBudget 1 2
 unfolding handler table first row_in row_of started stuck run
 too_dear = refl
@@ -98,17 +101,17 @@ wrong_kind : started 9 (i.Num 1 ∷ i.Call 0 ∷ []) ≡ stuck WrongArgument 1 2
 unfolding handler table first row_in row_of started stuck run
 wrong_kind = refl
 
--- it would call itself, whose depth is its own
+-- a call of itself, whose depth equals its own
 too_deep : started 9 (i.Call 1 ∷ []) ≡ stuck TooDeep 0 1
 unfolding handler table first row_in row_of started stuck run
 too_deep = refl
 
--- it goes on behind its code, for which nothing is paid
+-- it continues after the end of its code; no cost is counted for that
 no_code : started 9 (i.Num 1 ∷ []) ≡ stuck BadCode 1 1
 unfolding handler table first row_in row_of started stuck run
 no_code = refl
 
--- it would jump to its own place
+-- a jump to its own place
 no_way_back : started 9 (i.Jump 0 ∷ []) ≡ stuck BadCode 0 1
 unfolding handler table first row_in row_of started stuck run
 no_way_back = refl

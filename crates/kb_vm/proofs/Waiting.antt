@@ -1,9 +1,11 @@
--- The row of what frames work on that wait.
-use Rattle.std.proofs.Common.{◌≡◌, ◌≤◌, ℕ, ◌+◌, ◌-◌, List, [], ◌∷◌, ◌++◌, length, take, drop, map, refl, sym, ap, ◌∙◌, arith}
+-- The list of values of the waiting frames.
+use Rattle.std.proofs.Common.{◌≡◌, ◌≤◌, ℕ, ◌+◌, ◌-◌, List, [], ◌∷◌, ◌++◌, length, take, drop, map, refl}
+use Rattle.std.proofs.Common.{sym, ap, ◌∙◌, arith}
 use Rattle.std.proofs.Common.{length-drop}
 use Rattle.std.specs.Prelude.{reverse}
 use Rattle.std.specs.List.{All}
-use Rattle.std.proofs.lemmas.List.{take-append-drop, take-append-le, drop-append-le, reverse-reverse, length-reverse, length-map}
+use Rattle.std.proofs.lemmas.List.{take-append-drop, take-append-le, drop-append-le, reverse-reverse}
+use Rattle.std.proofs.lemmas.List.{length-reverse, length-map}
 use Rattle.std.proofs.lemmas.List.{drop-map, take-map, take_all, length-append, length-take, drop-drop}
 use Rattle.std.proofs.Math.Seq.{take-append_seam, drop-append_seam}
 use Rattle.std.proofs.lemmas.List.Elements.{All-head, All-tail, All-cons, All-nil}
@@ -23,7 +25,7 @@ with_values w args operands = record {
   operands = reverse operands;
 }
 
--- a frame doesn't see what stands behind its values
+-- a frame depends only on its own values
 frame_before : (w : Waiting) (vs xs : List Arg) → width w ≤ length vs → frame_of w (vs ++ xs) ≡ frame_of w vs
 unfolding with_values
 frame_before w vs xs le =
@@ -33,7 +35,7 @@ frame_before w vs xs le =
     ∙ ap (λ os. with_values w (take w.args vs) (take w.operands os)) (drop-append-le w.args vs xs few)
     ∙ ap (with_values w (take w.args vs)) (take-append-le w.operands (drop w.args vs) xs behind)
 
--- one more frame waits behind the others
+-- one more waiting frame at the end
 pub frames_on : (ws : List Waiting) (w : Waiting) (vs xs : List Arg) → widths ws ≡ length vs
     → frames_of (ws ++ w ∷ []) (vs ++ xs) ≡ frames_of ws vs ++ frame_of w xs ∷ []
 frames_on [] w [] xs e = refl
@@ -49,7 +51,7 @@ pub widths_on : (ws : List Waiting) (w : Waiting) → widths (ws ++ w ∷ []) �
 widths_on [] w = omega arith
 widths_on (u ∷ ws) w = omega (arith, widths_on ws w)
 
--- a frame whose values stand alone
+-- a frame with only its own values in the list
 pub frame_alone : (w : Waiting) (args operands : List Arg) → w.args ≡ length args → w.operands ≡ length operands
     → frame_of w (args ++ reverse operands) ≡ record {
       handler = w.handler;
@@ -69,7 +71,7 @@ frame_alone w args operands a o =
     ∙ ap (with_values w args) (take_all w.operands (reverse operands) all)
     ∙ ap (λ os. record { handler = w.handler; args = args; place = w.place; turns = w.turns; left = w.left; operands = os }) (reverse-reverse operands)
 
--- the innermost frame that waits
+-- the innermost waiting frame
 pub frames_back : (ws : List Waiting) (w : Waiting) (vs : List Arg) → widths (ws ++ w ∷ []) ≡ length vs
     → frames_of (ws ++ w ∷ []) vs
     ≡ frames_of ws (take (length vs - width w) vs) ++ frame_of w (drop (length vs - width w) vs) ∷ []
@@ -78,7 +80,7 @@ frames_back ws w vs e =
     let size : widths ws ≡ length (take n vs) = omega (arith, e, widths_on ws w, length-take n vs) in
     ap (frames_of (ws ++ w ∷ [])) (sym (take-append-drop n vs)) ∙ frames_on ws w (take n vs) (drop n vs) size
 
--- a frame waits whose values were put behind the row
+-- a frame is added, with its values at the end of the list
 pub suspended : (ws new : List Waiting) (vs now : List Arg) (f : Frame) (a o : ℕ) → widths ws ≡ length vs
     → new ≡ ws ++ record { handler = f.handler; place = f.place; turns = f.turns; left = f.left; args = a; operands = o } ∷ []
     → now ≡ vs ++ (f.args ++ reverse f.operands) → a ≡ length f.args → o ≡ length f.operands
@@ -99,7 +101,7 @@ suspended_size ws new w vs now args operands size more behind is_a is_o =
     ∙ ap (λ k. length vs + k) (length-append args (reverse operands) ∙ ap (λ k. length args + k) (length-reverse operands)) in
     ap widths more ∙ widths_on ws w ∙ sym (n ∙ omega (arith, size, is_a, is_o))
 
--- what the innermost frame works on stands in the row
+-- the values of the innermost frame are in the list
 pub last_within : (us ws : List Waiting) (w : Waiting) (vs : List Arg) → us ≡ ws ++ w ∷ [] → widths us ≡ length vs
     → width w ≤ length vs
 last_within us ws w vs is size = omega (arith, widths_on ws w, ap widths is, size)
@@ -109,7 +111,7 @@ pub resumed_size : (us ws : List Waiting) (w : Waiting) (vs now : List Arg) → 
 resumed_size us ws w vs now is size kept =
     omega (arith, widths_on ws w, ap widths is, size, ap length kept, length-take (length vs - width w) vs)
 
--- the innermost frame goes on with the last values of the row
+-- the innermost frame continues with the last values of the list
 pub resumed : (us ws : List Waiting) (w : Waiting) (vs now args operands : List Arg) → us ≡ ws ++ w ∷ []
     → widths us ≡ length vs → now ≡ take (length vs - width w) vs
     → args ≡ take w.args (drop (length vs - width w) vs)
@@ -139,7 +141,7 @@ pub last_of_all : (ws : List Waiting) (w : Waiting) → All IsSmall (ws ++ w ∷
 last_of_all [] w all = All-head IsSmall w [] all
 last_of_all (u ∷ ws) w all = last_of_all ws w (All-tail IsSmall u (ws ++ w ∷ []) all)
 
--- the end of a row that is seen through a function
+-- the end of a list that is mapped
 module _ {X Y : Type 0} (f : X → Y) (xs : List X) (a o : ℕ) where
   abbrev n : ℕ
   n = length (map f xs) - (a + o)

@@ -1,4 +1,4 @@
--- The line of a call.
+-- The trace line of a call.
 use Rattle.std.specs.Prelude.{ℕ, List, [], ◌∷◌, ◌++◌, map, codes}
 use Rattle.std.specs.Fmt.{signed_decimal}
 use Rattle.json.specs.Print.{print}
@@ -15,10 +15,10 @@ token_of (Truth truth) = boolean truth
 abbrev pub list_tokens : List Arg → List Token
 list_tokens args = begin_array ∷ (map token_of args ++ end_array ∷ [])
 
--- arguments as a JSON list, with no space
+-- arguments as a JSON list without spaces
 unfoldable pub list_text : List Arg → List ℕ
 list_text args = print (list_tokens args)
 
--- call type ["hi"]
+-- for example: call type ["hi"]
 abbrev pub call_line : List ℕ → List Arg → List ℕ
 call_line name args = codes "call " ++ (name ++ (codes " " ++ list_text args))

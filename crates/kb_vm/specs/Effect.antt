@@ -1,4 +1,4 @@
--- What one instruction does, where its frame may pay for it.
+-- The effect of one instruction that its frame can pay for.
 use Rattle.std.specs.Prelude.{ℕ, true, false, nat_lt, if◌then◌else◌, List, [], ◌∷◌, length}
 use Rattle.std.specs.Prelude.{reverse, take, drop}
 use Rattle.std.specs.Prelude.{Option, Some, None, option_map, slice_get, pos}
@@ -18,10 +18,10 @@ use Rattle.kb_vm.specs.declared.values.One.{One}
 use Rattle.kb_vm.specs.declared.values.One.TheVariants as one
 use Rattle.kb_vm.specs.declared.values.Two.{Two}
 use Rattle.kb_vm.specs.declared.values.Two.TheVariants as two
-use Rattle.kb_codes.specs.Callee.{Callee, Table, declared_by}
+use Rattle.kb_code.specs.Commands.{Callee, Table, declared_by}
 use Rattle.kb_vm.specs.Values.{size_of, one_of, two_of, context_arg}
 
--- it traps, ends the handler, goes on behind itself or at another place, or enters a command that is called
+-- it traps, returns, continues at the next place or at another one, or enters a command
 pub data Effect : Type 0 where
   Stop : (trap : Trap) → Effect
   Leave : Effect
@@ -29,11 +29,11 @@ pub data Effect : Type 0 where
   Goto : (place : ℕ) (operands : List Arg) → Effect
   Enter : (name : List ℕ) (callee : Callee) (args : List Arg) (operands : List Arg) → Effect
 
--- an operand on top, where 64 have room
+-- push an operand, unless the stack already has 64
 abbrev pub pushed : Arg → List Arg → Effect
 pushed v operands = if nat_lt (length operands) 64 then Next (v ∷ operands) else Stop BadCode
 
--- the same of what stands at an index, where something does
+-- push the value at an index, if there is one
 abbrev pub pushed_at : Option Arg → List Arg → Effect
 pushed_at None operands = Stop BadCode
 pushed_at (Some v) operands = pushed v operands
@@ -55,7 +55,7 @@ abbrev pub swapped : List Arg → Effect
 swapped (y ∷ x ∷ operands) = Next (x ∷ y ∷ operands)
 swapped _ = Stop MissingOperand
 
--- what was made in place of the operands that were taken
+-- push the result, in place of the operands that were popped
 abbrev pub made : Option Arg → List Arg → Effect
 made None operands = Stop WrongArgument
 made (Some v) operands = Next (v ∷ operands)
@@ -75,11 +75,11 @@ branched to (Truth false ∷ operands) = Goto to operands
 branched to (Text text ∷ operands) = Stop WrongArgument
 branched to (Number n ∷ operands) = Stop WrongArgument
 
--- so many of the topmost operands, in the order in which they were pushed
+-- the n topmost operands, in the order in which they were pushed
 abbrev pub topmost : ℕ → List Arg → List Arg
 topmost n operands = reverse (take n operands)
 
--- a call of a live command from a handler of this depth
+-- a call of a live command from a handler with this declared depth
 abbrev pub entered : ℕ → List ℕ → Callee → List Arg → Effect
 entered depth name callee operands =
     let n = length (declared_by callee).params in
@@ -97,7 +97,7 @@ abbrev pub called : Table → ℕ → Option (List ℕ) → List Arg → Effect
 called table depth None operands = Stop UnknownCommand
 called table depth (Some name) operands = entered_live depth name (table name) operands
 
--- operands stand with the topmost first
+-- the effect of an instruction; the topmost operand is first
 abbrev pub effect : Table → HandlerData → List Arg → Core → List Arg → Instr → Effect
 effect table h args core operands i.Return = Leave
 effect table h args core operands (i.Text n) = pushed_at (option_map Text (slice_get h.texts n)) operands

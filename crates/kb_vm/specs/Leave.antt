@@ -1,13 +1,13 @@
--- What leaving a frame does.
+-- The return from a frame.
 use Rattle.std.specs.Prelude.{◌≡◌, ◌≤◌}
 use Rattle.kb_vm.specs.declared.machine.Machine.{Machine}
 use Rattle.kb_vm.specs.declared.machine.Turn.{Turn}
 use Rattle.kb_vm.specs.declared.machine.Turn.TheVariants as turn
-use Rattle.kb_codes.specs.Callee.{Table}
+use Rattle.kb_code.specs.Commands.{Table}
 use Rattle.kb_vm.specs.Meaning.{World, Done}
 use Rattle.kb_vm.specs.State.{finish, rest, credit}
 
--- nothing is spent, and what is left to do is what the callers make of it
+-- core, lines and cost stay the same, and the remaining budget doesn't grow
 pub record Keeps (m n : Machine) : Type 0 where
   pub core : n.core ≡ m.core
   pub lines : n.lines ≡ m.lines

@@ -1,4 +1,5 @@
--- What a start does, written with calls as recursion: no frames and no meter.
+-- The meaning of a run, defined with recursion for calls: without frames and without a count of the
+-- cost.
 use Rattle.std.specs.Prelude.{◌≡◌, ℕ, zero, suc, ◌-◌, nat_le, nat_lt, if◌then◌else◌, List, [], ◌∷◌, ◌++◌}
 use Rattle.std.specs.Prelude.{Option, Some, None, option_map, slice_get}
 use Rattle.kb_core.specs.declared.arg.Arg.{Arg}
@@ -11,68 +12,68 @@ use Rattle.kb_code.specs.Handler.{HandlerData}
 use Rattle.kb_vm.specs.declared.trap.Trap.{Trap}
 use Rattle.kb_vm.specs.declared.trap.Trap.TheVariants.{WrongArgument, OutOfBudget, BadCode}
 use Rattle.kb_vm.specs.CallLine.{call_line}
-use Rattle.kb_codes.specs.Callee.{Callee, Plain, Coded, Table, declared_by}
+use Rattle.kb_code.specs.Commands.{Callee, Plain, Coded, Table, declared_by}
 use Rattle.kb_vm.specs.Effect.{Effect, Stop, Leave, Next, Goto, Enter, effect}
 use Rattle.kb_vm.specs.Position.{Position, outset, moved, passed}
 
--- an instruction that is begun: what it does, and what its frame may still spend behind it
+-- a begun instruction: its effect, and the budget that its frame has left after it
 pub record Step : Type 0 where
   pub instr : Instr
   pub left : ℕ
   pub effect : Effect
 
--- the core, and what has happened so far: lines, the instructions that were begun, and the natives that were
--- called
+-- the core, and what happened so far: trace lines, begun instructions, and called natives
 pub record World : Type 0 where
   pub core : Core
   pub lines : List (List ℕ)
   pub steps : List Step
   pub natives : List Native
 
--- before anything has happened
+-- the world before a run
 abbrev pub first_world : Core → World
 first_world core = record { core = core; lines = []; steps = []; natives = [] }
 
--- one more instruction is begun
+-- the world after one more instruction was begun
 abbrev pub with_step : Instr → ℕ → Effect → World → World
 with_step instr left e w =
     record w { steps = w.steps ++ record { instr = instr; left = left; effect = e } ∷ [] }
 
--- the line of a call, which is written before the callee runs
+-- the world with the line of a call, which is written before the callee runs
 abbrev pub with_line : List ℕ → List Arg → World → World
 with_line name args w = record w { lines = w.lines ++ call_line name args ∷ [] }
 
--- a native was called
+-- the world after a native was called
 abbrev pub native_called : Native → List Arg → World → World
 native_called native args w =
     record w { core = core_after native args w.core; natives = w.natives ++ native ∷ [] }
 
--- it is done, or a handler is stuck: why, its command, and the place of its instruction
+-- the command completed, or a handler trapped: the reason, its command, and the place of its
+-- instruction
 pub data Answer : Type 0 where
   Done : (world : World) → Answer
   Stuck : (trap : Trap) (command : List ℕ) (place : ℕ) (world : World) → Answer
 
--- goes on from where a callee is done
+-- continues with the world after a callee that completed
 abbrev pub and_then : Answer → (World → Answer) → Answer
 and_then (Done w) on = on w
 and_then (Stuck trap command place w) on = Stuck trap command place w
 
--- fetches an instruction, for which 1 is paid
+-- fetches an instruction, which costs 1
 abbrev pub fetched : Option Instr → ℕ → (Trap → Answer) → (Instr → ℕ → Answer) → Answer
 fetched None left stuck on = stuck BadCode
 fetched (Some instr) zero stuck on = stuck OutOfBudget
 fetched (Some instr) (suc left) stuck on = on instr left
 
--- what runs a handler on: its arguments, its allowance, where it stands, and the world
+-- runs a handler from a position, with arguments and a remaining budget, in a world
 abbrev pub Runner : Type 0
 Runner = HandlerData → List Arg → ℕ → Position → World → Answer
 
--- a callee as one value
+-- runs a callee
 abbrev pub run_callee : Runner → Callee → List Arg → World → Answer
 run_callee run (Plain native) args w = Done (native_called native args w)
 run_callee run (Coded g) args w = run g args g.signature.budget outset w
 
--- what follows an instruction's effect, by what is left of the allowance
+-- what follows from an instruction's effect, with the remaining budget `left`
 abbrev pub follow : Runner → HandlerData → List Arg → ℕ → Position → World → Effect → Answer
 follow run h args left at w (Stop trap) = Stuck trap h.command at.place w
 follow run h args left at w Leave = Done w
@@ -93,28 +94,29 @@ step table run h args left at w =
     let e = effect table h args w.core at.operands instr in
     follow run h args rest at (with_step instr rest e w) e)
 
--- Runs a handler on. Each turn takes at least 1 from the allowance, and a callee's budget is less than the
--- caller's allowance, so a bound above the allowance is never reached.
+-- Runs a handler from a position. Each step takes at least 1 from the remaining budget, and the budget
+-- of a callee is less than the caller's remaining budget. So a bound on steps above the remaining
+-- budget is never reached.
 abbrev pub go : ℕ → Table → Runner
 go zero table h args left at w = Stuck OutOfBudget h.command at.place w
 go (suc n) table h args left at w = step table (go n table) h args left at w
 
--- with bound enough
+-- the same with a large enough bound
 unfoldable pub run : Table → Runner
 run table h args left at w = go (suc left) table h args left at w
 
--- a run is one instruction, and then a run: nobody need trust the bound
+-- a run is one instruction followed by a run, so no reader needs to trust the bound
 abbrev pub RunsByStep : Type 0
 RunsByStep = (table : Table) (h : HandlerData) (args : List Arg) (left : ℕ) (at : Position) (w : World)
     → run table h args left at w ≡ step table (run table) h args left at w
 
--- a live command from the start, where its arguments fit it
+-- starts a live command, if the arguments fit it
 abbrev pub start_callee : Table → List ℕ → Callee → List Arg → World → Answer
 start_callee table name callee args w =
     if fits (declared_by callee).params args then run_callee (run table) callee args w
     else Stuck WrongArgument name 0 w
 
--- the start of a command, or nothing where no live command has the name
+-- the start of a command, or nothing if no live command has the name
 abbrev pub start_of : Table → List ℕ → List Arg → Core → Option Answer
 start_of table name args core =
     option_map (λ callee. start_callee table name callee args (first_world core)) (table name)

@@ -1,4 +1,4 @@
--- What an operand stands for.
+-- The value of an operand.
 use Rattle.kb_core.specs.declared.arg.Arg.{Arg}
 use Rattle.kb_core.specs.declared.arg.Arg.TheVariants as arg
 use Rattle.kb_vm.specs.declared.operands.Operand.{Operand}

@@ -1,4 +1,4 @@
--- What a start gives.
+-- The outcome of a start.
 use Rattle.std.specs.Prelude.{◌≡◌, ℕ, ◌+◌, ◌≤◌, List, [], ◌++◌, length, sum_by, Option, Some, None}
 use Rattle.kb_core.specs.declared.run.Core.{Core}
 use Rattle.kb_core.specs.Native.{budget_of}
@@ -8,29 +8,29 @@ use Rattle.kb_vm.specs.declared.machine.End.TheVariants as end
 use Rattle.kb_vm.specs.Meaning.{World, Answer, Done, Stuck}
 use Rattle.kb_vm.specs.Memory.{MayLackAt}
 
--- what has happened, when it answers
+-- the world of an answer
 abbrev pub world_of : Answer → World
 world_of (Done w) = w
 world_of (Stuck trap command place w) = w
 
--- one list is the beginning of another
+-- the first list begins with the second
 abbrev pub BeginsWith : {X : Type 0} → List X → List X → Type 0
 BeginsWith {X} xs ys = (zs : List X) × (xs ≡ ys ++ zs)
 
--- a world on the way to another: what has happened in it is the beginning of what has happened there
+-- v is a world on the way to w: what happened in v is the beginning of what happened in w
 pub record Precedes (v w : World) : Type 0 where
   pub lines : BeginsWith w.lines v.lines
   pub steps : BeginsWith w.steps v.steps
   pub natives : BeginsWith w.natives v.natives
 
--- the world, as far as a machine holds it: each native costs a number from 0 to its budget
+-- the parts of a world that the machine holds; each native costs between 0 and its budget
 pub record Shows (w : World) (core : Core) (lines : List (List ℕ)) (spent : ℕ) : Type 0 where
   pub core_is : w.core ≡ core
   pub lines_are : w.lines ≡ lines
   pub at_least : length w.steps ≤ spent
   pub at_most : spent ≤ length w.steps + sum_by budget_of w.natives
 
--- an outcome gives an answer, or, where memory was refused, what comes before it
+-- an outcome is the answer, or, if memory was refused, a state on the way to it
 abbrev pub Ends : Core → Answer → Outcome → End → Type 0
 Ends at_first a o end.Done = (v : World) × Shows v o.core o.lines o.spent × (a ≡ Done v)
 Ends at_first a o (end.Trap trap command place) =
@@ -39,14 +39,14 @@ Ends at_first a o end.NoMemory =
     (v : World) × Shows v o.core o.lines o.spent × Precedes v (world_of a) × MayLackAt at_first a v
 Ends at_first a o end.NotFound = ⊥
 
--- where no live command has the name, nothing happens
+-- if no live command has the name, nothing happens
 pub record IsNotFound (at_first : Core) (o : Outcome) : Type 0 where
   pub finish : o.finish ≡ end.NotFound
   pub core : o.core ≡ at_first
   pub lines : o.lines ≡ []
   pub spent : o.spent ≡ 0
 
--- what a start gives, by its meaning
+-- an outcome agrees with the meaning of a start
 abbrev pub Gives : Option Answer → Core → Outcome → Type 0
 Gives None core o = IsNotFound core o
 Gives (Some a) core o = Ends core a o o.finish

@@ -1,4 +1,4 @@
--- What the machine's state stands for: what is left to do from it.
+-- The meaning of the machine's state: the rest of the run.
 use Rattle.std.specs.Prelude.{◌≡◌, ℕ, zero, suc, ◌+◌, ◌-◌, ◌≤◌, ◌<◌, ◌^◌, Bool, true, false, List}
 use Rattle.std.specs.Prelude.{[], ◌∷◌, sum_by}
 use Rattle.std.specs.Prelude.{Option, Some, None, Result, Ok, Err, length, drop, slice_get}
@@ -16,35 +16,36 @@ use Rattle.kb_vm.specs.declared.machine.Pause.TheVariants as pause
 use Rattle.kb_vm.specs.declared.machine.Paused.{Paused}
 use Rattle.kb_vm.specs.declared.machine.Turn.{Turn}
 use Rattle.kb_vm.specs.declared.machine.Turn.TheVariants as turn
-use Rattle.kb_codes.specs.Callee.{Callee, Table, declared_by}
+use Rattle.kb_code.specs.Commands.{Callee, Table, declared_by}
 use Rattle.kb_vm.specs.Effect.{Effect, Enter, called, topmost}
 use Rattle.kb_vm.specs.Meaning.{World, Answer, Done, Stuck, and_then, run, follow, native_called}
 use Rattle.kb_vm.specs.Memory.{RefusedLast, goes_on}
 use Rattle.kb_vm.specs.Outcome.{Shows, Precedes, world_of}
 use Rattle.kb_vm.specs.Position.{Position, outset, moved}
 
--- where a frame stands
+-- the position of a frame
 abbrev pub position_of : Frame → Position
 position_of f = record { place = f.place; turns = f.turns; operands = f.operands }
 
--- what a frame goes on with
+-- the rest of a frame's run
 abbrev pub resume : Table → Frame → World → Answer
 resume table f w = run table f.handler f.args f.left (position_of f) w
 
--- what the waiting frames, the outermost first, make of the innermost one's answer
+-- the answer of the outermost waiting frame, from the innermost callee's answer; the outermost frame is
+-- first
 abbrev pub finish : Table → List Frame → Answer → Answer
 finish table [] a = a
 finish table (f ∷ fs) a = and_then (finish table fs a) (resume table f)
 
--- what is left to do
+-- the rest of a machine's run
 abbrev pub rest : Table → Machine → World → Answer
 rest table m w = finish table m.callers (resume table m.frame w)
 
--- what all frames may still spend
+-- the remaining budget of all frames
 abbrev pub credit : Machine → ℕ
 credit m = m.frame.left + sum_by (λ f. f.left) m.callers
 
--- what a turn of the machine leaves, where an answer was still to come
+-- a turn of the machine preserves the answer of the run
 abbrev pub TurnedFrom : Table → Answer → Turn → Type 0
 TurnedFrom table a (turn.On n) = (v : World) × Shows v n.core n.lines n.spent × (a ≡ rest table n v)
 TurnedFrom table a (turn.Ended n) = (v : World) × Shows v n.core n.lines n.spent × (a ≡ Done v)
@@ -53,11 +54,11 @@ TurnedFrom table a (turn.Trapped n trap) =
 TurnedFrom table a (turn.NoMemory n) =
     (v : World) × Shows v n.core n.lines n.spent × Precedes v (world_of a) × RefusedLast v
 
--- the same, of what was left to do in any world that the machine shows
+-- the same for each world that matches the machine
 abbrev pub Turned : Table → Machine → Turn → Type 0
 Turned table m t = (w : World) → Shows w m.core m.lines m.spent → TurnedFrom table (rest table m w) t
 
--- no more is spent than was there
+-- the sum of the cost and the remaining budget doesn't grow
 abbrev pub Spends : Machine → Machine → Type 0
 Spends m n = n.spent + credit n ≤ m.spent + credit m
 
@@ -67,30 +68,30 @@ Pays m (turn.Ended n) = Spends m n
 Pays m (turn.Trapped n trap) = Spends m n
 Pays m (turn.NoMemory n) = Spends m n
 
--- the answer of an effect, for the frame of a machine and those that wait
+-- the answer of an effect, for the frame of a machine and its callers
 abbrev pub rest_of : Table → Machine → Effect → World → Answer
 rest_of table m e w =
     finish table m.callers
     (follow (run table) m.frame.handler m.frame.args m.frame.left (position_of m.frame) w e)
 
--- what is left to do, where a native is called first
+-- the rest of the run after a call of a native
 abbrev pub after_native : Table → Machine → Native → List Arg → World → Answer
 after_native table m native args w = rest table m (native_called native args w)
 
--- the same, where a handler is run first
+-- the rest of the run after a call of a handler
 abbrev pub after_coded : Table → Machine → HandlerData → List Arg → World → Answer
 after_coded table m h args w =
     finish table m.callers
     (and_then (run table h args h.signature.budget outset w) (resume table m.frame))
 
--- the same, where a command is called with the topmost operands
+-- the rest of the run after a call with the topmost operands
 abbrev pub after_call : Table → Machine → List ℕ → Callee → World → Answer
 after_call table m name callee w =
     let n = length (declared_by callee).params in
     let operands = m.frame.operands in
     rest_of table m (Enter name callee (topmost n operands) (drop n operands)) w
 
--- what a turn costs, where a callee may cost so much
+-- the cost of a turn whose callee may cost up to `most`
 abbrev pub PaysFrom : ℕ → Machine → Turn → Type 0
 PaysFrom most m (turn.On n) =
     (n.spent + credit n ≤ m.spent + credit m + most) × (credit n ≤ credit m + most)
@@ -98,35 +99,36 @@ PaysFrom most m (turn.Ended n) = n.spent + credit n ≤ m.spent + credit m + mos
 PaysFrom most m (turn.Trapped n trap) = n.spent + credit n ≤ m.spent + credit m + most
 PaysFrom most m (turn.NoMemory n) = n.spent + credit n ≤ m.spent + credit m + most
 
--- the instruction that a frame may pay for, or why there is none
+-- the instruction that a frame can pay for, or the trap
 abbrev pub fetched_at : Option Instr → ℕ → Result Instr Trap
 fetched_at None left = Err BadCode
 fetched_at (Some instr) zero = Err OutOfBudget
 fetched_at (Some instr) (suc left) = Ok instr
 
--- whether a command is called
+-- whether the effect calls a command
 abbrev pub is_enter : Effect → Bool
 is_enter (Enter name callee args operands) = true
 is_enter _ = false
 
--- memory may be refused in the last step, if it calls a command for which its frame can pay
+-- memory may be refused at the last step, if it calls a command and the remaining budget is large
+-- enough
 abbrev pub CallMayBeRefused : ℕ → Effect → World → Type 0
 CallMayBeRefused left e w = is_enter e ≡ true → goes_on left e ≡ true → RefusedLast w
 
--- the effect of the call at an index in the list of calls of the handler that runs
+-- the effect of a call at an index of the running handler's list of calls
 abbrev pub called_by : Table → Machine → ℕ → Effect
 called_by table m index =
     let h = m.frame.handler in
     called table h.signature.depth (slice_get h.calls index) m.frame.operands
 
--- so many instructions are begun on the way from one world to another, and nothing else happens
+-- exactly n instructions are begun between the worlds, and nothing else happens
 pub record Begun (n : ℕ) (w v : World) : Type 0 where
   pub core : v.core ≡ w.core
   pub lines : v.lines ≡ w.lines
   pub natives : v.natives ≡ w.natives
   pub steps : length v.steps ≡ length w.steps + n
 
--- what a frame that pauses where it stands leaves of an answer that was still to come
+-- a pause of a frame preserves the answer of the run
 abbrev pub PausedFrom : Table → HandlerData → List Arg → Position → Answer → World → ℕ → Pause → Type 0
 PausedFrom table h args at a v left (pause.Stop trap) = a ≡ Stuck trap h.command at.place v
 PausedFrom table h args at a v left pause.Leave = a ≡ Done v
@@ -135,19 +137,19 @@ PausedFrom table h args at a v left (pause.Call index) =
     CallMayBeRefused left e v × (a ≡ follow (run table) h args left at v e)
 PausedFrom table h args at a v left pause.NoMemory = Precedes v (world_of a) × RefusedLast v
 
--- a frame runs from where it stands with an allowance up to where it pauses, whatever commands are live
+-- a run of a frame from a position to its pause, for all tables of live commands
 abbrev pub PausesAt : HandlerData → List Arg → Core → Position → ℕ → List Arg → Paused → Type 0
 PausesAt h args core at left after p =
     (table : Table) (w : World) → w.core ≡ core → (v : World) × Begun (left - p.left) w v
     × PausedFrom table h args (moved at p.place after) (run table h args left at w) v p.left p.why
 
--- the same from a place with operands, whatever blocks are open: no instruction opens or closes one
+-- the same from a place with operands, for any open blocks: no instruction opens or closes one
 abbrev pub Pauses : HandlerData → List Arg → Core → List Arg → ℕ → ℕ → List Arg → Paused → Type 0
 Pauses h args core operands place left after p =
     (turns : List ℕ)
     → PausesAt h args core (record { place = place; turns = turns; operands = operands }) left after p
 
--- where there is an instruction at which a frame pauses, it was paid for
+-- an instruction at which a frame pauses was paid for
 abbrev pub IsPaid : ℕ → ℕ → ℕ → Pause → Type 0
 IsPaid before place left (pause.Stop trap) = Unit {0}
 IsPaid before place left pause.Leave = left < before

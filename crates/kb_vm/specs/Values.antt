@@ -1,4 +1,4 @@
--- What instructions make of values.
+-- The operations on values.
 use Rattle.std.specs.Prelude.{ℕ, List, [], ◌∷◌, ◌++◌, Bool, true, false, not, length, min}
 use Rattle.std.specs.Prelude.{◌^◌, ◌-◌, Option, Some, None, codes}
 use Rattle.std.specs.Prelude.{bytes_eq, ℤ, pos, ◌+ℤ◌, ◌-ℤ◌, int_lt}
@@ -15,11 +15,12 @@ use Rattle.kb_vm.specs.declared.values.One.TheVariants.{Not, Show, Size, IsTrue,
 use Rattle.kb_vm.specs.declared.values.Two.{Two}
 use Rattle.kb_vm.specs.declared.values.Two.TheVariants.{Add, Sub, Less, Same, Join}
 
--- how many characters a text has, held at the end of 64 signed bits; a character is a Unicode scalar value
+-- the number of characters of a text, saturating at the largest number of 64 signed bits; a character
+-- is a Unicode scalar value
 unfoldable pub size_of : List ℕ → ℕ
 size_of text = min (length (chars text)) (2 ^ 63 - 1)
 
--- the number nearest to a whole number in 64 signed bits
+-- a whole number, saturating at the ends of 64 signed bits
 abbrev pub held : ℤ → ℤ
 held n = saturate_signed w64 n
 
@@ -29,20 +30,20 @@ shown (Number n) = signed_decimal n
 shown (Truth true) = codes "true"
 shown (Truth false) = codes "false"
 
--- whether a value is neither false nor 0 nor empty
+-- whether a value is neither false, nor 0, nor the empty text
 abbrev pub is_true : Arg → Bool
 is_true (Text []) = false
 is_true (Text (byte ∷ bytes)) = true
 is_true (Number n) = not (int_eq n (pos 0))
 is_true (Truth truth) = truth
 
--- a number, and 0 for any other value
+-- a number itself, and 0 for any other value
 abbrev pub number_in : Arg → ℤ
 number_in (Text text) = pos 0
 number_in (Number n) = n
 number_in (Truth truth) = pos 0
 
--- what an instruction makes of one value, if it takes that value
+-- the result of an operation on one value, if it accepts the value
 abbrev pub one_of : One → Arg → Option Arg
 one_of Not (Text text) = None
 one_of Not (Number n) = None
@@ -58,14 +59,14 @@ abbrev pub same_truth : Bool → Bool → Bool
 same_truth true y = y
 same_truth false y = not y
 
--- whether two values are of one kind and equal
+-- whether both values have the same kind and are equal
 abbrev pub is_same : Arg → Arg → Bool
 is_same (Text x) (Text y) = bytes_eq x y
 is_same (Number x) (Number y) = int_eq x y
 is_same (Truth x) (Truth y) = same_truth x y
 is_same _ _ = false
 
--- what it makes of two numbers
+-- the result of an operation on two numbers
 abbrev pub with_numbers : (ℤ → ℤ → Arg) → Arg → Arg → Option Arg
 with_numbers make (Number x) (Number y) = Some (make x y)
 with_numbers make _ _ = None
@@ -74,7 +75,7 @@ abbrev pub joined : Arg → Arg → Option Arg
 joined (Text x) (Text y) = Some (Text (x ++ y))
 joined _ _ = None
 
--- what an instruction makes of two values, the second on top, if it takes them
+-- the result of an operation on two values, of which the second is on top, if it accepts them
 abbrev pub two_of : Two → Arg → Arg → Option Arg
 two_of Add x y = with_numbers (λ m n. Number (held (m +ℤ n))) x y
 two_of Sub x y = with_numbers (λ m n. Number (held (m -ℤ n))) x y

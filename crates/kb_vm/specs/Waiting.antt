@@ -1,15 +1,15 @@
--- The frames that wait, with what they work on in one row: for each, from the outermost on, its arguments and
--- then its operands.
+-- The waiting frames, with their values in one list: for each frame, from the outermost on, its
+-- arguments and then its operands.
 use Rattle.std.specs.Prelude.{ℕ, ◌+◌, ◌≤◌, List, [], ◌∷◌, reverse, take, drop}
 use Rattle.kb_core.specs.declared.arg.Arg.{Arg}
 use Rattle.kb_vm.specs.declared.callers.Waiting.{Waiting}
 use Rattle.kb_vm.specs.declared.machine.Frame.{Frame}
 
--- how many values a frame works on
+-- the number of values of a frame
 abbrev pub width : Waiting → ℕ
 width w = w.args + w.operands
 
--- a frame whose values are the first of a row
+-- a frame whose values are at the start of a list
 abbrev pub frame_of : Waiting → List Arg → Frame
 frame_of w values = record {
   handler = w.handler;
@@ -20,7 +20,7 @@ frame_of w values = record {
   operands = reverse (take w.operands (drop w.args values));
 }
 
--- how many values frames work on
+-- the number of values of all frames
 abbrev pub widths : List Waiting → ℕ
 widths [] = 0
 widths (w ∷ ws) = width w + widths ws

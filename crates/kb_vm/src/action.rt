@@ -1,4 +1,4 @@
-//! What one instruction does.
+//! The effect of one instruction.
 ghost use Rattle.std.specs.Prelude.{◌≡◌, ◌<◌, false, true, IfOk, MatchOption, OnErr};
 ghost use Rattle.std.specs.Prelude.{option_map, slice_get, length};
 ghost use Rattle.kb_vm.specs.Action.{Calls, Does, IsReady, IsCallable, MayLackMemory, is_stop};
@@ -6,7 +6,7 @@ ghost use Rattle.kb_vm.specs.Memory.{is_call};
 ghost use Rattle.kb_vm.specs.Effect.{effect, pushed, pushed_at, pushed_context, dropped, doubled};
 ghost use Rattle.kb_vm.specs.Effect.{swapped, made};
 ghost use Rattle.kb_vm.specs.Effect.{with_one, with_two, branched, entered, called};
-ghost use Rattle.kb_codes.specs.Found.{callee_of};
+ghost use Rattle.kb_code.specs.Found.{callee_of};
 ghost use Rattle.kb_vm.specs.Operand.{arg_of};
 ghost use Rattle.kb_vm.specs.Values.{size_of};
 ghost use Rattle.kb_vm.specs.declared.values.One.TheVariants.{Show};
@@ -19,34 +19,33 @@ use crate::given::{Given, fits};
 use crate::operands::{Operand, Operands};
 use crate::trap::Trap;
 use crate::values::{One, Two, context, made_of_one, made_of_two, size_of};
-use kb_code::Instr;
-use kb_codes::{Commands, Found, Linked};
-use kb_context::{NoMemory, Text};
+use kb_base::{NoMemory, Text};
+use kb_code::{Commands, Found, Instr, Linked};
 use kb_core::Core;
 
-/// What follows an instruction. It is small, since there is one for each instruction.
+/// The next step after an instruction. The type is small, since each instruction returns one.
 #[derive(Clone, Copy, Debug)]
 pub(crate) enum Action {
-    /// The handler can't go on.
+    /// The instruction traps.
     Stop(Trap),
-    /// The handler ends.
+    /// The handler returns.
     Leave,
-    /// The next instruction.
+    /// Continue at the next instruction.
     Next,
-    /// The instruction at this place, if it is a later one.
+    /// Continue at this place. The caller traps if it isn't a later one.
     Goto(u16),
 }
 
-/// What a call comes to.
+/// The result of a call instruction.
 #[derive(Drop)]
 pub(crate) enum Called<'r> {
-    /// The handler can't go on.
+    /// The call traps.
     Stop(Trap),
-    /// A live command of this name, which is called with the topmost operands.
+    /// The topmost operands are the arguments of a call of this live command, which has this name.
     Enter(&'r Text, Found<'r>),
 }
 
-/// Puts a value on top.
+/// Pushes a value.
 fn push<'a>(operands: &mut Operands<'a>, value: Operand<'a>) -> Action
     ensures { Does (pushed (arg_of value.entry) operands.old) result operands.new }
 {
@@ -58,7 +57,7 @@ fn push<'a>(operands: &mut Operands<'a>, value: Operand<'a>) -> Action
     }
 }
 
-/// Puts a text of the handler on top.
+/// Pushes a text of the handler.
 fn push_text<'a>(operands: &mut Operands<'a>, texts: &'a [Text], index: u16) -> Action
     ensures { Does (pushed_at (option_map arg.Text (slice_get texts.now index)) operands.old)
         result operands.new }
@@ -69,7 +68,7 @@ fn push_text<'a>(operands: &mut Operands<'a>, texts: &'a [Text], index: u16) -> 
     }
 }
 
-/// Puts an argument on top.
+/// Pushes an argument.
 fn push_arg<'a>(operands: &mut Operands<'a>, args: &Given<'a>, index: u16) -> Action
     ensures { Does (pushed_at (slice_get args.now index) operands.old) result operands.new }
 {
@@ -79,7 +78,7 @@ fn push_arg<'a>(operands: &mut Operands<'a>, args: &Given<'a>, index: u16) -> Ac
     }
 }
 
-/// Puts the value of a context key on top.
+/// Pushes the value of a context key.
 fn push_context<'a>(
     arena: &'a Arena,
     operands: &mut Operands<'a>,
@@ -114,7 +113,7 @@ fn drop_top<'a>(operands: &mut Operands<'a>) -> Action
     }
 }
 
-/// Puts the topmost operand on top once more.
+/// Pushes the topmost operand again.
 fn double<'a>(operands: &mut Operands<'a>) -> Action
     ensures { Does (doubled operands.old) result operands.new }
 {
@@ -142,7 +141,7 @@ fn swap<'a>(operands: &mut Operands<'a>) -> Action
     Action::Next
 }
 
-/// Puts what was made on top.
+/// Pushes the result of an instruction. `None` means that an operand had a wrong kind.
 fn put<'a>(operands: &mut Operands<'a>, value: Option<Operand<'a>>) -> Action
     requires { length operands.old < 64 }
     ensures { Does (made (option_map arg_of value.entry) operands.old) result operands.new }
@@ -156,7 +155,7 @@ fn put<'a>(operands: &mut Operands<'a>, value: Option<Operand<'a>>) -> Action
     }
 }
 
-/// Takes one operand, and puts what is made of it in its place.
+/// Replaces the topmost operand with a result computed from it.
 fn apply_one<'a>(
     arena: &'a Arena,
     operands: &mut Operands<'a>,
@@ -173,7 +172,7 @@ fn apply_one<'a>(
     Ok(put(operands, value))
 }
 
-/// Takes two operands, and puts what is made of them in their place.
+/// Replaces the two topmost operands with a result computed from them.
 fn apply_two<'a>(
     arena: &'a Arena,
     operands: &mut Operands<'a>,
@@ -193,7 +192,7 @@ fn apply_two<'a>(
     Ok(put(operands, value))
 }
 
-/// Takes a truth value, and goes on at a place if it is false.
+/// Pops a truth value, and jumps if it is false.
 fn branch<'a>(operands: &mut Operands<'a>, to: u16) -> Action
     ensures { Does (branched to operands.old) result operands.new }
 {
@@ -205,7 +204,7 @@ fn branch<'a>(operands: &mut Operands<'a>, to: u16) -> Action
     }
 }
 
-/// Calls a live command from a handler of this depth.
+/// Checks a call of a live command from a handler with this declared depth.
 fn enter<'r>(operands: &Operands<'_>, depth: u8, name: &'r Text, callee: Found<'r>) -> Called<'r>
     ensures does { Calls (entered depth name.now (callee_of callee.entry) operands.now) result operands.now }
     ensures ready { (table : _) → IsCallable table (callee_of callee.entry)
@@ -225,7 +224,7 @@ fn enter<'r>(operands: &Operands<'_>, depth: u8, name: &'r Text, callee: Found<'
     }
 }
 
-/// Calls the command that a handler's list of calls names at an index.
+/// Checks a call of the command at an index of the handler's list of calls.
 pub(crate) fn call<'r, L: Commands>(
     commands: &'r L,
     handler: &Linked<'r>,
@@ -251,7 +250,7 @@ pub(crate) fn call<'r, L: Commands>(
     }
 }
 
-/// The index in the handler's list of calls of what an instruction calls, if it is a call.
+/// The index of a call instruction in the handler's list of calls. `None` for other instructions.
 #[inline]
 pub(crate) fn index_of(instr: Instr) -> Option<u16>
     ensures { MatchOption result (is_call instr ≡ false) (λ n. instr ≡ instr_kind.Call n) }
@@ -262,7 +261,7 @@ pub(crate) fn index_of(instr: Instr) -> Option<u16>
     }
 }
 
-/// One instruction that is no call, of a handler that runs on these arguments.
+/// Performs one instruction, other than a call, of a handler with these arguments.
 pub(crate) fn perform<'r: 'a, 'a>(
     arena: &'a Arena,
     handler: &Linked<'r>,

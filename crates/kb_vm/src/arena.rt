@@ -1,12 +1,12 @@
-//! The texts that a start makes.
+//! The texts that a run creates.
 ghost use Rattle.std.specs.Prelude.{◌≡◌, ◌++◌, IfOk};
 ghost use Rattle.std.specs.Fmt.{signed_decimal};
 
 use bumpalo::Bump;
-use kb_context::NoMemory;
+use kb_base::NoMemory;
 use std::alloc::Global;
 
-/// The texts that a start makes, which live until it ends, so that operands lend them.
+/// The texts that a run creates. They are freed when it ends, so operands can borrow them.
 #[derive(Drop)]
 pub(crate) struct Arena {
     alloc: Global,
@@ -14,7 +14,7 @@ pub(crate) struct Arena {
 }
 
 impl Arena {
-    /// No text. It takes no memory.
+    /// An arena without texts.
     pub(crate) fn new(alloc: Global) -> Arena {
         Arena {
             alloc,
@@ -22,7 +22,7 @@ impl Arena {
         }
     }
 
-    /// A text with these bytes.
+    /// A copy of a text.
     pub(crate) fn copied(&self, text: &str) -> Result<&str, NoMemory>
         ensures { IfOk result (λ made. made.now ≡ text.now) }
     {
@@ -38,7 +38,7 @@ impl Arena {
         self.copied(text.as_str())
     }
 
-    /// The decimal spelling of a number.
+    /// The decimal form of a number.
     pub(crate) fn spelled(&self, number: i64) -> Result<&str, NoMemory>
         ensures { IfOk result (λ made. made.now ≡ signed_decimal number) }
     {

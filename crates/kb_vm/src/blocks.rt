@@ -1,14 +1,14 @@
-//! Blocks that are run more than once.
+//! Repeated blocks of code.
 ghost use Rattle.std.specs.Prelude.{◌≡◌, []};
 
 use std::marker::Model;
 
-/// How many blocks of a handler may be open.
+/// The largest number of open blocks of a handler.
 const BLOCK_LIMIT: usize = 8;
 
-/// The turns that are left of each block that is open, at most 8 of them, which stand in the frame itself.
-/// Contracts see their list, the innermost first. Version 1 of handler files has no instruction that opens a
-/// block, so there are none yet.
+/// The remaining iterations of each open block, at most 8 of them, stored in the frame itself.
+/// Contracts see a list, the innermost block first. Version 1 of handler files has no instruction that
+/// opens a block, so the list is always empty.
 #[derive(Drop)]
 pub(crate) struct Turns {
     left: [u16; BLOCK_LIMIT],
@@ -26,7 +26,7 @@ impl Model for Turns {
 }
 
 impl Turns {
-    /// No block is open.
+    /// No open block.
     pub(crate) fn none() -> Turns
         ensures { result ≡ [] }
     {

@@ -1,5 +1,5 @@
-//! The line of a call. It is written into the text of `Lines::begin_line`, so that it takes no memory of its
-//! own for long; where memory is refused, the lines stay as they were.
+//! The trace line of a call. It is written into the text of `Lines::begin_line`, so it needs no buffer
+//! of its own. On refused memory the lines stay unchanged.
 ghost use Rattle.std.specs.Prelude.{◌≡◌, [], ◌∷◌, ◌++◌, IfOk, OnOk, OnErr, map, string_bytes};
 ghost use Rattle.kb_vm.specs.CallLine as line;
 ghost use Rattle.kb_vm.specs.Operand.{arg_of};
@@ -7,10 +7,11 @@ ghost use Rattle.kb_vm.specs.Operand.{arg_of};
 use crate::given::Given;
 use crate::operands::Operand;
 use json::Writer;
-use kb_context::NoMemory;
+use kb_base::NoMemory;
 use kb_stream::Lines;
 
-/// `call COMMAND ARGUMENTS`, for a command that is called: the arguments as a JSON list without spaces.
+/// Adds the line `call COMMAND ARGUMENTS` for a command that is called. The arguments are a JSON list
+/// without spaces.
 pub(crate) fn call_line(lines: &mut Lines, name: &str, given: &Given<'_>) -> Result<(), NoMemory>
     ensures ok { OnOk result (lines.new ≡ lines.old ++ line.call_line name.now given.now ∷ []) }
     ensures err { OnErr result (lines.new ≡ lines.old) }
@@ -19,7 +20,7 @@ pub(crate) fn call_line(lines: &mut Lines, name: &str, given: &Given<'_>) -> Res
     lines.push(text)
 }
 
-/// A text with the words of a call behind it.
+/// Appends the words of a call to a text.
 fn call_text(text: String, name: &str, given: &Given<'_>) -> Result<String, NoMemory>
     ensures { IfOk result (λ made. string_bytes made
         ≡ string_bytes text ++ line.call_line name.now given.now) }
@@ -31,7 +32,7 @@ fn call_text(text: String, name: &str, given: &Given<'_>) -> Result<String, NoMe
     with_list(text, given.as_slice())
 }
 
-/// A text with values as a JSON list behind it.
+/// Appends values to a text, as a JSON list.
 #[tactic(auto, unfolding(crate::specs::CallLine::list_text))]
 fn with_list(text: String, given: &[Operand<'_>]) -> Result<String, NoMemory>
     ensures { IfOk result (λ made. string_bytes made
@@ -42,7 +43,7 @@ fn with_list(text: String, given: &[Operand<'_>]) -> Result<String, NoMemory>
     Ok(String::from_utf8(writer.into_inner()).unwrap())
 }
 
-/// Writes values as a list.
+/// Writes values as a JSON list.
 fn write_list(writer: &mut Writer, given: &[Operand<'_>]) -> Result<(), NoMemory>
     ensures tokens { OnOk result (writer.new.tokens
         ≡ writer.old.tokens ++ line.list_tokens (map arg_of given.now)) }

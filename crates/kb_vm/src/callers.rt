@@ -1,6 +1,8 @@
-//! The frames that wait for a command that they called. What they work on stands in one row, and a frame that
-//! goes on takes over the room of the one that is done, so that no call takes memory for operands.
-ghost use Rattle.std.specs.Prelude.{◌≡◌, ◌≤◌, ◌<◌, ◌+◌, ◌-◌, [], ◌∷◌, ◌++◌, length, map, reverse, take, drop};
+//! The frames that wait for a command that they called. One vector has the arguments and operands of
+//! all of them, and a frame that continues reuses the vectors of the frame that ended. So a call
+//! allocates no memory for operands.
+ghost use Rattle.std.specs.Prelude.{◌≡◌, ◌≤◌, ◌<◌, ◌+◌, ◌-◌, [], ◌∷◌, ◌++◌, length, map, reverse, take};
+ghost use Rattle.std.specs.Prelude.{drop};
 ghost use Rattle.std.specs.Prelude.{IfOk, OnOk, MatchResult, vec_capacity};
 ghost use Rattle.kb_vm.specs.Operand.{arg_of};
 
@@ -8,28 +10,29 @@ use crate::blocks::Turns;
 use crate::given::Given;
 use crate::machine::Frame;
 use crate::operands::{Operand, Operands};
-use kb_codes::Linked;
-use kb_context::NoMemory;
+use kb_base::NoMemory;
+use kb_code::Linked;
 use std::alloc::Global;
 use std::marker::Model;
 
-/// How many values a frame may work on: 8 arguments and 64 operands.
+/// The largest number of values of a frame: 8 arguments and 64 operands.
 const ROOM: usize = 72;
 
-/// A frame that waits, but for what it works on, which stands in the row of all frames that wait.
+/// A waiting frame without its arguments and operands, which are in the common vector of all waiting
+/// frames. The other fields are those of `Frame`.
 #[derive(Drop)]
 pub(crate) struct Waiting<'r> {
     pub handler: Linked<'r>,
     pub place: usize,
     pub turns: Turns,
     pub left: u32,
-    /// How many arguments it has.
+    /// The number of arguments.
     pub args: usize,
-    /// How many operands it has.
+    /// The number of operands.
     pub operands: usize,
 }
 
-/// The frames that wait. Contracts see their list, the outermost first.
+/// The waiting frames. Contracts see a list of frames, the outermost first.
 #[derive(Drop)]
 pub(crate) struct Callers<'r, 'a> {
     waiting: Vec<Waiting<'r>>,
@@ -53,7 +56,7 @@ impl<'r, 'a> Model for Callers<'r, 'a> {
 }
 
 impl<'r, 'a> Callers<'r, 'a> {
-    /// No frame, with room for so many.
+    /// No frames, with capacity for `count`.
     pub(crate) fn new(alloc: Global, count: u8) -> Result<Callers<'r, 'a>, NoMemory>
         ensures { IfOk result (λ callers. callers ≡ []) }
     {
@@ -65,7 +68,7 @@ impl<'r, 'a> Callers<'r, 'a> {
         })
     }
 
-    /// Room for the arguments of a call. It takes memory for the first one alone, since that room comes back.
+    /// A vector for the arguments of a call. Only the first call allocates one; later calls reuse it.
     pub(crate) fn take_spare(&mut self, alloc: Global) -> Result<Given<'a>, NoMemory>
         ensures { self.new ≡ self.old }
     {
@@ -75,14 +78,15 @@ impl<'r, 'a> Callers<'r, 'a> {
         }
     }
 
-    /// Gives the room of a call's arguments back.
+    /// Returns the vector of a call's arguments for reuse.
     pub(crate) fn give_back(&mut self, spare: Given<'a>)
         ensures { self.new ≡ self.old }
     {
         self.spare = Some(spare);
     }
 
-    /// A frame waits, and what is left is its room for operands; or memory is refused, and it comes back.
+    /// Adds a frame to the waiting ones, and returns its emptied operand stack for reuse. On refused
+    /// memory it returns the frame.
     pub(crate) fn suspend(&mut self, frame: Frame<'r, 'a>) -> Result<Operands<'a>, Frame<'r, 'a>>
         ensures { MatchResult result
             (λ operands. (operands ≡ []) × (self.new ≡ self.old ++ frame.entry ∷ []))
@@ -114,7 +118,8 @@ impl<'r, 'a> Callers<'r, 'a> {
         Ok(operands)
     }
 
-    /// The innermost frame goes on, in the room of one that is done, or that comes back where none waits.
+    /// The innermost waiting frame, ready to continue, in the vectors of the frame that ended. If none
+    /// waits, it returns the frame that ended.
     pub(crate) fn resume(&mut self, done: Frame<'r, 'a>) -> Result<Frame<'r, 'a>, Frame<'r, 'a>>
         ensures { MatchResult result (λ frame. self.old ≡ self.new ++ frame ∷ [])
             (λ back. (back ≡ done.entry) × ((self.old ≡ []) × (self.new ≡ []))) }
@@ -148,7 +153,7 @@ impl<'r, 'a> Callers<'r, 'a> {
     }
 }
 
-/// Makes room for one more frame, with so many values.
+/// Reserves capacity for one more frame with `count` values.
 fn make_room<'r, 'a>(
     waiting: &mut Vec<Waiting<'r>>,
     values: &mut Vec<Operand<'a>>,
@@ -164,7 +169,7 @@ fn make_room<'r, 'a>(
     Ok(())
 }
 
-/// Puts arguments and operands, for which there is room, behind the values of a row.
+/// Appends arguments and operands to a vector that has capacity for them.
 fn save<'a>(values: &mut Vec<Operand<'a>>, args: &Given<'a>, operands: &Operands<'a>)
     requires { length values.old.items + (length args.now + length operands.now) ≤ vec_capacity values.old }
     ensures { map arg_of values.new.items
@@ -174,7 +179,7 @@ fn save<'a>(values: &mut Vec<Operand<'a>>, args: &Given<'a>, operands: &Operands
     values.extend_from_slice(operands.as_slice()).unwrap();
 }
 
-/// Takes so many arguments, and operands behind them, from the end of a row.
+/// Moves arguments, and the operands after them, from the end of a vector.
 fn take_last<'a>(
     values: &mut Vec<Operand<'a>>,
     args: &mut Given<'a>,

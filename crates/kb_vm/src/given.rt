@@ -1,23 +1,23 @@
-//! The arguments that a call gives.
+//! The arguments of a call.
 ghost use Rattle.std.specs.Prelude.{◌≡◌, ◌≤◌, [], length, map, IfOk, option_map, slice_get};
 ghost use Rattle.kb_core.specs.Arg.{is_of};
 ghost use Rattle.kb_core.specs.Parameter.{declared};
 ghost use Rattle.kb_core.specs.Signature.{fits};
-ghost use Rattle.kb_codes.specs.Callee.{declared_by};
-ghost use Rattle.kb_codes.specs.Found.{callee_of};
+ghost use Rattle.kb_code.specs.Commands.{declared_by};
+ghost use Rattle.kb_code.specs.Found.{callee_of};
 ghost use Rattle.kb_vm.specs.Operand.{arg_of};
 
 use crate::operands::Operand;
-use kb_codes::Found;
-use kb_context::{NoMemory, Text};
+use kb_base::{NoMemory, Text};
+use kb_code::Found;
 use kb_core::{Arg, Args, Kind, NamedKind, Param};
 use std::alloc::Global;
 use std::marker::Model;
 
-/// How many arguments a call may give.
+/// The largest number of arguments of a call.
 const ROOM: usize = 8;
 
-/// The arguments that a call gives, whose texts are lent. Contracts see their list.
+/// The arguments of a call, with borrowed texts. Contracts see their list.
 #[derive(Drop)]
 pub(crate) struct Given<'a> {
     items: Vec<Operand<'a>>,
@@ -36,7 +36,7 @@ impl<'a> Model for Given<'a> {
 }
 
 impl<'a> Given<'a> {
-    /// No argument, with room for 8.
+    /// No arguments, with capacity for 8.
     pub(crate) fn new(alloc: Global) -> Result<Given<'a>, NoMemory>
         ensures { IfOk result (λ given. given ≡ []) }
     {
@@ -45,7 +45,7 @@ impl<'a> Given<'a> {
         })
     }
 
-    /// These arguments, at most 8, in place of others. It takes no memory.
+    /// Replaces the arguments with others, at most 8.
     pub(crate) fn refill(&mut self, values: &[Operand<'a>])
         requires { length values.now ≤ 8 }
         ensures { self.new ≡ map arg_of values.now }
@@ -54,7 +54,7 @@ impl<'a> Given<'a> {
         self.items.extend_from_slice(values).unwrap();
     }
 
-    /// The arguments of a list, lent.
+    /// The arguments of a list, borrowed.
     pub(crate) fn lent(alloc: Global, args: &'a [Arg]) -> Result<Given<'a>, NoMemory>
         requires { length args.now ≤ 8 }
         ensures { IfOk result (λ given. given ≡ args.now) }
@@ -74,14 +74,14 @@ impl<'a> Given<'a> {
         self.items.as_slice()
     }
 
-    /// The argument at an index, or `None` past the last.
+    /// The argument at an index, or `None` if there is no such argument.
     pub(crate) fn get(&self, index: usize) -> Option<Operand<'a>>
         ensures { option_map arg_of result ≡ slice_get self.now index }
     {
         self.items.get(index).copied()
     }
 
-    /// The arguments with texts of their own, which a closure takes.
+    /// The arguments with copied texts, as a closure takes them.
     pub(crate) fn owned(&self, alloc: Global) -> Result<Args, NoMemory>
         requires { length self.now ≤ 8 }
         ensures { IfOk result (λ args. args ≡ self.now) }
@@ -94,7 +94,7 @@ impl<'a> Given<'a> {
     }
 }
 
-/// Whether values fit a command. It takes no memory.
+/// Whether operands fit the parameters of a command.
 pub(crate) fn fits(callee: &Found<'_>, values: &[Operand<'_>]) -> bool
     ensures { result ≡ fits (declared_by (callee_of callee.now)).params (map arg_of values.now) }
 {
@@ -104,7 +104,7 @@ pub(crate) fn fits(callee: &Found<'_>, values: &[Operand<'_>]) -> bool
     }
 }
 
-/// Whether arguments fit a command. It takes no memory.
+/// Whether arguments fit the parameters of a command.
 pub(crate) fn args_fit(callee: &Found<'_>, args: &Args) -> bool
     ensures { result ≡ fits (declared_by (callee_of callee.now)).params args.now }
 {
@@ -114,7 +114,7 @@ pub(crate) fn args_fit(callee: &Found<'_>, args: &Args) -> bool
     }
 }
 
-/// An argument, lent.
+/// An argument as an operand with a borrowed text.
 fn lent(arg: &Arg) -> Operand<'_>
     ensures { arg_of result ≡ arg.now }
 {
@@ -125,7 +125,7 @@ fn lent(arg: &Arg) -> Operand<'_>
     }
 }
 
-/// An operand with a text of its own.
+/// An operand as an argument with a copied text.
 fn owned(alloc: Global, operand: Operand<'_>) -> Result<Arg, NoMemory>
     ensures { IfOk result (λ arg. arg ≡ arg_of operand.entry) }
 {
@@ -136,7 +136,7 @@ fn owned(alloc: Global, operand: Operand<'_>) -> Result<Arg, NoMemory>
     }
 }
 
-/// Whether a parameter of a kind takes a value.
+/// Whether a parameter of a kind accepts a value.
 fn takes(kind: Kind, operand: Operand<'_>) -> bool
     ensures { result ≡ is_of kind (arg_of operand.entry) }
 {
@@ -149,7 +149,7 @@ fn takes(kind: Kind, operand: Operand<'_>) -> bool
     }
 }
 
-/// Whether values fit parameters.
+/// Whether operands fit parameters.
 fn fits_params(params: &[Param], given: &[Operand<'_>]) -> bool
     ensures { result ≡ fits params.now (map arg_of given.now) }
 {
@@ -164,7 +164,7 @@ fn fits_params(params: &[Param], given: &[Operand<'_>]) -> bool
     true
 }
 
-/// Whether values fit parameters of a table.
+/// Whether operands fit the parameters of a native command.
 fn fits_named(params: &[NamedKind], given: &[Operand<'_>]) -> bool
     ensures { result ≡ fits (map declared params.now) (map arg_of given.now) }
 {
@@ -179,7 +179,7 @@ fn fits_named(params: &[NamedKind], given: &[Operand<'_>]) -> bool
     true
 }
 
-/// Whether arguments fit parameters of a table.
+/// Whether arguments fit the parameters of a native command.
 fn args_fit_named(params: &[NamedKind], args: &[Arg]) -> bool
     ensures { result ≡ fits (map declared params.now) args.now }
 {

@@ -1,7 +1,8 @@
-//! What callers may rely on of the meaning of a start.
+//! Theorems about the meaning of a run.
 ghost use Rattle.kb_vm.specs.Meaning.{RunsByStep};
 
-/// A run is one instruction, and then a run. So the bound by which the meaning is defined is never reached.
+/// A run is one instruction followed by a run. So the bound on steps in the definition is never
+/// reached.
 pub fn runs_by_step()
     ensures { RunsByStep }
 {}

@@ -1,4 +1,4 @@
-//! The machine that runs commands in code: the meaning of a start, and a loop over frames that has it.
+//! The virtual machine for handlers: the meaning of a run, and a loop over frames that implements it.
 #![tactic(auto)]
 
 mod action;

@@ -1,12 +1,12 @@
-//! Frames, and the loop over them.
+//! The frames of handlers, and the loop that runs them.
 ghost use Rattle.std.specs.Prelude.{◌≡◌, ◌≤◌, ◌<◌, ◌+◌, ◌^◌, [], true, IfOk, IfErr, is_ok, slice_get};
 ghost use Rattle.kb_core.specs.Native.{budget_of, parameters_of};
 ghost use Rattle.kb_core.specs.Ran.{Does};
 ghost use Rattle.kb_core.specs.Signature.{fits};
 ghost use Rattle.kb_vm.specs.Action.{HasArguments, IsCallable};
-ghost use Rattle.kb_codes.specs.Callee.{IsLive, declared_by};
+ghost use Rattle.kb_code.specs.Commands.{IsLive, declared_by};
 ghost use Rattle.kb_vm.specs.Effect.{Enter};
-ghost use Rattle.kb_codes.specs.Found.{callee_of};
+ghost use Rattle.kb_code.specs.Found.{callee_of};
 ghost use Rattle.kb_vm.specs.Leave.{Left};
 ghost use Rattle.kb_vm.specs.Meaning.{World, run, first_world};
 ghost use Rattle.kb_vm.specs.Outcome.{Shows, Ends};
@@ -24,14 +24,14 @@ use crate::callers::Callers;
 use crate::given::Given;
 use crate::operands::Operands;
 use crate::trap::Trap;
-use kb_code::Instr;
-use kb_codes::{Commands, Found, Linked};
-use kb_context::Text;
+use kb_base::Text;
+use kb_code::{Commands, Found, Instr, Linked};
 use kb_core::{Core, Native, Ran};
 use kb_stream::Lines;
 use std::alloc::Global;
 
-/// A handler that runs, and where it is.
+/// A running handler: its arguments, the place of its next instruction, the remaining iterations of its
+/// open blocks, its remaining budget in instructions (`left`), and its operands.
 #[derive(Drop)]
 pub(crate) struct Frame<'r, 'a> {
     pub handler: Linked<'r>,
@@ -42,7 +42,8 @@ pub(crate) struct Frame<'r, 'a> {
     pub operands: Operands<'a>,
 }
 
-/// The state of a run: the frame of the handler that runs, and those that wait, the outermost first.
+/// The state of a run: the frame of the running handler, the waiting frames, the core, the trace lines
+/// of calls so far, and the cost so far in instructions (`spent`).
 #[derive(Drop)]
 pub(crate) struct Machine<'r, 'a> {
     pub frame: Frame<'r, 'a>,
@@ -52,20 +53,20 @@ pub(crate) struct Machine<'r, 'a> {
     pub spent: u64,
 }
 
-/// Why a frame pauses.
+/// The reason why a frame pauses.
 #[derive(Clone, Copy, Debug)]
 pub(crate) enum Pause {
-    /// The handler can't go on.
+    /// The handler traps.
     Stop(Trap),
-    /// The handler ends.
+    /// The handler returns.
     Leave,
-    /// The command that the handler's list of calls names at this index is called.
+    /// The handler calls the command at this index of its list of calls.
     Call(u16),
     /// Memory was refused.
     NoMemory,
 }
 
-/// Where a frame pauses, and what it may still spend.
+/// The place at which a frame pauses, its remaining budget, and the reason.
 #[derive(Clone, Copy, Debug)]
 pub(crate) struct Paused {
     pub place: usize,
@@ -73,46 +74,46 @@ pub(crate) struct Paused {
     pub why: Pause,
 }
 
-/// What follows a turn.
+/// The state after a turn of the machine.
 #[derive(Drop)]
 pub(crate) enum Turn<'r, 'a> {
-    /// There is more to do.
+    /// The run continues.
     On(Machine<'r, 'a>),
-    /// The outermost handler is done.
+    /// The outermost handler returned.
     Ended(Machine<'r, 'a>),
-    /// The handler that runs can't go on.
+    /// The running handler trapped.
     Trapped(Machine<'r, 'a>, Trap),
     /// Memory was refused.
     NoMemory(Machine<'r, 'a>),
 }
 
-/// How a run ends.
+/// The end of a run.
 #[derive(Debug, Drop)]
 pub enum End<'r> {
-    /// The command is done.
+    /// The command completed.
     Done,
     /// Memory was refused.
     NoMemory,
     /// No live command has the name.
     NotFound,
-    /// The handler of this command can't go on at this place.
+    /// The handler of this command trapped at this place.
     Trap(Trap, &'r str, usize),
 }
 
-/// What a start gives.
+/// The result of a run.
 #[derive(Drop)]
 pub struct Outcome<'r> {
-    /// The core behind all that ran.
+    /// The core after the run.
     pub core: Core,
-    /// How many instructions were begun, and what natives answered as cost.
+    /// The cost: the number of instructions that began, plus the costs that native commands reported.
     pub spent: u64,
-    /// A line for each call, in order.
+    /// One trace line for each call, in order.
     pub lines: Lines,
-    /// How it ended.
+    /// How the run ended.
     pub finish: End<'r>,
 }
 
-/// The frame is done: its caller goes on.
+/// The handler of the frame returned: its caller continues.
 fn leave<'r, 'a>(machine: Machine<'r, 'a>) -> Turn<'r, 'a>
     ensures { (table : _) → Left table machine.entry result }
 {
@@ -141,7 +142,7 @@ fn leave<'r, 'a>(machine: Machine<'r, 'a>) -> Turn<'r, 'a>
     }
 }
 
-/// Runs the closure of a native on a core.
+/// Runs the closure of a native command on a core.
 fn run_native<L: Commands>(
     alloc: Global,
     commands: &L,
@@ -162,7 +163,7 @@ fn run_native<L: Commands>(
     }
 }
 
-/// A native is called, for which its frame has paid.
+/// Calls a native command. The budget of the native command is already taken from the frame's.
 fn enter_native<'r, 'a, L: Commands>(
     alloc: Global,
     commands: &'r L,
@@ -205,7 +206,7 @@ fn enter_native<'r, 'a, L: Commands>(
     }
 }
 
-/// A handler gets a frame of its own, for which its caller has paid.
+/// Enters a handler with a new frame. The budget of the handler is already taken from the caller's.
 fn enter_coded<'r, 'a>(
     machine: Machine<'r, 'a>,
     handler: Linked<'r>,
@@ -249,7 +250,8 @@ fn enter_coded<'r, 'a>(
     }
 }
 
-/// A command is called with these arguments, for which its frame can pay: its line is written, and it runs.
+/// Calls a command with these arguments; the frame's remaining budget is large enough. It writes the
+/// trace line of the call, and then runs the command.
 fn begin_call<'r, 'a, L: Commands>(
     alloc: Global,
     commands: &'r L,
@@ -279,7 +281,7 @@ fn begin_call<'r, 'a, L: Commands>(
     }
 }
 
-/// A command is called with the topmost operands, if its frame can pay for it.
+/// Calls a command with the topmost operands, or traps if the frame's remaining budget is too small.
 fn enter_callee<'r, 'a, L: Commands>(
     alloc: Global,
     commands: &'r L,
@@ -308,7 +310,7 @@ fn enter_callee<'r, 'a, L: Commands>(
     begin_call(alloc, commands, machine, name, callee, given)
 }
 
-/// The command is called that the handler's list of calls names at an index.
+/// Calls the command at an index of the handler's list of calls, or traps.
 fn enter_call<'r, 'a, L: Commands>(
     alloc: Global,
     commands: &'r L,
@@ -330,7 +332,8 @@ fn enter_call<'r, 'a, L: Commands>(
     }
 }
 
-/// The instruction at a place of a handler's code, if as much is left as it costs.
+/// The instruction at a place of the code. `BadCode` if there is none, `OutOfBudget` if nothing is left
+/// of the budget.
 #[inline]
 pub(crate) fn fetch(code: &[Instr], place: usize, left: u32) -> Result<Instr, Trap>
     ensures instr { result ≡ fetched_at (slice_get code.now place) left }
@@ -346,7 +349,7 @@ pub(crate) fn fetch(code: &[Instr], place: usize, left: u32) -> Result<Instr, Tr
     Ok(code[place])
 }
 
-/// A frame pauses.
+/// A pause at a place.
 #[inline]
 fn paused_at(place: usize, left: u32, why: Pause) -> Paused
     ensures { result ≡ record { place = place; left = left; why = why } }
@@ -354,9 +357,9 @@ fn paused_at(place: usize, left: u32, why: Pause) -> Paused
     Paused { place, left, why }
 }
 
-/// Runs the instructions of a frame from a place, each of which costs 1, up to the first that calls a
-/// command, ends the handler or can't go on. The frame's state stays where it is, so that an instruction
-/// moves nothing.
+/// Runs the instructions of a frame from a place, each at a cost of 1, up to the first that calls a
+/// command, returns, traps, or is refused memory. The frame's state is borrowed, so no instruction
+/// moves it.
 fn run_on<'r: 'a, 'a>(
     arena: &'a Arena,
     handler: &Linked<'r>,
@@ -398,7 +401,7 @@ fn run_on<'r: 'a, 'a>(
     }
 }
 
-/// One turn: the instructions of the frame up to one that no frame does alone, and what follows it.
+/// One turn: runs the frame up to a pause, and then handles the pause.
 fn take_turn<'r: 'a, 'a, L: Commands>(
     alloc: Global,
     arena: &'a Arena,
@@ -447,8 +450,8 @@ fn take_turn<'r: 'a, 'a, L: Commands>(
     }
 }
 
-/// The machine at the start of a handler, with room for the frames that may wait: the calls of a callee nest
-/// less deep than its caller's, so there are fewer of them than the handler declares.
+/// The machine at the start of a handler, with capacity for all frames that can wait: a callee declares
+/// a smaller depth than its caller, so fewer frames wait than the handler's declared depth.
 fn begin<'r, 'a>(
     alloc: Global,
     handler: Linked<'r>,
@@ -482,7 +485,7 @@ fn begin<'r, 'a>(
     }
 }
 
-/// Runs a handler from the start, with arguments that fit it, where its first instruction is there.
+/// Runs a handler whose first instruction exists and is within its budget, with arguments that fit it.
 pub(crate) fn run_handler<'r: 'a, 'a, L: Commands>(
     alloc: Global,
     arena: &'a Arena,
@@ -521,7 +524,7 @@ pub(crate) fn run_handler<'r: 'a, 'a, L: Commands>(
     }
 }
 
-/// What a machine leaves.
+/// The outcome of a machine that stopped.
 fn ended_with<'r, 'a>(machine: Machine<'r, 'a>, finish: End<'r>) -> Outcome<'r>
     ensures core { result.core ≡ machine.entry.core }
     ensures spent { result.spent ≡ machine.entry.spent }

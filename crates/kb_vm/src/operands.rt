@@ -1,17 +1,19 @@
-//! What a frame works on: operands of a fixed room, whose texts are lent, so that a push takes no memory.
+//! The operands of a frame: a stack with a fixed capacity and borrowed texts, so a push doesn't
+//! allocate.
 ghost use Rattle.std.specs.Prelude.{◌≡◌, ◌<◌, ◌≤◌, [], ◌∷◌, length, drop, map, reverse, take};
 ghost use Rattle.std.specs.Prelude.{IfOk, MatchOption};
 ghost use Rattle.kb_vm.specs.Operand.{arg_of};
 
 use crate::given::Given;
-use kb_context::NoMemory;
+use kb_base::NoMemory;
 use std::alloc::Global;
 use std::marker::Model;
 
-/// How many operands a frame has room for.
+/// The capacity of a frame's operand stack.
 const ROOM: usize = 64;
 
-/// A value that a frame works on. Its text stands in a handler or among the texts that the start has made.
+/// An operand. Its text is borrowed from a handler, from an argument, or from the texts that the run
+/// created.
 #[derive(Clone, Copy, Debug)]
 pub enum Operand<'a> {
     Text(&'a str),
@@ -19,7 +21,7 @@ pub enum Operand<'a> {
     Truth(bool),
 }
 
-/// The operands of a frame, with room for 64. Contracts see their values, the topmost first.
+/// The operand stack of a frame, with capacity for 64. Contracts see a list, the topmost operand first.
 #[derive(Drop)]
 pub(crate) struct Operands<'a> {
     items: Vec<Operand<'a>>,
@@ -38,7 +40,7 @@ impl<'a> Model for Operands<'a> {
 }
 
 impl<'a> Operands<'a> {
-    /// No operand, with room for 64.
+    /// An empty stack with capacity for 64 operands.
     pub(crate) fn new(alloc: Global) -> Result<Operands<'a>, NoMemory>
         ensures { IfOk result (λ o. o ≡ []) }
     {
@@ -47,7 +49,7 @@ impl<'a> Operands<'a> {
         })
     }
 
-    /// How many there are.
+    /// The number of operands.
     pub(crate) fn len(&self) -> usize
         ensures value { result ≡ length self.now }
         ensures few { result ≤ 64 }
@@ -55,7 +57,7 @@ impl<'a> Operands<'a> {
         self.items.len()
     }
 
-    /// Puts one on top, for which there is room. It takes no memory.
+    /// Pushes an operand. The stack must have fewer than 64.
     pub(crate) fn push(&mut self, value: Operand<'a>)
         requires { length self.old < 64 }
         ensures { self.new ≡ arg_of value.entry ∷ self.old }
@@ -63,7 +65,7 @@ impl<'a> Operands<'a> {
         self.items.push_reserved(value);
     }
 
-    /// Takes the topmost one.
+    /// Pops the topmost operand.
     pub(crate) fn pop(&mut self) -> Option<Operand<'a>>
         ensures top { MatchOption result (self.old ≡ []) (λ v. self.old ≡ arg_of v ∷ self.new) }
         ensures few { length self.old ≤ 64 }
@@ -71,7 +73,7 @@ impl<'a> Operands<'a> {
         self.items.pop()
     }
 
-    /// So many of the topmost ones, in the order in which they were pushed. It takes no memory.
+    /// The `count` topmost operands, in the order in which they were pushed.
     pub(crate) fn topmost(&self, count: usize) -> &[Operand<'a>]
         requires { count ≤ length self.now }
         ensures { map arg_of result.now ≡ reverse (take count self.now) }
@@ -80,7 +82,7 @@ impl<'a> Operands<'a> {
         &self.items[at..]
     }
 
-    /// All of them, in the order in which they were pushed. It takes no memory.
+    /// All operands, in the order in which they were pushed.
     pub(crate) fn as_slice(&self) -> &[Operand<'a>]
         ensures items { map arg_of result.now ≡ reverse self.now }
         ensures few { length self.now ≤ 64 }
@@ -88,14 +90,14 @@ impl<'a> Operands<'a> {
         self.items.as_slice()
     }
 
-    /// Takes all away.
+    /// Removes all operands.
     pub(crate) fn clear(&mut self)
         ensures { self.new ≡ [] }
     {
         self.items.clear();
     }
 
-    /// These, at most 64, in place of others. It takes no memory.
+    /// Replaces the operands with others, at most 64.
     pub(crate) fn refill(&mut self, values: &[Operand<'a>])
         requires { length values.now ≤ 64 }
         ensures { self.new ≡ reverse (map arg_of values.now) }
@@ -104,8 +106,8 @@ impl<'a> Operands<'a> {
         self.items.extend_from_slice(values).unwrap();
     }
 
-    /// Takes so many of the topmost ones, at most 8, in the order in which they were pushed, into the room of
-    /// others. It takes no memory.
+    /// Pops the `count` topmost operands, at most 8, in the order in which they were pushed. They
+    /// replace the contents of `spare`, which is returned.
     pub(crate) fn take(&mut self, count: usize, spare: Given<'a>) -> Given<'a>
         requires enough { count ≤ length self.old }
         requires few { count ≤ 8 }

@@ -3,8 +3,8 @@ ghost use Rattle.std.specs.Prelude.{◌≡◌, ◌≤◌, [], IfSome, true, is_o
 ghost use Rattle.kb_core.specs.Native.{budget_of, parameters_of};
 ghost use Rattle.kb_core.specs.Signature.{fits};
 ghost use Rattle.kb_vm.specs.Action.{IsCallable};
-ghost use Rattle.kb_codes.specs.Callee.{IsLive, declared_by};
-ghost use Rattle.kb_codes.specs.Found.{callee_of};
+ghost use Rattle.kb_code.specs.Commands.{IsLive, declared_by};
+ghost use Rattle.kb_code.specs.Found.{callee_of};
 ghost use Rattle.kb_vm.specs.Meaning.{Done, first_world, native_called, run, start_callee, start_of};
 ghost use Rattle.kb_vm.specs.Outcome.{Ends, Gives};
 ghost use Rattle.kb_vm.specs.Position.{outset};
@@ -14,17 +14,19 @@ use crate::arena::Arena;
 use crate::given::{Given, args_fit};
 use crate::machine::{End, Outcome, fetch, run_handler};
 use crate::trap::Trap;
-use kb_codes::{Commands, Found, Linked, Target};
+use kb_code::{Commands, Found, Linked, Target};
 use kb_core::{Args, Core, Native, Ran};
 use kb_stream::Lines;
 use std::alloc::Global;
 
-/// Starts a command with arguments on a core. A native costs what its closure answers. A handler runs until
-/// it ends or traps, or until memory is refused. Each instruction that is begun costs 1, also one that traps,
-/// and each native that is called what its closure answers. A callee's budget is taken from its caller's
-/// allowance whatever it costs, and so the whole costs at most the started command's budget. Arguments that
-/// don't fit the command are a trap at place 0. Memory is refused only before anything is done, or at an
-/// instruction that makes a text or calls a command, and never in the place of a trap (our decisions).
+/// Runs a command with arguments on a core. A native command costs what its closure reports. A handler
+/// runs until it returns, traps, or is refused memory. Each instruction that begins costs 1, also if it
+/// traps, and each call of a native command costs what its closure reports. The whole budget of a
+/// callee is taken from its caller's remaining budget, whatever the callee really costs. So the cost of
+/// the run is at most the budget of the started command. Arguments that don't fit the command are a
+/// trap at place 0. Memory is refused only before anything is done, or at an instruction that creates a
+/// text or calls a command, and a trap takes precedence over refused memory. (All of these are our
+/// decisions.)
 pub fn start<'r, L: Commands>(
     alloc: Global,
     commands: &'r L,
@@ -42,7 +44,7 @@ pub fn start<'r, L: Commands>(
     }
 }
 
-/// Nothing ran.
+/// The outcome of a run in which nothing was executed.
 fn unspent<'r>(alloc: Global, core: Core, finish: End<'r>) -> Outcome<'r>
     ensures core { result.core ≡ core }
     ensures spent { result.spent ≡ 0 }
@@ -57,7 +59,7 @@ fn unspent<'r>(alloc: Global, core: Core, finish: End<'r>) -> Outcome<'r>
     }
 }
 
-/// Starts a live command. Arguments that don't fit are told before memory is asked for.
+/// Runs a live command. Arguments that don't fit are reported before anything is allocated.
 fn start_found<'r, L: Commands>(
     alloc: Global,
     commands: &'r L,
@@ -80,7 +82,7 @@ fn start_found<'r, L: Commands>(
     }
 }
 
-/// Starts a handler, with arguments that fit it.
+/// Runs a handler, with arguments that fit it.
 fn start_handler<'r, L: Commands>(
     alloc: Global,
     commands: &'r L,
@@ -102,7 +104,7 @@ fn start_handler<'r, L: Commands>(
     }
 }
 
-/// Starts a handler whose first instruction is there.
+/// Runs a handler whose first instruction exists and is within its budget.
 fn start_begun<'r, L: Commands>(
     alloc: Global,
     commands: &'r L,
@@ -122,7 +124,7 @@ fn start_begun<'r, L: Commands>(
     run_handler(alloc, &arena, commands, handler, given, core)
 }
 
-/// Starts a native, with arguments that fit it.
+/// Runs a native command, with arguments that fit it.
 fn start_native<'r, L: Commands>(
     alloc: Global,
     commands: &'r L,

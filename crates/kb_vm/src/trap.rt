@@ -1,27 +1,27 @@
-//! Why a handler can't go on.
+//! The reasons for which a handler traps.
 ghost use Rattle.std.specs.Prelude.{◌≡◌};
 ghost use Rattle.kb_vm.specs.Trap.{number_of};
 
-/// Why a handler can't go on at an instruction. The numbers are our decision.
+/// The reason why a handler can't continue at an instruction. The numbers are our decision.
 #[derive(Clone, Copy, Debug, PartialEq, Eq)]
 pub enum Trap {
-    /// There are fewer operands than the instruction takes.
+    /// The stack has fewer operands than the instruction takes.
     MissingOperand,
-    /// No live command has the name that is called.
+    /// No live command has the called name.
     UnknownCommand,
-    /// A value is of another kind than is taken.
+    /// An operand or argument has a wrong kind.
     WrongArgument,
-    /// The instruction, or the budget of what it calls, is more than may still be spent.
+    /// The cost of the instruction, or the budget of the called command, exceeds the remaining budget.
     OutOfBudget,
-    /// The command that is called nests its calls as deep as its caller, or deeper.
+    /// The declared depth of the called command isn't less than the caller's.
     TooDeep,
-    /// There is no instruction, text or argument at a place or index, a jump doesn't lead to a later place,
-    /// or there is no room for an operand.
+    /// There is no instruction, text or argument at a place or index, a jump doesn't go to a later
+    /// place, or the stack already has 64 operands.
     BadCode,
 }
 
 impl Trap {
-    /// The trap's number, by which traces name it.
+    /// The number of the trap in traces.
     pub fn number(self) -> u32
         ensures { result ≡ number_of self }
     {

@@ -1,4 +1,4 @@
-//! What instructions make of values.
+//! The operations on values.
 ghost use Rattle.std.specs.Prelude.{◌≡◌, pos, IfOk, option_map, length, OnErr, IsSome};
 ghost use Rattle.std.specs.Str.{chars};
 ghost use Rattle.kb_context.specs.Scopes.{context};
@@ -11,39 +11,40 @@ ghost use Rattle.kb_vm.specs.Values.{context_arg};
 
 use crate::arena::Arena;
 use crate::operands::Operand;
-use kb_context::{ContextValue, NoMemory, Scopes};
+use kb_base::NoMemory;
+use kb_context::{ContextValue, Scopes};
 
-/// What an instruction does that takes one value and gives one.
+/// An operation on one value.
 #[derive(Clone, Copy, Debug, PartialEq, Eq)]
 pub enum One {
-    /// The opposite of a truth value.
+    /// The negation of a truth value.
     Not,
-    /// A text: itself, the decimal spelling, `true` or `false`.
+    /// A text: a text itself, the decimal form of a number, `true` or `false`.
     Show,
-    /// How many characters a text has.
+    /// The number of characters (Unicode scalar values) of a text.
     Size,
-    /// Whether it is neither false nor 0 nor empty.
+    /// Whether a value is neither false, nor 0, nor the empty text.
     IsTrue,
-    /// A number, and 0 for any other value.
+    /// A number itself, and 0 for any other value.
     AsNumber,
 }
 
-/// What an instruction does that takes two values and gives one.
+/// An operation on two values.
 #[derive(Clone, Copy, Debug, PartialEq, Eq)]
 pub enum Two {
-    /// The sum of numbers, held at the ends of 64 signed bits.
+    /// The sum of two numbers, saturating at the ends of 64 signed bits.
     Add,
-    /// The first number minus the second, held there.
+    /// The first number minus the second, saturating likewise.
     Sub,
     /// Whether the first number is less than the second.
     Less,
-    /// Whether both are of one kind and equal.
+    /// Whether both values have the same kind and are equal.
     Same,
     /// The first text followed by the second.
     Join,
 }
 
-/// What is made of one value, or `None` where the value is of another kind than is taken.
+/// The result of an operation on one value, or `None` if the value has a wrong kind.
 pub(crate) fn made_of_one<'a>(
     arena: &'a Arena,
     what: One,
@@ -62,7 +63,7 @@ pub(crate) fn made_of_one<'a>(
     }
 }
 
-/// How many characters a text has, held at the end of 64 signed bits.
+/// The number of characters of a text, saturating at the largest `i64`.
 #[tactic(auto, unfolding(crate::specs::Values::size_of))]
 pub(crate) fn size_of(text: &str) -> i64
     ensures { result ≡ pos (size_of text.now) }
@@ -75,7 +76,7 @@ pub(crate) fn size_of(text: &str) -> i64
     }
 }
 
-/// How many characters a text has.
+/// The number of characters of a text.
 fn count_of(text: &str) -> usize
     ensures { result ≡ length (chars text.now) }
 {
@@ -94,7 +95,7 @@ fn shown<'a>(arena: &'a Arena, x: Operand<'a>) -> Result<&'a str, NoMemory>
     }
 }
 
-/// Whether a value is neither false nor 0 nor empty.
+/// Whether a value is neither false, nor 0, nor the empty text.
 fn is_true(x: Operand<'_>) -> bool
     ensures { result ≡ is_true (arg_of x.entry) }
 {
@@ -105,7 +106,7 @@ fn is_true(x: Operand<'_>) -> bool
     }
 }
 
-/// A number, and 0 for any other value.
+/// A number itself, and 0 for any other value.
 fn number_in(x: Operand<'_>) -> i64
     ensures { result ≡ number_in (arg_of x.entry) }
 {
@@ -115,7 +116,7 @@ fn number_in(x: Operand<'_>) -> i64
     }
 }
 
-/// What is made of two values, or `None` where one is of another kind than is taken.
+/// The result of an operation on two values, or `None` if a value has a wrong kind.
 pub(crate) fn made_of_two<'a>(
     arena: &'a Arena,
     what: Two,
@@ -143,7 +144,7 @@ pub(crate) fn made_of_two<'a>(
     }
 }
 
-/// Whether two values are of one kind and equal.
+/// Whether both values have the same kind and are equal.
 fn is_same(x: Operand<'_>, y: Operand<'_>) -> bool
     ensures { result ≡ is_same (arg_of x.entry) (arg_of y.entry) }
 {
@@ -155,7 +156,7 @@ fn is_same(x: Operand<'_>, y: Operand<'_>) -> bool
     }
 }
 
-/// The value of a context key as an operand: an absent key is false, and a list or an object is true.
+/// The value of a context key as an operand. An absent key is false. A list or an object is true.
 pub(crate) fn context<'a>(
     arena: &'a Arena,
     scopes: &Scopes,

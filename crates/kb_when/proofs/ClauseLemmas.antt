@@ -1,7 +1,7 @@
--- From tokens to the text.
+-- From the clause of the tokens to the clause of the text.
 use Rattle.std.proofs.Common.{◌≡◌, ℕ, List, Some, None, ◌∙◌, ap, Option, Ok, refl}
 use Rattle.std.specs.Prelude.{Result}
-use Rattle.kb_context.specs.Reading.{◌>>=◌, or_fault}
+use Rattle.kb_base.specs.Reading.{◌>>=◌, or_fault}
 use Rattle.kb_when.specs.declared.token.Token.{Token}
 use Rattle.kb_when.specs.declared.fault.WhenFault.{WhenFault}
 use Rattle.kb_when.specs.declared.fault.WhenFault.TheVariants.{BadToken}

@@ -1,4 +1,4 @@
--- How the reading goes on behind what the descent has read.
+-- How the state machine continues after the tokens that the parser consumed.
 use Rattle.std.proofs.Common.{◌≡◌, ℕ, ◌+◌, ◌<◌, ◌≤◌, List, [], ◌∷◌, ◌++◌, true, Ok, Err, map, length, refl}
 use Rattle.std.proofs.Common.{sym, ◌∙◌, ap, subst, arith, add-one}
 use Rattle.std.specs.Prelude.{nat_lt, Result}
@@ -9,9 +9,9 @@ use Rattle.kb_when.specs.declared.token.Token.{Token}
 use Rattle.kb_when.specs.declared.token.Token.TheVariants.{Or, And, Not, Open, Close}
 use Rattle.kb_when.specs.declared.fault.WhenFault.{WhenFault}
 use Rattle.kb_when.specs.declared.fault.WhenFault.TheVariants.{Unexpected}
-use Rattle.kb_context.specs.declared.failure.Failure.{Failure}
-use Rattle.kb_context.specs.declared.failure.Failure.TheVariants as failures
-use Rattle.kb_context.specs.Failure.{Fails}
+use Rattle.kb_base.specs.declared.failure.Failure.{Failure}
+use Rattle.kb_base.specs.declared.failure.Failure.TheVariants as failures
+use Rattle.kb_base.specs.Failure.{Fails}
 use Rattle.kb_when.specs.Clause.{Clause, Clauses, no_clauses, clause, not_of, all_of, any_of}
 use Rattle.kb_when.specs.Tree.{clause_of, clauses_of}
 use Rattle.kb_when.specs.Grammar.{any_joined, all_joined}

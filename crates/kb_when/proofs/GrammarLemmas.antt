@@ -1,4 +1,4 @@
--- The reading is that of the grammar: it gives each clause that the grammar has for the tokens, and no other.
+-- The state machine agrees with the grammar: it returns the clause that the tokens denote, and no other.
 use Rattle.std.proofs.Common.{◌≡◌, ℕ, zero, suc, ◌+◌, ◌*◌, ◌<◌, ◌≤◌, List, [], ◌∷◌, Bool, true, false, Some}
 use Rattle.std.proofs.Common.{None, Option, Ok, Err, length, refl, sym, ◌∙◌, ap, subst, arith, cond}
 use Rattle.std.specs.Prelude.{ℤ, nat_lt, Result}

@@ -3,6 +3,7 @@ pub mod DescentLemmas
 pub mod GrammarLemmas
 pub mod MarkedLemmas
 pub mod NumberLemmas
+pub mod PlacedLemmas
 pub mod SameLemmas
 pub mod TokenizerLemmas
 pub mod UnreadLemmas

@@ -1,4 +1,4 @@
--- The value of a tree beside its marks is that of the clause with its marks inside.
+-- The value of a tree with separate marks equals that of the tree with its marks inside.
 use Rattle.std.proofs.Common.{◌≡◌, ℕ, List, [], ◌∷◌, ◌++◌, Bool, drop, length, refl, sym, ◌∙◌, ap}
 use Rattle.std.proofs.Common.{append_assoc, append-nil, map, not, zero, suc, ◌<◌, get_or, subst, arith}
 use Rattle.std.proofs.Common.{Result, Ok, Err, IfErr}
@@ -14,10 +14,10 @@ use Rattle.kb_when.specs.declared.tree.Tree.TheOpen.{Tree-F}
 use Rattle.kb_when.specs.declared.tree.Tree.TheVariants.{And, Or, rolls-And, rolls-Or}
 use Rattle.kb_when.specs.Tree.{marked_step, marked_of, markeds_of, clause_of, clauses_of}
 use Rattle.kb_pattern.specs.Pattern.{MarkedPattern}
-use Rattle.kb_when.specs.Marked.{Marked, always, never, key, equals, compare, matches, member, not_of, all_of}
-use Rattle.kb_when.specs.Marked.{any_of, Markeds, no_clauses, clause, tree_of, trees_of, patterns_in}
-use Rattle.kb_when.specs.Marked.{all_patterns_in, marks_of, all_marks, HasPattern}
-use Rattle.kb_when.specs.Marked.{marked_value, all_marked_hold, any_marked_holds}
+use Rattle.kb_when.specs.Marked.{Marked, always, never, key, equals, compare, matches, member, not_of}
+use Rattle.kb_when.specs.Marked.{all_of, any_of, Markeds, no_clauses, clause, tree_of, trees_of, patterns_in}
+use Rattle.kb_when.specs.Marked.{all_patterns_in, marks_of, all_marks, HasPattern, marked_value}
+use Rattle.kb_when.specs.Marked.{all_marked_hold, any_marked_holds}
 use Rattle.kb_when.specs.Value.{value, all_hold, any_holds}
 
 -- the pattern without its mark

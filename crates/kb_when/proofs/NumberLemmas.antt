@@ -1,4 +1,4 @@
--- What `parse` gives is the number of the text.
+-- Rust's `parse` returns the integer that the text denotes.
 use Rattle.std.proofs.Common.{◌≡◌, ◌≢◌, ℕ, suc, ◌<◌, ◌^◌, List, [], ◌∷◌, Bool, true, false, cond, ◌&&◌}
 use Rattle.std.proofs.Common.{nat_eq, nat_lt, Some, Result, Ok, Err, get_or, length, refl, ap, arith, rules}
 use Rattle.std.proofs.Common.{w64}

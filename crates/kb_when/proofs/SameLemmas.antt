@@ -1,4 +1,4 @@
--- The test says exactly whether two clauses are the same.
+-- The equality test returns true exactly if both clauses are the same.
 use Rattle.std.proofs.Common.{◌≡◌, ℕ, suc, List, [], ◌∷◌, length, Bool, true, false, ◌&&◌, refl, ap, sym}
 use Rattle.std.proofs.Common.{◌∙◌}
 use Rattle.std.proofs.Common.{Decides, subst}

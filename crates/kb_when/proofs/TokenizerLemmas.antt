@@ -1,4 +1,4 @@
--- The tokens so far, and those of what is left.
+-- The tokens so far, and those of the remaining characters.
 use Rattle.std.proofs.Common.{◌≡◌, ℕ, zero, suc, ◌<◌, ◌≤◌, List, [], ◌∷◌, ◌++◌, Option, Some, None}
 use Rattle.std.proofs.Common.{option_map, length, cond, Bool, true, false, refl, sym, ◌∙◌, ap, arith}
 use Rattle.std.proofs.Common.{append_assoc, nat_eq, codes, lit<, ◌&&◌}
@@ -13,7 +13,7 @@ use Rattle.kb_when.specs.Tokenizer.{patterned}
 use Rattle.kb_when.specs.Tokenizer.{pattern_or, quoted, quoted_or, word_of}
 use Rattle.kb_when.specs.declared.fault.WhenFault.{WhenFault}
 use Rattle.kb_when.specs.declared.fault.WhenFault.TheVariants.{BadToken}
-use Rattle.kb_context.specs.Reading.{or_fault}
+use Rattle.kb_base.specs.Reading.{or_fault}
 
 abbrev pub joined : List Token → Option (List Token) → Option (List Token)
 joined ts o = option_map (λ us. ts ++ us) o

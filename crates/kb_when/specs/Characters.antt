@@ -3,7 +3,7 @@ use Rattle.std.specs.Prelude.{ℕ, List, [], ◌∷◌, Bool, false, ◌&&◌, �
 use Rattle.std.specs.Prelude.{Option, Some, None, codes}
 use Rattle.std.specs.List.{flat_map, list_any}
 use Rattle.std.specs.Char.{encode_utf8}
-use Rattle.kb_context.specs.Blank.{is_blank}
+use Rattle.kb_base.specs.Blank.{is_blank}
 use Rattle.kb_when.specs.declared.characters.Until.{Until}
 use Rattle.kb_when.specs.declared.characters.Until.TheVariants.{WordEnd, Quote, NoLetter}
 
@@ -18,7 +18,7 @@ ends_word c = is_blank c || list_any (nat_eq c) (codes "()'!=&|")
 abbrev pub is_quote : ℕ → Bool
 is_quote c = nat_eq c 39
 
--- no character of "a" to "z" or "A" to "Z"
+-- not an ASCII letter, "a" to "z" or "A" to "Z"
 abbrev pub is_no_letter : ℕ → Bool
 is_no_letter c = not ((nat_le 97 c && nat_le c 122) || (nat_le 65 c && nat_le c 90))
 
@@ -28,12 +28,12 @@ ends_at WordEnd = ends_word
 ends_at Quote = is_quote
 ends_at NoLetter = is_no_letter
 
--- the longest front of which each character fails the test
+-- the longest prefix without a character that satisfies the test
 abbrev pub front : (ℕ → Bool) → List ℕ → List ℕ
 front ends [] = []
 front ends (c ∷ cs) = if ends c then [] else c ∷ front ends cs
 
--- what follows that front
+-- the characters after that prefix
 abbrev pub behind : (ℕ → Bool) → List ℕ → List ℕ
 behind ends [] = []
 behind ends (c ∷ cs) = if ends c then c ∷ cs else behind ends cs
@@ -41,15 +41,15 @@ behind ends (c ∷ cs) = if ends c then c ∷ cs else behind ends cs
 abbrev pub is_no_blank : ℕ → Bool
 is_no_blank c = not (is_blank c)
 
--- without the white space that stands first
+-- the characters after leading white space
 abbrev pub skipped : List ℕ → List ℕ
 skipped = behind is_no_blank
 
--- the bytes of characters
+-- the UTF-8 bytes of characters
 abbrev pub bytes_of : List ℕ → List ℕ
 bytes_of = flat_map encode_utf8
 
--- what follows a sign, where the characters begin with it
+-- the characters after a sign, if they begin with it
 abbrev pub behind_sign : List ℕ → List ℕ → Option (List ℕ)
 behind_sign [] cs = Some cs
 behind_sign (s ∷ sign) [] = None

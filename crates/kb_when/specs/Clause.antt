@@ -1,11 +1,11 @@
--- The tree of a clause, as contracts see a clause.
+-- The tree of a clause, as contracts see it.
 use Rattle.std.specs.Prelude.{ℕ, ℤ, List, [], ◌∷◌, ◌++◌}
 use Rattle.kb_pattern.specs.declared.flags.Flags.{Flags}
 use Rattle.kb_when.specs.declared.operator.Operator.{Operator}
 
 mutual
-  -- the clauses `true` and `false`; an atom over a key, whose name and text stand as bytes; and what is made
-  -- of other clauses. Those that are joined by `&&` or `||` stand in the order of the text, two or more.
+  -- The clauses `true` and `false`; atoms over a key, with names and texts as bytes; and combinations of
+  -- clauses. `all_of` (`&&`) and `any_of` (`||`) have two or more members, in the order of the text.
   pub data Clause : Type 0 where
     always : Clause
     never : Clause

@@ -1,4 +1,4 @@
--- A clause as a tree of numbers.
+-- An encoding of clauses as trees of numbers.
 use Rattle.std.specs.Prelude.{◌≡◌, ℕ, zero, suc, ℤ, pos, negsuc, List, [], ◌∷◌, Bool, true, false, refl}
 use Rattle.std.proofs.Common.{ap, sym, ◌∙◌}
 use Rattle.std.specs.Coded.{Coded}
@@ -128,7 +128,7 @@ by_tag (suc (suc (suc (suc (suc (suc (suc (suc zero)))))))) g r = any_of r.1
 by_tag (suc (suc (suc (suc (suc (suc (suc (suc (suc n))))))))) g r =
     matches (to_text (head g)) (to_text (head (tail g))) (to_flags (tail (tail g)))
 
--- what a tree of numbers gives as a clause, and as clauses
+-- the clause, and the list of clauses, that a tree of numbers encodes
 abbrev to_both : Gv → Clause × Clauses
 to_both gnil = (never, no_clauses)
 to_both (gnum n) = (never, no_clauses)

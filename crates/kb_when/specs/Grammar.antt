@@ -1,4 +1,5 @@
--- The grammar of clauses, by its cases: what the tokens from a place on stand for, and which tokens are left.
+-- The grammar of clauses as inductive relations: which clause a prefix of the tokens denotes, and which
+-- tokens are left.
 use Rattle.std.specs.Prelude.{◌≡◌, ℕ, ℤ, suc, ◌<◌, List, [], ◌∷◌, false, Some}
 use Rattle.kb_when.specs.declared.operator.Operator.{Operator}
 use Rattle.kb_when.specs.declared.token.Token.{Token}
@@ -10,7 +11,7 @@ use Rattle.kb_when.specs.Clause.{all_of, any_of, Clauses, no_clauses, clause}
 use Rattle.kb_pattern.specs.Pattern.{flags_of}
 use Rattle.kb_when.specs.Words.{the_true, the_false, the_in, the_not, is_reserved, is_equal, is_unequal}
 
--- one clause is itself, and several are joined; the grammar gives at least one
+-- a single clause is itself, and several are joined; the grammar gives at least one
 abbrev pub any_joined : Clauses → Clause
 any_joined no_clauses = any_of no_clauses
 any_joined (clause t no_clauses) = t
@@ -21,7 +22,7 @@ all_joined no_clauses = all_of no_clauses
 all_joined (clause t no_clauses) = t
 all_joined (clause t (clause u us)) = all_of (clause t (clause u us))
 
--- a key k, of which the tokens are those behind it
+-- the key k and the tokens after it
 pub data KeyTail (k : List ℕ) : List Token → Clause → List Token → Type 0 where
   alone : {rest : List Token} → KeyTail k rest (key k) rest
   equal_word : {rest : List Token} (v : List ℕ) → KeyTail k (Equal ∷ Word v ∷ rest) (is_equal k v) rest
@@ -38,8 +39,7 @@ pub data KeyTail (k : List ℕ) : List Token → Clause → List Token → Type 
   not_among : {rest : List Token} (other : List ℕ) → is_reserved other ≡ false
       → KeyTail k (Word the_not ∷ Word the_in ∷ Word other ∷ rest) (not_of (member k other)) rest
 
--- inside so many "(" and "!": operands with "||" between them, operands with "&&" between them, and one
--- operand
+-- Inside `depth` "(" and "!": operands joined by "||", operands joined by "&&", and a single operand.
 mutual
   pub data Disjuncts : ℕ → List Token → Clauses → List Token → Type 0 where
     last_or : {depth : ℕ} {ts rest : List Token} {cs : Clauses} → Conjuncts depth ts cs rest
@@ -63,7 +63,7 @@ mutual
     keyed : {depth : ℕ} {ts rest : List Token} {t : Clause} (k : List ℕ) → is_reserved k ≡ false
         → KeyTail k ts t rest → Operand depth (Word k ∷ ts) t rest
 
--- all of the tokens stand for the clause
+-- all of the tokens together denote the clause
 pub record IsClause (tokens : List Token) (t : Clause) : Type 0 where
   pub members : Clauses
   pub joined : t ≡ any_joined members

@@ -8,6 +8,7 @@ pub mod Marks
 pub mod Number
 pub mod Operator
 pub mod Parser
+pub mod Placed
 pub mod Reading
 pub mod Same
 pub mod Tokenizer

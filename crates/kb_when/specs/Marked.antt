@@ -1,5 +1,5 @@
--- A clause with its marks inside, as the program holds it. Contracts see its tree, and beside it the marks of
--- its patterns in the order of the text.
+-- The tree of a clause with the mark of each pattern inside it, as the program stores it. Contracts see
+-- the tree, and separately the marks in the order of the text.
 use Rattle.std.specs.Prelude.{ℕ, ℤ, List, [], ◌∷◌, ◌++◌, map, Bool, true, false, not, ◌&&◌, ◌||◌}
 use Rattle.std.specs.FinMap.{get}
 use Rattle.kb_context.specs.Scopes.{Keys}
@@ -26,7 +26,7 @@ mutual
     no_clauses : Markeds
     clause : Marked → Markeds → Markeds
 
--- the tree, without the marks
+-- the tree without the marks
 abbrev mutual
   pub tree_of : Marked → Clause
   tree_of always = tree.always
@@ -44,7 +44,7 @@ abbrev mutual
   trees_of no_clauses = tree.no_clauses
   trees_of (clause m ms) = tree.clause (tree_of m) (trees_of ms)
 
--- its patterns with their marks, in the order of the text
+-- the patterns with their marks, in the order of the text
 abbrev mutual
   pub patterns_in : Marked → List MarkedPattern
   patterns_in always = []
@@ -62,19 +62,19 @@ abbrev mutual
   all_patterns_in no_clauses = []
   all_patterns_in (clause m ms) = patterns_in m ++ all_patterns_in ms
 
--- there is a pattern among them
+-- there is at least one pattern
 abbrev pub HasPattern : List MarkedPattern → Type 0
 HasPattern [] = ⊥
 HasPattern (p ∷ ps) = Unit {0}
 
--- the marks alone
+-- only the marks
 abbrev pub marks_of : Marked → List Bool
 marks_of m = map (λ p. p.unread) (patterns_in m)
 
 abbrev pub all_marks : Markeds → List Bool
 all_marks ms = map (λ p. p.unread) (all_patterns_in ms)
 
--- the value, each pattern by its own mark
+-- the value, where each pattern has its own mark
 abbrev mutual
   pub marked_value : Keys → Marked → Bool
   marked_value keys always = true

@@ -1,4 +1,4 @@
--- A clause as contracts see it: its tree, and beside it the marks of its patterns in the order of the text.
+-- A clause as contracts see it: its tree, and the marks of its patterns in the order of the text.
 use Rattle.std.specs.Prelude.{List, Bool, refl}
 use Rattle.std.specs.Coded.{Coded, code_by, coded×, coded_bool, coded_list}
 use Rattle.kb_when.specs.Clause.{Clause}

@@ -1,14 +1,14 @@
--- The number that a text spells.
+-- The integer that a text denotes.
 use Rattle.std.specs.Prelude.{ℕ, suc, ℤ, pos, neg_ℤ, List, [], ◌∷◌, ◌+◌, ◌*◌, ◌-◌, ◌^◌, Bool, ◌&&◌}
 use Rattle.std.specs.Prelude.{if◌then◌else◌, nat_eq, nat_lt, Option, Some, None, length}
 use Rattle.std.specs.Str.{all_ascii_digits}
 
--- the value of digits, behind those that have the value so far
+-- the value of digits that follow digits with the value so far
 abbrev pub read_on : ℕ → List ℕ → ℕ
 read_on value [] = value
 read_on value (c ∷ cs) = read_on (10 * value + (c - 48)) cs
 
--- digits, at least one, of a number below the bound
+-- at least one digit, with a value below the bound
 abbrev pub is_below : ℕ → List ℕ → Bool
 is_below bound digits =
     all_ascii_digits digits && (nat_lt 0 (length digits) && nat_lt (read_on 0 digits) bound)
@@ -16,7 +16,7 @@ is_below bound digits =
 abbrev pub some_if : Bool → ℤ → Option ℤ
 some_if b z = if b then Some z else None
 
--- an optional "-" (45) and digits, of a number that 64 signed bits have
+-- an optional "-" (45) and digits, within 64 signed bits
 abbrev pub number_of : List ℕ → Option ℤ
 number_of [] = None
 number_of (c ∷ cs) =

@@ -1,4 +1,4 @@
--- The comparisons of clauses.
+-- Comparison operators of clauses.
 use Rattle.std.specs.Prelude.{ℤ, Bool, true, false, not, int_lt}
 use Rattle.kb_when.specs.declared.operator.Operator.{Operator}
 use Rattle.kb_when.specs.declared.operator.Operator.TheVariants.{Below, AtMost, Above, AtLeast}
@@ -9,7 +9,7 @@ compared AtMost left right = not (int_lt right left)
 compared Above left right = int_lt right left
 compared AtLeast left right = not (int_lt left right)
 
--- whether both are one comparison
+-- whether both are the same operator
 abbrev pub operator_eq : Operator → Operator → Bool
 operator_eq Below Below = true
 operator_eq AtMost AtMost = true

@@ -1,4 +1,5 @@
--- What the descent answers: how the reading goes on behind the tokens that were read, or the reading's fault.
+-- What the functions of the parser return, by the state machine of `Reading`: how the machine continues
+-- after the tokens that a function consumed, or the fault that it reaches.
 use Rattle.std.specs.Prelude.{◌≡◌, ℕ, ◌<◌, ◌≤◌, Bool, true, false, List, [], ◌∷◌, Result, Ok, Err, ⊤, length}
 use Rattle.kb_when.specs.declared.atom.Atom.{Atom}
 use Rattle.kb_when.specs.declared.atom.Atom.TheVariants as atoms
@@ -9,8 +10,8 @@ use Rattle.kb_when.specs.declared.token.Token.{Token}
 use Rattle.kb_when.specs.declared.token.Token.TheVariants.{Or, And, Not, Open, Close}
 use Rattle.kb_when.specs.declared.fault.WhenFault.{WhenFault}
 use Rattle.kb_when.specs.declared.fault.WhenFault.TheVariants.{Unexpected}
-use Rattle.kb_context.specs.declared.failure.Failure.{Failure}
-use Rattle.kb_context.specs.Failure.{Fails}
+use Rattle.kb_base.specs.declared.failure.Failure.{Failure}
+use Rattle.kb_base.specs.Failure.{Fails}
 use Rattle.kb_when.specs.Clause.{Clause, always, never, key, equals, compare, matches, member, not_of}
 use Rattle.kb_when.specs.Clause.{Clauses, no_clauses}
 use Rattle.kb_pattern.specs.Pattern.{flags_of}
@@ -37,31 +38,31 @@ negated_if false t = t
 abbrev pub clause_of_condition : Condition → Clause
 clause_of_condition c = negated_if c.negated (clause_of_atom c.atom)
 
--- ---- what is read without memory
+-- ---- results without an allocation
 
--- from a place on, the reading ends at the fault, whatever is built
+-- from this state on, the machine ends with the fault, for anything built so far
 abbrev pub FailsAt : State → List Token → WhenFault → Type 0
 FailsAt s ts f = (b : Built) → read_from s b ts ≡ Err f
 
--- from a place on, the clause of an atom is one more operand
+-- from this state on, the machine adds the clause of an atom as one more operand
 pub record ReadsAtom (s : State) (ts : List Token) (t : Clause) (rest : List Token) : Type 0 where
   pub goes_on : (b : Built) → read_from s b ts ≡ read_from behind_operand (operand b t) rest
   pub shorter : length rest ≤ length ts
 
--- what stands behind the ")" that comes next
+-- the tokens after the ")" that comes next
 abbrev pub behind_close : List Token → Result (List Token) WhenFault
 behind_close (Close ∷ ts) = Ok ts
 behind_close _ = Err Unexpected
 
--- ---- what is read with memory
+-- ---- results with allocations
 
--- one operand, where so many "(" and "!" are open
+-- one operand, inside `depth` "(" and "!"
 pub record ReadsOperand (depth : ℕ) (ts : List Token) (t : Clause) (rest : List Token) : Type 0 where
   pub goes_on : (b : Built) → length b.opened ≡ depth
       → read_from at_operand b ts ≡ read_from behind_operand (operand b t) rest
   pub shorter : length rest < length ts
 
--- no "!" waits
+-- no "!" waits for its operand
 abbrev pub IsBare : List Opened → Type 0
 IsBare [] = Unit {0}
 IsBare (bang ∷ st) = ⊥
@@ -98,28 +99,28 @@ pub record ReadsDisjunction (depth : ℕ) (ts : List Token) (t : Clause) (rest :
   pub no_and : NoAnd rest
   pub no_or : NoOr rest
 
--- wherever so many are open, the reading fails so
+-- inside `depth` "(" and "!", the machine reaches this fault, or memory ran out
 abbrev pub FailsOperand : ℕ → List Token → Failure WhenFault → Type 0
 FailsOperand depth ts failure = (b : Built) → length b.opened ≡ depth
     → Fails failure (read_from at_operand b ts)
 
--- the same, where no "!" waits
+-- the same, if no "!" waits for its operand
 abbrev pub FailsConjunction : ℕ → List Token → Failure WhenFault → Type 0
 FailsConjunction depth ts failure =
     (b : Built) → length b.opened ≡ depth → IsBare b.opened → Fails failure (read_from at_operand b ts)
 
--- the same, where no operand of "&&" stands before
+-- the same, if no operand of "&&" comes before
 abbrev pub FailsDisjunction : ℕ → List Token → Failure WhenFault → Type 0
 FailsDisjunction depth ts failure = (os : Clauses) (st : List Opened) → length st ≡ depth → IsBare st
     → Fails failure (read_from at_operand (record { ors = os; ands = no_clauses; opened = st }) ts)
 
--- what an operand begins with: a "!" or a "(", and fewer than 64 are open; or a whole atom
+-- The beginning of an operand: a "!" or a "(", with fewer than 64 open; or a complete atom.
 abbrev pub Begins : ℕ → List Token → Start → List Token → Type 0
 Begins depth ts starts.Not rest = (ts ≡ Not ∷ rest) × (depth < 64)
 Begins depth ts starts.Open rest = (ts ≡ Open ∷ rest) × (depth < 64)
 Begins depth ts (starts.Atom c) rest = ReadsOperand depth ts (clause_of_condition c) rest
 
--- no operand begins here: the reading ends at the fault
+-- no operand begins here: the machine ends with the fault
 abbrev pub FailsToBegin : ℕ → List Token → WhenFault → Type 0
 FailsToBegin depth ts f = (b : Built) → length b.opened ≡ depth → read_from at_operand b ts ≡ Err f
 

@@ -1,6 +1,5 @@
--- The one reading of tokens: a machine over them from left to right, which builds the clause or stops at the
--- first fault. It
--- is our decision.
+-- The state machine that defines the parsing of tokens. It goes from left to right and builds the clause,
+-- or stops at the first fault. It is our decision.
 use Rattle.std.specs.Prelude.{ℕ, ℤ, List, [], ◌∷◌, Bool, true, false, Option, Some, None, Result, Ok, Err}
 use Rattle.std.specs.Prelude.{length, nat_lt, if◌then◌else◌}
 use Rattle.std.specs.Str.{bytes_eq}
@@ -17,27 +16,27 @@ use Rattle.kb_pattern.specs.Pattern.{flags_of}
 use Rattle.kb_when.specs.Words.{the_true, the_false, the_in, the_not, is_reserved, is_equal, is_unequal}
 use Rattle.kb_when.specs.Grammar.{any_joined, all_joined}
 
--- where the reading stands: before an operand, or behind one; behind a key, or behind a key and "not"; before
--- a pattern; before the value of "==" (true) or "!="; before the other key of "in" (true) or "not in"; before
--- a number
+-- The position of the machine: before an operand, or after one; after a key, or after a key and "not";
+-- before a pattern; before the value of "==" (true) or "!=" (false); before the other key of "in" (true)
+-- or "not in" (false); before a number.
 pub data State : Type 0 where
   at_operand behind_operand : State
   behind_key behind_not at_pattern : List ℕ → State
   at_value at_other : Bool → List ℕ → State
   at_number : Operator → List ℕ → State
 
--- what is open: a "!" that waits for its operand, or a "(" and the operands of "||" and of "&&" before it
+-- what is open: a "!" that waits for its operand, or a "(" with the operands of "||" and "&&" before it
 pub data Opened : Type 0 where
   bang : Opened
   paren : Clauses → Clauses → Opened
 
--- the operands of "||" so far, those of "&&" behind the last "||", and what is open, the newest first
+-- The operands of "||" so far, those of "&&" after the last "||", and what is open, the newest first.
 pub record Built : Type 0 where
   pub ors : Clauses
   pub ands : Clauses
   pub opened : List Opened
 
--- the next place and what is built there, or a fault
+-- the next state and what is built, or a fault
 abbrev pub Step : Type 0
 Step = Result (State × Built) WhenFault
 
@@ -47,50 +46,50 @@ abbrev pub append : Clauses → Clauses → Clauses
 append no_clauses us = us
 append (clause t ts) us = clause t (append ts us)
 
--- one more at the end
+-- one more clause at the end
 abbrev pub snoc : Clauses → Clause → Clauses
 snoc ts t = append ts (clause t no_clauses)
 
--- a clause with the "!" that stand newest, each before what the later ones make
+-- the clause negated once for each "!" that waits, up to the newest "("
 abbrev pub negated : List Opened → Clause → Clause
 negated [] t = t
 negated (bang ∷ st) t = negated st (not_of t)
 negated (paren os an ∷ st) t = t
 
--- without these "!"
+-- without the "!" that wait
 abbrev pub strip : List Opened → List Opened
 strip [] = []
 strip (bang ∷ st) = strip st
 strip (paren os an ∷ st) = paren os an ∷ st
 
--- one more operand, with the "!" before it
+-- one more operand, with the "!" before it applied
 abbrev pub operand : Built → Clause → Built
 operand b t = record { ors = b.ors; ands = snoc b.ands (negated b.opened t); opened = strip b.opened }
 
--- the operands of "||", the last one ended
+-- the operands of "||", including the current one
 abbrev pub members : Built → Clauses
 members b = snoc b.ors (all_joined b.ands)
 
--- behind "||"
+-- after "||"
 abbrev pub next_or : Built → Built
 next_or b = record { ors = members b; ands = no_clauses; opened = b.opened }
 
 abbrev pub nothing : List Opened → Built
 nothing st = record { ors = no_clauses; ands = no_clauses; opened = st }
 
--- ---- a token at each place
+-- ---- one token, in each state
 
--- behind an operand
+-- after an operand
 abbrev pub ended : Built → Clause → Step
 ended b t = Ok (behind_operand, operand b t)
 
--- behind a ")": the clauses inside are one operand
+-- after a ")": the clauses inside are one operand
 abbrev pub closed : Clauses → List Opened → Step
 closed ts [] = Err Unexpected
 closed ts (bang ∷ st) = Err Unexpected
 closed ts (paren os an ∷ st) = ended (record { ors = os; ands = an; opened = st }) (any_joined ts)
 
--- one more open, where fewer than 64 are
+-- one more is open, if fewer than 64 were
 abbrev pub within : Built → Built → Step
 within b c = if nat_lt (length b.opened) 64 then Ok (at_operand, c) else Err TooDeep
 
@@ -163,7 +162,7 @@ abbrev pub whole : Clauses → List Opened → Result Clause WhenFault
 whole ts [] = Ok (any_joined ts)
 whole ts (o ∷ st) = Err Unexpected
 
--- at the end of the text an operand stands before it
+-- the end of the tokens: an operand must come before it
 abbrev pub at_end : State → Built → Result Clause WhenFault
 at_end behind_operand b = whole (members b) b.opened
 at_end (behind_key k) b = whole (members (operand b (key k))) (strip b.opened)
@@ -173,7 +172,7 @@ abbrev pub go : Step → (State → Built → Result Clause WhenFault) → Resul
 go (Err f) rest = Err f
 go (Ok p) rest = rest p.0 p.1
 
--- the clause of the tokens from a place on, or the first fault
+-- the clause of the tokens from this state on, or the first fault
 abbrev pub read_from : State → Built → List Token → Result Clause WhenFault
 read_from s b [] = at_end s b
 read_from s b (t ∷ ts) = go (step s b t) (λ u c. read_from u c ts)

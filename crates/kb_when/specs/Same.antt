@@ -1,4 +1,4 @@
--- A test of whether two clauses are the same tree.
+-- Equality of the trees of two clauses.
 use Rattle.std.specs.Prelude.{ℕ, ℤ, List, Bool, true, false, ◌&&◌}
 use Rattle.std.specs.Ordering.{int_eq}
 use Rattle.std.specs.Str.{bytes_eq}

@@ -1,4 +1,4 @@
--- The tokens of a text. The rules are our decision.
+-- Splitting a text into tokens. The rules are our decision.
 use Rattle.std.specs.Prelude.{◌≡◌, ℕ, zero, suc, ◌<◌, List, [], ◌∷◌, Bool, true, false, if◌then◌else◌}
 use Rattle.std.specs.Prelude.{nat_eq}
 use Rattle.std.specs.Prelude.{not, ◌&&◌, ◌||◌, Option, Some, None, Result, option_map, codes, length, chars}
@@ -8,7 +8,7 @@ use Rattle.kb_when.specs.declared.fault.WhenFault.TheVariants.{BadToken}
 use Rattle.kb_when.specs.declared.token.Token.{Token}
 use Rattle.kb_when.specs.declared.token.Token.TheVariants.{Or, And, Not, Open, Close, Equal, Unequal}
 use Rattle.kb_when.specs.declared.token.Token.TheVariants.{Comparison, Like, Word, Quoted, Pattern}
-use Rattle.kb_context.specs.Reading.{or_fault}
+use Rattle.kb_base.specs.Reading.{or_fault}
 use Rattle.kb_when.specs.declared.piece.Sign.{Sign}
 use Rattle.kb_when.specs.declared.piece.Sign.TheVariants as sign
 use Rattle.kb_when.specs.declared.piece.Piece.{Piece}
@@ -16,32 +16,32 @@ use Rattle.kb_when.specs.declared.piece.Piece.TheVariants as piece
 use Rattle.kb_when.specs.Characters.{begins_blank, ends_word, is_quote, is_no_letter, front, behind, skipped}
 use Rattle.kb_when.specs.Characters.{bytes_of, behind_sign}
 
--- a token and the characters that follow it, if there is one
+-- a token and the characters after it, if there is a token
 abbrev pub Read : Type 0
 Read = Option (Token × List ℕ)
 
--- the token of a sign, or else what the later rules give
+-- the token of a sign, or otherwise the result of the later rules
 abbrev pub sign_or : Option (List ℕ) → Token → Read → Read
 sign_or (Some rest) t later = Some (t, rest)
 sign_or None t later = later
 
--- what follows a sign, if white space stands before it and after it
+-- the characters after a sign that has white space on both sides
 abbrev pub blank_around : Bool → Option (List ℕ) → Option (List ℕ)
 blank_around spaced None = None
 blank_around spaced (Some rest) = if spaced && begins_blank rest then Some rest else None
 
--- the token of the first of these signs that is found, or else what the later rules give
+-- the token of the first of these signs that is found, or otherwise the result of the later rules
 abbrev pub signs_or : (List ℕ → Option (List ℕ)) → List (List ℕ × Token) → Read → Read
 signs_or found [] later = later
 signs_or found (p ∷ signs) later = sign_or (found p.0) p.1 (signs_or found signs later)
 
--- the comparisons, a longer one before a shorter one
+-- the comparisons, longer ones before shorter ones
 abbrev pub comparisons : List (List ℕ × Token)
 comparisons =
     (codes "<=", Comparison AtMost) ∷ (codes ">=", Comparison AtLeast)
     ∷ (codes "<", Comparison Below) ∷ (codes ">", Comparison Above) ∷ []
 
--- the other signs, a longer one before a shorter one
+-- the other signs, longer ones before shorter ones
 abbrev pub signs : List (List ℕ × Token)
 signs =
     (codes "===", Equal) ∷ (codes "!==", Unequal) ∷ (codes "==", Equal) ∷ (codes "!=", Unequal)
@@ -58,16 +58,16 @@ next_sign cs = signs_or (λ sign. behind_sign sign cs) signs
 
 -- ---- patterns
 
--- whether the place behind a character is inside a "[..]"; no "[..]" stands in another
+-- whether the position after a character is inside a "[..]"; these do not nest
 abbrev pub in_class : Bool → ℕ → Bool
 in_class inside c = nat_eq c 91 || (inside && not (nat_eq c 93))
 
--- whether a character closes the pattern: a "/" outside a "[..]"
+-- whether a character closes the pattern: a "/" outside "[..]"
 abbrev pub closes : Bool → ℕ → Bool
 closes inside c = nat_eq c 47 && not inside
 
--- the characters of a pattern up to the "/" that closes it: behind a backslash (92) or not, inside a "[..]"
--- or not
+-- The characters of a pattern before its closing "/". `escaped`: whether a backslash (92) comes before
+-- them; `inside`: whether they are inside a "[..]".
 abbrev pub up_to_close : Bool → Bool → List ℕ → List ℕ
 up_to_close escaped inside [] = []
 up_to_close true inside (c ∷ cs) = c ∷ up_to_close false inside cs
@@ -75,7 +75,7 @@ up_to_close false inside (c ∷ cs) =
     if nat_eq c 92 then c ∷ up_to_close true inside cs
     else (if closes inside c then [] else c ∷ up_to_close false (in_class inside c) cs)
 
--- the characters from that "/" on, or none
+-- the characters from the closing "/" on, or none
 abbrev pub from_close : Bool → Bool → List ℕ → List ℕ
 from_close escaped inside [] = []
 from_close true inside (c ∷ cs) = from_close false inside cs
@@ -83,17 +83,17 @@ from_close false inside (c ∷ cs) =
     if nat_eq c 92 then from_close true inside cs
     else (if closes inside c then c ∷ cs else from_close false (in_class inside c) cs)
 
--- a backslash and the character after it, of which a "/" (47) stands for itself
+-- a backslash and the character after it; for a "/" (47), only the "/"
 abbrev pub pair : ℕ → List ℕ → List ℕ
 pair c cs = if nat_eq c 47 then 47 ∷ cs else 92 ∷ c ∷ cs
 
--- the text of a pattern's characters: behind a backslash or not
+-- the text of a pattern's characters; `escaped`: whether a backslash comes before them
 abbrev pub pattern_text : Bool → List ℕ → List ℕ
 pattern_text escaped [] = []
 pattern_text true (c ∷ cs) = pair c (pattern_text false cs)
 pattern_text false (c ∷ cs) = if nat_eq c 92 then pattern_text true cs else c ∷ pattern_text false cs
 
--- a pattern and its flags, the letters behind it, unless no "/" closes it
+-- a pattern and its flags, which are the letters after it, if a "/" closes the pattern
 abbrev pub patterned : List ℕ → List ℕ → Read
 patterned cs [] = None
 patterned cs (c ∷ rest) =
@@ -103,11 +103,11 @@ patterned cs (c ∷ rest) =
       behind is_no_letter rest,
     )
 
--- the pattern behind its first "/"
+-- the pattern after its opening "/"
 abbrev pub next_pattern : List ℕ → Read
 next_pattern cs = patterned (up_to_close false false cs) (from_close false false cs)
 
--- right behind "=~" a "/" begins a pattern
+-- directly after "=~", a "/" begins a pattern
 abbrev pub pattern_or : Bool → Option (List ℕ) → Read → Read
 pattern_or true (Some rest) later = next_pattern rest
 pattern_or true None later = later
@@ -115,12 +115,12 @@ pattern_or false o later = later
 
 -- ---- quoted texts and words
 
--- the text before a quote, unless there is none
+-- the text before the closing quote, if there is one
 abbrev pub quoted : List ℕ → List ℕ → Read
 quoted text [] = None
 quoted text (c ∷ rest) = Some (Quoted (bytes_of text), rest)
 
--- the quoted text behind its first quote, up to the next quote
+-- the quoted text after its opening quote, up to the next quote
 abbrev pub next_quoted : List ℕ → Read
 next_quoted cs = quoted (front is_quote cs) (behind is_quote cs)
 
@@ -129,20 +129,19 @@ abbrev pub quoted_or : Option (List ℕ) → Read → Read
 quoted_or (Some rest) later = next_quoted rest
 quoted_or None later = later
 
--- a word, which isn't empty
+-- a word, which is not empty
 abbrev pub word_of : List ℕ → List ℕ → Read
 word_of [] rest = None
 word_of (c ∷ cs) rest = Some (Word (bytes_of (c ∷ cs)), rest)
 
--- the word that they begin with, if they begin with one
+-- the word at the beginning of the characters, if there is one
 abbrev pub next_word : List ℕ → Read
 next_word cs = word_of (front ends_word cs) (behind ends_word cs)
 
 -- ---- tokens
 
--- The token by the first rule that applies: where white space stands right before or doesn't, and the token
--- before
--- is "=~" or isn't.
+-- The next token, by the first rule that applies. `spaced`: whether white space comes directly before the
+-- characters; `like`: whether the token before is "=~".
 abbrev pub next_token : Bool → Bool → List ℕ → Read
 next_token spaced like cs =
     next_comparison spaced cs
@@ -160,28 +159,28 @@ abbrev pub unless_empty : List ℕ → Option (List Token) → Option (List Toke
 unless_empty [] o = Some []
 unless_empty (c ∷ cs) o = o
 
--- a token, if there is one, and those behind it, if they can be read
+-- a token, if there is one, and the tokens after it, if all are valid
 abbrev pub after_token : Read → (Token → List ℕ → Option (List Token)) → Option (List Token)
 after_token None later = None
 after_token (Some p) later = option_map (λ ts. p.0 ∷ ts) (later p.0 p.1)
 
--- the tokens of characters that don't begin with white space, fewer than the count
+-- the tokens of characters without leading white space, if there are fewer than the count
 abbrev pub lex : ℕ → Bool → Bool → List ℕ → Option (List Token)
 lex zero spaced like cs = None
 lex (suc count) spaced like cs =
     unless_empty cs (after_token (next_token spaced like cs)
     (λ t rest. lex count (begins_blank rest) (is_like t) (skipped rest)))
 
--- the tokens of a text, if each can be read and they are fewer than the count
+-- the tokens of a text, if all are valid and there are fewer than the count
 unfoldable pub tokens_within : ℕ → List ℕ → Option (List Token)
 tokens_within count text = lex count (begins_blank (chars text)) false (skipped (chars text))
 
--- The tokens of a text, if each can be read. Each has a character, so there are no more of them than
--- characters.
+-- The tokens of a text, if all are valid. Each has at least one character, so there are at most as many
+-- tokens as characters.
 unfoldable pub tokens_of : List ℕ → Option (List Token)
 tokens_of text = tokens_within (suc (length (chars text))) text
 
--- any higher count finds the same tokens
+-- any larger count gives the same tokens
 abbrev pub CountSuffices : List ℕ → Type 0
 CountSuffices text = (count : ℕ) → length (chars text) < count → tokens_within count text ≡ tokens_of text
 
@@ -203,6 +202,6 @@ token_of (piece.Word cs) = Word (bytes_of cs.now)
 token_of (piece.Quoted cs) = Quoted (bytes_of cs.now)
 token_of (piece.Pattern cs flags) = Pattern (bytes_of (pattern_text false cs.now)) (bytes_of flags.now)
 
--- the tokens of a text, or the fault that one can't be read
+-- the tokens of a text, or `BadToken`
 abbrev pub tokens_or_fault : List ℕ → Result (List Token) WhenFault
 tokens_or_fault text = or_fault BadToken (tokens_of text)

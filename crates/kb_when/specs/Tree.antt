@@ -1,4 +1,4 @@
--- The clause that a tree of the program stands for, with its marks and without.
+-- The clause of a tree of the program, with its marks and without.
 use Rattle.std.specs.Prelude.{List, [], ◌∷◌}
 use Rattle.kb_when.specs.Clause.{Clause, Clauses, no_clauses, clause}
 use Rattle.kb_when.specs.Marked as marked
@@ -10,12 +10,12 @@ abbrev pub clauses_of : List Clause → Clauses
 clauses_of [] = no_clauses
 clauses_of (t ∷ ts) = clause t (clauses_of ts)
 
--- the same of clauses with their marks
+-- the same for clauses with their marks
 abbrev pub markeds_of : List Marked → Markeds
 markeds_of [] = marked.no_clauses
 markeds_of (m ∷ ms) = marked.clause m (markeds_of ms)
 
--- one level, with each tree inside already seen as its clause
+-- one level of the tree, where each subtree is already replaced by its clause
 abbrev pub marked_step : Tree-F Marked → Marked
 marked_step Tree-F.True = marked.always
 marked_step Tree-F.False = marked.never

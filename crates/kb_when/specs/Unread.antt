@@ -1,8 +1,8 @@
--- Which patterns of a clause aren't read, and the marks that say so.
+-- The unread patterns of a clause, and the marks that follow from them.
 use Rattle.std.specs.Prelude.{◌≡◌, ℕ, zero, suc, List, [], ◌∷◌, ◌++◌, Bool, length, nat_eq, if◌then◌else◌}
 use Rattle.std.specs.List.{list_any}
 use Rattle.kb_pattern.specs.declared.flags.Flags.{Flags}
-use Rattle.kb_when.specs.declared.unread.UnreadPattern.{UnreadPattern}
+use Rattle.kb_when.specs.declared.unread.ClausePattern.{ClausePattern}
 use Rattle.kb_when.specs.declared.unread.Noted.{Noted}
 use Rattle.kb_when.specs.Clause.{Clause, patterns_of}
 use Rattle.kb_when.specs.Marked.{Marked, tree_of, marks_of}
@@ -10,29 +10,29 @@ use Rattle.kb_when.specs.Marks.{MarkedClause, beside}
 use Rattle.kb_pattern.specs.Pattern.{MarkedPattern, AreRight, HasRightMark}
 
 -- the marked ones of these patterns, numbered from n on
-abbrev pub unread_from : ℕ → List (List ℕ × Flags) → List Bool → List UnreadPattern
+abbrev pub unread_from : ℕ → List (List ℕ × Flags) → List Bool → List ClausePattern
 unread_from n [] marks = []
 unread_from n (p ∷ ps) [] = []
 unread_from n (p ∷ ps) (b ∷ marks) =
     if b then record { number = n; pattern = p.0 } ∷ unread_from (suc n) ps marks
     else unread_from (suc n) ps marks
 
--- the marked patterns of a clause, each with its number among the patterns, from 0
-abbrev pub unread_of : MarkedClause → List UnreadPattern
+-- the marked patterns of a clause, each with its index among all patterns, from 0
+abbrev pub unread_of : MarkedClause → List ClausePattern
 unread_of c = unread_from 0 (patterns_of c.tree) c.marks
 
--- the marks of so many patterns, numbered from n on, of which these aren't read
-abbrev pub marks_from : ℕ → ℕ → List UnreadPattern → List Bool
+-- the marks of `more` patterns, numbered from n on, of which the listed ones are unread
+abbrev pub marks_from : ℕ → ℕ → List ClausePattern → List Bool
 marks_from n zero unread = []
 marks_from n (suc more) unread =
     list_any (λ u. nat_eq u.number n) unread ∷ marks_from (suc n) more unread
 
--- the tree, marked where these say that its patterns aren't read
-abbrev pub marked_by : List UnreadPattern → Clause → MarkedClause
+-- the tree, with the marks that the listed patterns give
+abbrev pub marked_by : List ClausePattern → Clause → MarkedClause
 marked_by unread t = record { tree = t; marks = marks_from 0 (length (patterns_of t)) unread }
 
--- how a clause keeps them: those of its tree, whose marks are right
-pub record IsKept (m : Marked) (kept : List UnreadPattern) : Type 0 where
+-- the unread patterns that a clause stores: those of its tree, whose marks are correct
+pub record IsKept (m : Marked) (kept : List ClausePattern) : Type 0 where
   pub listed : kept ≡ unread_of (beside m)
   pub right : AreRight (patterns_of (tree_of m)) (marks_of m)
 
@@ -42,7 +42,7 @@ abbrev pub HaveRightMarks : List MarkedPattern → Type 0
 HaveRightMarks [] = Unit {0}
 HaveRightMarks (p ∷ ps) = HasRightMark p × HaveRightMarks ps
 
--- one more pattern is noted
+-- one more pattern is visited
 abbrev pub note : Noted → MarkedPattern → Noted
 note s p = record {
   marks = s.marks ++ p.unread ∷ [];

@@ -1,4 +1,4 @@
--- The value of a clause over the values of keys.
+-- The value of a clause for given values of the context keys.
 use Rattle.std.specs.Prelude.{ℕ, ℤ, pos, negsuc, List, [], ◌∷◌, Bool, true, false, not, ◌&&◌, ◌||◌, Option}
 use Rattle.std.specs.Prelude.{Some, None, length, drop, nat_eq, codes, if◌then◌else◌}
 use Rattle.std.specs.Option.{option_map_or}
@@ -20,7 +20,7 @@ abbrev pub is_zero : ℤ → Bool
 is_zero (pos n) = nat_eq n 0
 is_zero (negsuc n) = false
 
--- the value isn't absent, false, 0 or the empty text
+-- the value is not absent, false, 0 or the empty text
 abbrev pub key_holds : Option ContextValue → Bool
 key_holds None = false
 key_holds (Some (Truth b)) = b
@@ -29,7 +29,7 @@ key_holds (Some (Text text)) = not (nat_eq (length text) 0)
 key_holds (Some (Texts texts)) = true
 key_holds (Some (Names names)) = true
 
--- the value is the text, or a number whose decimal spelling is the text
+-- the value is the text, or a number whose decimal form is the text
 abbrev pub equals_holds : Option ContextValue → List ℕ → Bool
 equals_holds (Some (Text text)) v = bytes_eq text v
 equals_holds (Some (Number n)) v = bytes_eq (signed_decimal n) v
@@ -39,7 +39,7 @@ abbrev pub number_compared : Operator → Option ℤ → ℤ → Bool
 number_compared o (Some m) n = compared o m n
 number_compared o None n = false
 
--- the value is a number, or a text that spells one, and the comparison is true
+-- the value is a number, or the text of one, and the comparison holds
 abbrev pub compare_holds : Option ContextValue → Operator → ℤ → Bool
 compare_holds (Some (Number m)) o n = compared o m n
 compare_holds (Some (Text text)) o n = number_compared o (number_of text) n
@@ -56,8 +56,8 @@ abbrev pub member_holds : Option ContextValue → Option ContextValue → Bool
 member_holds (Some (Text text)) other = contains_text text other
 member_holds _ other = false
 
--- the text of a value that a pattern is searched in: a number's is its decimal spelling, and lists and
--- objects have none
+-- The text of a value in which a pattern is searched. A number has its decimal form; lists and objects
+-- have none.
 abbrev pub searched_text : Option ContextValue → Option (List ℕ)
 searched_text (Some (Text text)) = Some text
 searched_text (Some (Number n)) = Some (signed_decimal n)
@@ -72,8 +72,8 @@ abbrev pub first_mark : List Bool → Bool
 first_mark [] = false
 first_mark (b ∷ marks) = b
 
--- The value of a clause whose patterns have these marks, in the order of the text: behind as many marks as a
--- clause has patterns stand those of the next.
+-- The value of a clause whose patterns have these marks, in the order of the text. Each clause uses as
+-- many marks as it has patterns; the marks after them belong to the next clause.
 abbrev mutual
   pub value : Keys → List Bool → Clause → Bool
   value keys marks always = true

@@ -1,4 +1,4 @@
--- The numbers of faults of clauses.
+-- The numbers of the faults of when clauses.
 use Rattle.std.specs.Prelude.{ℕ}
 use Rattle.kb_when.specs.declared.fault.WhenFault.{WhenFault}
 use Rattle.kb_when.specs.declared.fault.WhenFault.TheVariants.{BadToken, Unexpected, TooDeep, BadNumber}

@@ -1,5 +1,5 @@
-//! Atoms: a key alone, or a key with what it is compared with, by the words of the tokens. What is
-//! read here takes no memory, so that each fault is the reading's.
+//! Atoms: a key alone, or a key and what its value is compared with. An atom borrows its words from the
+//! tokens. Parsing an atom allocates nothing, so its result is never `NoMemory`.
 ghost use Rattle.std.specs.Prelude.{◌≡◌, ◌∷◌, [], IfOk, IfErr, MatchOption, if◌then◌else◌};
 ghost use Rattle.kb_pattern.specs.Pattern.{flags_of};
 ghost use Rattle.kb_when.specs.Clause.{key as key_clause, not_of, equals, compare, matches, member};
@@ -14,11 +14,11 @@ use crate::operator::Operator;
 use crate::token::Token;
 use crate::tree::Tree;
 use crate::words::{is_reserved, is_word};
-use kb_context::{NoMemory, Text};
+use kb_base::{NoMemory, Text};
 use kb_pattern::{Flags, Pattern};
 use std::alloc::Global;
 
-/// An atom, whose words the tokens own.
+/// An atom, with words borrowed from the tokens.
 #[derive(Clone, Copy)]
 pub(crate) enum Atom<'t> {
     /// `true`.
@@ -27,33 +27,33 @@ pub(crate) enum Atom<'t> {
     False,
     /// A key alone.
     Key(&'t Text),
-    /// A key and the text that its value is to be.
+    /// A key and the text that its value must equal.
     Equals(&'t Text, &'t Text),
-    /// A key and the number that its value is compared with.
+    /// A key and the number with which its value is compared.
     Compare(&'t Text, Operator, i64),
-    /// A key and the pattern that its value is to match, with the letters of its flags.
+    /// A key, the pattern that its value must match, and the letters of the pattern's flags.
     Matches(&'t Text, &'t Text, &'t Text),
-    /// A key, and the key of the list or object in which its value is to be.
+    /// A key, and the key of the list or object that must contain its value.
     Member(&'t Text, &'t Text),
 }
 
-/// An atom that is to hold, or that isn't.
+/// An atom, or the negation of one.
 #[derive(Clone, Copy)]
 pub(crate) struct Condition<'t> {
-    /// Whether the atom isn't to hold.
+    /// Whether the atom is negated.
     pub(crate) negated: bool,
     /// The atom.
     pub(crate) atom: Atom<'t>,
 }
 
-/// The first token, and those behind it.
+/// The first token, and the tokens after it.
 pub(crate) fn next(tokens: &[Token]) -> Option<(&Token, &[Token])>
     ensures { MatchOption result (tokens.now ≡ []) (λ p. tokens.now ≡ p.0.now ∷ p.1.now) }
 {
     tokens.split_first()
 }
 
-/// A key with what stands behind it.
+/// Parses the rest of an atom that begins with a key. Errors: `Unexpected` and `BadNumber`.
 pub(crate) fn key_tail<'t>(
     key: &'t Text,
     tokens: &'t [Token],
@@ -83,7 +83,7 @@ pub(crate) fn key_tail<'t>(
     }
 }
 
-/// An atom that is to hold.
+/// An atom that is not negated.
 pub(crate) fn plain(atom: Atom<'_>) -> Condition<'_>
     ensures { clause_of_condition result ≡ clause_of_atom atom.entry }
 {
@@ -93,7 +93,7 @@ pub(crate) fn plain(atom: Atom<'_>) -> Condition<'_>
     }
 }
 
-/// The value behind `==`, or behind `!=`.
+/// Parses the value after `==` (`equal`) or `!=`. Error: `Unexpected`.
 fn value<'t>(
     key: &'t Text,
     equal: bool,
@@ -113,7 +113,7 @@ fn value<'t>(
     }
 }
 
-/// A key that is to be the text, or isn't.
+/// The condition `key == 'value'`, negated unless `equal`.
 fn equal_text<'t>(key: &'t Text, equal: bool, value: &'t Text) -> Condition<'t>
     ensures { clause_of_condition result ≡
         (if equal then equals key.now value.now else not_of (equals key.now value.now)) }
@@ -124,7 +124,8 @@ fn equal_text<'t>(key: &'t Text, equal: bool, value: &'t Text) -> Condition<'t>
     }
 }
 
-/// A key that is to be the word, or isn't. `true` and `false` ask whether the key holds.
+/// The condition `key == value` for an unquoted word, negated unless `equal`. For the words `true` and
+/// `false`, the condition is whether the key alone holds.
 fn equal_word<'t>(key: &'t Text, equal: bool, value: &'t Text) -> Condition<'t>
     ensures { clause_of_condition result ≡
         (if equal then is_equal key.now value.now else is_unequal key.now value.now) }
@@ -144,7 +145,8 @@ fn equal_word<'t>(key: &'t Text, equal: bool, value: &'t Text) -> Condition<'t>
     equal_text(key, equal, value)
 }
 
-/// The number behind a comparison.
+/// Parses the number after a comparison. Errors: `BadNumber` for a word or a quoted text that is not a
+/// number, and `Unexpected` for anything else.
 fn number<'t>(
     key: &'t Text,
     operator: Operator,
@@ -167,7 +169,7 @@ fn number<'t>(
     }
 }
 
-/// The pattern behind `=~`.
+/// Parses the pattern after `=~`. Error: `Unexpected`.
 fn pattern<'t>(
     key: &'t Text,
     tokens: &'t [Token],
@@ -185,7 +187,7 @@ fn pattern<'t>(
     }
 }
 
-/// The other key behind `in`, or behind `not in`.
+/// Parses the other key after `in` (`inside`) or `not in`. Error: `Unexpected`.
 fn other<'t>(
     key: &'t Text,
     inside: bool,
@@ -209,7 +211,7 @@ fn other<'t>(
     }
 }
 
-/// A key whose value is to be in another key's, or isn't.
+/// The condition `key in other`, negated unless `inside`.
 fn among<'t>(key: &'t Text, inside: bool, other: &'t Text) -> Condition<'t>
     ensures { clause_of_condition result ≡
         (if inside then member key.now other.now else not_of (member key.now other.now)) }
@@ -220,7 +222,7 @@ fn among<'t>(key: &'t Text, inside: bool, other: &'t Text) -> Condition<'t>
     }
 }
 
-/// `in` and the other key, behind `not`.
+/// Parses `in` and the other key, after `not`. Error: `Unexpected`.
 fn no_member<'t>(
     key: &'t Text,
     tokens: &'t [Token],
@@ -243,14 +245,14 @@ fn no_member<'t>(
     }
 }
 
-/// The tree of a key alone.
+/// The tree of a key alone. Error: `NoMemory`.
 fn key_tree(key: &Text) -> Result<Tree, NoMemory>
     ensures { IfOk result (λ t. clause_of t ≡ key_clause key.now) }
 {
     Ok(Tree::key(key.copied()?))
 }
 
-/// Copies of two texts.
+/// Copies of two texts. Error: `NoMemory`.
 fn both(first: &Text, second: &Text) -> Result<(Text, Text), NoMemory>
     ensures { IfOk result (λ texts. texts ≡ (first.now, second.now)) }
 {
@@ -258,7 +260,7 @@ fn both(first: &Text, second: &Text) -> Result<(Text, Text), NoMemory>
     Ok((first, second.copied()?))
 }
 
-/// The tree of a key and the text that its value is to be.
+/// The tree of a key and the text that its value must equal. Error: `NoMemory`.
 fn equal_tree(key: &Text, value: &Text) -> Result<Tree, NoMemory>
     ensures { IfOk result (λ t. clause_of t ≡ equals key.now value.now) }
 {
@@ -266,14 +268,14 @@ fn equal_tree(key: &Text, value: &Text) -> Result<Tree, NoMemory>
     Ok(Tree::equal(key, value))
 }
 
-/// The tree of a key and the number that its value is compared with.
+/// The tree of a key and the number with which its value is compared. Error: `NoMemory`.
 fn compare_tree(key: &Text, operator: Operator, number: i64) -> Result<Tree, NoMemory>
     ensures { IfOk result (λ t. clause_of t ≡ compare key.now operator number) }
 {
     Ok(Tree::compare(key.copied()?, operator, number))
 }
 
-/// The tree of a key and the pattern that its value is to match.
+/// The tree of a key and the pattern that its value must match. Error: `NoMemory`.
 fn matching_tree(alloc: Global, key: &Text, text: &Text, letters: &Text) -> Result<Tree, NoMemory>
     ensures { IfOk result (λ t. clause_of t ≡ matches key.now text.now (flags_of letters.now)) }
 {
@@ -282,7 +284,7 @@ fn matching_tree(alloc: Global, key: &Text, text: &Text, letters: &Text) -> Resu
     Ok(Tree::matching(key, pattern))
 }
 
-/// The tree of a key, and the key of the list or object in which its value is to be.
+/// The tree of a key, and the key of the list or object that must contain its value. Error: `NoMemory`.
 fn member_tree(key: &Text, other: &Text) -> Result<Tree, NoMemory>
     ensures { IfOk result (λ t. clause_of t ≡ member key.now other.now) }
 {
@@ -311,7 +313,7 @@ impl Atom<'_> {
 impl Condition<'_> {
     ghost use Rattle.kb_when.specs.Parser.{clause_of_condition};
 
-    /// The tree of the atom, which takes memory for its words.
+    /// The tree of the condition, with copies of its words. Error: `NoMemory`.
     pub(crate) fn tree(self, alloc: Global) -> Result<Tree, NoMemory>
         ensures { IfOk result (λ t. clause_of t ≡ clause_of_condition self.entry) }
     {

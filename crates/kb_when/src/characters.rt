@@ -1,10 +1,10 @@
 //! Classes and runs of characters.
 ghost use Rattle.std.specs.Prelude.{◌≡◌, ◌+◌, ◌≤◌, IfOk, IfSome, length, option_map};
-ghost use Rattle.kb_context.specs.Blank.{is_blank};
+ghost use Rattle.kb_base.specs.Blank.{is_blank};
 ghost use Rattle.kb_when.specs.Characters.{begins_blank, ends_word, ends_at, skipped};
 ghost use Rattle.kb_when.specs.Characters.{front, behind, bytes_of, behind_sign};
 
-use kb_context::{NoMemory, Text};
+use kb_base::{NoMemory, Text};
 use std::alloc::Global;
 
 /// Whether a character is white space: space, tab, carriage return or line feed.
@@ -14,7 +14,7 @@ pub(crate) fn is_blank(character: char) -> bool
     character == ' ' || character == '\t' || character == '\r' || character == '\n'
 }
 
-/// Whether white space stands first.
+/// Whether the first character is white space.
 pub(crate) fn begins_blank(characters: &[char]) -> bool
     ensures { result ≡ begins_blank characters.now }
 {
@@ -24,14 +24,14 @@ pub(crate) fn begins_blank(characters: &[char]) -> bool
     }
 }
 
-/// Whether a word ends before a character.
+/// Whether a word ends before this character.
 pub(crate) fn ends_word(character: char) -> bool
     ensures { result ≡ ends_word character }
 {
     is_blank(character) || matches!(character, '(' | ')' | '\'' | '!' | '=' | '&' | '|')
 }
 
-/// The characters without the white space that stands first.
+/// The characters after leading white space.
 pub(crate) fn skip_blanks(characters: &[char]) -> &[char]
     ensures value { result.now ≡ skipped characters.now }
     ensures len { length result.now ≤ length characters.now }
@@ -44,7 +44,7 @@ pub(crate) fn skip_blanks(characters: &[char]) -> &[char]
     &characters[characters.len()..]
 }
 
-/// What follows a sign, where the characters begin with it.
+/// The characters after a sign, or `None` if the characters do not begin with it.
 pub(crate) fn after_sign<'c>(characters: &'c [char], sign: &[char]) -> Option<&'c [char]>
     ensures value { option_map (λ r. r.now) result ≡ behind_sign sign.now characters.now }
     ensures len { IfSome result (λ r. length r.now + length sign.now ≡ length characters.now) }
@@ -64,14 +64,14 @@ pub(crate) fn after_sign<'c>(characters: &'c [char], sign: &[char]) -> Option<&'
     Some(rest)
 }
 
-/// Before which character a run of characters ends.
+/// The kind of character that ends a run of characters.
 #[derive(Clone, Copy)]
 pub(crate) enum Until {
-    /// One that ends a word.
+    /// A character that ends a word.
     WordEnd,
     /// A single quote.
     Quote,
-    /// One that is no ASCII letter.
+    /// A character that is not an ASCII letter.
     NoLetter,
 }
 
@@ -89,7 +89,7 @@ impl Until {
     }
 }
 
-/// The characters up to the run's end, and what follows them. It takes no memory.
+/// The characters before the end of the run, and the characters from there on.
 pub(crate) fn split_run(characters: &[char], until: Until) -> (&[char], &[char])
     ensures front { result.0.now ≡ front (ends_at until) characters.now }
     ensures rest { result.1.now ≡ behind (ends_at until) characters.now }
@@ -103,7 +103,7 @@ pub(crate) fn split_run(characters: &[char], until: Until) -> (&[char], &[char])
     (characters, &characters[characters.len()..])
 }
 
-/// The text of characters.
+/// The text of characters. Error: `NoMemory`.
 pub(crate) fn text_of(alloc: Global, characters: &[char]) -> Result<Text, NoMemory>
     ensures { IfOk result (λ text. text ≡ bytes_of characters.now) }
 {

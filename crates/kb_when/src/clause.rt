@@ -1,6 +1,6 @@
-//! Clauses.
+//! When clauses.
 ghost use Rattle.std.specs.Prelude.{◌≡◌, ◌<◌, ◌↔◌, [], length, IsTrue, IfOk, IfErr};
-ghost use Rattle.kb_context.specs.Failure.{Gives};
+ghost use Rattle.kb_base.specs.Failure.{Gives};
 ghost use Rattle.kb_when.specs.ClauseText.{clause_in};
 ghost use Rattle.kb_when.specs.Tree.{clause_of};
 
@@ -8,19 +8,21 @@ use crate::fault::WhenFault;
 use crate::parser::parse_tokens;
 use crate::tokenizer::tokenize;
 use crate::tree::Tree;
-use crate::unread::{UnreadPattern, unread_patterns};
-use kb_context::{Failure, NoMemory, Scopes, Seq};
+use crate::unread::{ClausePattern, unread_patterns};
+use kb_base::{Failure, NoMemory, Seq};
+use kb_context::Scopes;
 use std::alloc::Global;
 use std::marker::Model;
 
-/// A condition on context keys, as VS Code's documentation of "when clause contexts" has it: keys,
-/// `true` and `false`, `!`, `&&`, `||` and parentheses, `==`, `===`, `!=` and `!==`, `<`, `<=`,
-/// `>` and `>=`, `=~`, `in` and `not in`. `!` binds closest, then `&&`, then `||`. Contracts see its
-/// tree, and beside it the marks of its patterns.
+/// A condition on context keys, as in VS Code's documentation of when clause contexts: keys, `true` and
+/// `false`, `!`, `&&`, `||` and parentheses, `==`, `===`, `!=` and `!==`, `<`, `<=`, `>` and `>=`, `=~`,
+/// `in` and `not in`. `!` binds tightest, then `&&`, then `||`. Tokens, precedence, faults, and everything
+/// else that the documentation leaves open are our decision. Contracts see the tree of the clause, and
+/// separately the marks of its patterns.
 #[derive(Debug, Drop)]
 pub struct Clause {
     tree: Tree,
-    unread: Seq<UnreadPattern>,
+    unread: Seq<ClausePattern>,
     alloc: Global,
 }
 
@@ -39,7 +41,7 @@ impl Model for Clause {
     ghost invariant = { λ c. IsKept (marked_of c.tree) c.unread };
 }
 
-/// The tree of a text, or the text's fault.
+/// Parses a text into a tree. Errors: as for `Clause::parse`.
 #[tactic(auto, unfolding(crate::specs::ClauseText::clause_in))]
 fn read_tree(alloc: Global, text: &str) -> Result<Tree, Failure<WhenFault>>
     ensures { Gives clause_of result (clause_in text.now) }
@@ -57,14 +59,13 @@ impl Clause {
     ghost use Rattle.kb_pattern.specs.Pattern.{AreRight};
     ghost use Rattle.kb_when.specs.Unread.{unread_of, marked_by};
 
-    /// The clause of a text.
+    /// Parses a clause.
     ///
-    /// `BadToken` (30) where a token can't be read. Then, as reading the tokens from the left meets
-    /// it first: `TooDeep` (32) where more than 64 `(` and `!` stand around an operand, `BadNumber`
-    /// (33) where a word or a quoted text that is no number follows a comparison, and `Unexpected`
-    /// (31) for any other token or end. Or want of memory. A pattern that `regex` doesn't read is no
-    /// fault: it is marked. The operators are those of VS Code's documentation of "when clause
-    /// contexts"; tokens, precedence and faults are our decision.
+    /// Errors: `BadToken` (30) if a part of the text is not a token. Otherwise the first of these from the
+    /// left: `TooDeep` (32) if an operand is nested in more than 64 `(` and `!`, `BadNumber` (33) if a
+    /// word or a quoted text that is not a number follows a comparison, `Unexpected` (31) for any other
+    /// misplaced token or an early end of the text. `NoMemory` at any point. A pattern that `regex`
+    /// rejects is not an error: it is marked as unread.
     pub fn parse(alloc: Global, text: &str) -> Result<Clause, Failure<WhenFault>>
         ensures read { Gives (λ clause. clause.tree) result (clause_in text.now) }
         ensures stands { IfOk result (λ clause. StandsFor text.now clause.tree) }
@@ -72,10 +73,10 @@ impl Clause {
             (other : _) → StandsFor text.now other → other ≡ clause.tree) }
         ensures marks { IfOk result (λ clause. AreRight (patterns_of clause.tree) clause.marks) }
 
-        // For all texts the reading is that of the grammar.
+        // The parser agrees with the grammar for every text.
         ensures grammar { ReadsByGrammar text.now }
 
-        // The tokens of the text are found by counting, and the count suffices.
+        // The definition of the tokens has a bound on their number; any larger bound gives the same tokens.
         ensures counted { CountSuffices text.now }
     {
         let tree = read_tree(alloc, text)?;
@@ -87,7 +88,7 @@ impl Clause {
         })
     }
 
-    /// The clause `false`. It takes no memory.
+    /// The clause `false`.
     pub fn never(alloc: Global) -> Clause
         ensures { result ≡ record { tree = never; marks = [] } }
     {
@@ -98,26 +99,25 @@ impl Clause {
         }
     }
 
-    /// The patterns that `regex` doesn't read, in the order of the text. It takes no memory.
-    pub fn unread(&self) -> &[UnreadPattern]
+    /// The patterns that `regex` rejects, in the order of the text.
+    pub fn unread(&self) -> &[ClausePattern]
         ensures listed { result.now ≡ unread_of self.now }
 
-        // The marks follow from them: whoever knows the tree and these knows the clause.
+        // The tree and these patterns determine the clause with its marks.
         ensures whole { marked_by result.now self.now.tree ≡ self.now }
 
-        // A pattern is marked only where `regex`'s grammar doesn't read it or it nests too deep, and
-        // isn't marked only where that grammar reads it.
+        // A pattern is marked as unread only if it is outside the grammar of `regex` or nests too deep. A
+        // pattern without the mark is in the grammar.
         ensures right { AreRight (patterns_of self.now.tree) self.now.marks }
     {
         self.unread.as_slice()
     }
 
-    /// Whether the clause holds over the keys that the focus of the scopes sees. A key alone holds
-    /// unless it is absent, `false`, 0 or the empty text; an absent key, a list or an object makes
-    /// `==`, `<`, `<=`, `>`, `>=` and `=~` false, and so does a pattern that is marked. It stops at the
-    /// first part that decides. `NoMemory` where a pattern's search was refused memory; a clause without
-    /// patterns takes none. The operators are those of VS Code's documentation of "when clause
-    /// contexts", and what that leaves open is our decision.
+    /// Whether the clause holds for the keys that are visible from the focus. A key alone holds unless it
+    /// is absent, `false`, 0 or the empty text. If a key is absent or its value is a list or an object,
+    /// then `==`, `<`, `<=`, `>`, `>=` and `=~` are false. A pattern that is marked as unread never
+    /// matches. Evaluation stops at the first operand that decides. Error: `NoMemory` if a search for a
+    /// pattern is refused memory; a clause without patterns allocates nothing.
     #[tactic(auto, using(crate::proofs::MarkedLemmas::value_beside, crate::proofs::MarkedLemmas::has_one))]
     pub fn holds(&self, scopes: &Scopes) -> Result<bool, NoMemory>
         ensures value { IfOk result (λ holds.
@@ -127,8 +127,8 @@ impl Clause {
         self.tree.holds(self.alloc, scopes)
     }
 
-    /// Whether both clauses are the same tree, as a removal of a rule asks; marks don't count. It takes
-    /// no memory.
+    /// Whether both clauses have the same tree, as the removal of a rule requires. The marks are not
+    /// compared.
     pub fn same_tree(&self, other: &Clause) -> bool
         ensures { IsTrue result ↔ (self.now.tree ≡ other.now.tree) }
     {

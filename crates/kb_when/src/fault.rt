@@ -1,22 +1,22 @@
-//! Why a text is no clause.
+//! Faults of when clauses.
 ghost use Rattle.std.specs.Prelude.{◌≡◌};
 
-use kb_context::Failure;
+use kb_base::Failure;
 use thiserror::Error;
 
-/// Why a text was not read as a clause. The numbers are our decision.
+/// Why a text is not a when clause. The numbers are our decision.
 #[derive(Clone, Copy, Debug, PartialEq, Eq, Error)]
 pub enum WhenFault {
-    /// A character begins no token, or a quoted text or a pattern has no end.
+    /// A character begins no token, or a quoted text or a pattern is not closed.
     #[error("no token begins here")]
     BadToken,
-    /// A token stands where the grammar has another one or the end, or the text ends too early.
+    /// A token that the grammar does not allow here, or the text ends too early.
     #[error("unexpected token or end")]
     Unexpected,
-    /// More `(` and `!` than the limit stand around one operand.
+    /// An operand is nested in more `(` and `!` than the limit.
     #[error("nested too deep")]
     TooDeep,
-    /// What follows a comparison is no whole number of 64 signed bits.
+    /// The operand of a comparison is not a signed 64-bit integer.
     #[error("not a number")]
     BadNumber,
 }
@@ -24,7 +24,7 @@ pub enum WhenFault {
 impl WhenFault {
     ghost use Rattle.kb_when.specs.WhenFault.{number_of};
 
-    /// The fault's number, by which traces and messages name it.
+    /// The fault's number in traces and messages: 30 to 33.
     pub fn number(self) -> u32
         ensures { result ≡ number_of self }
     {
@@ -38,7 +38,7 @@ impl WhenFault {
 }
 
 impl From<WhenFault> for Failure<WhenFault> {
-    ghost use Rattle.kb_context.specs.declared.failure.Failure.TheVariants.{Fault};
+    ghost use Rattle.kb_base.specs.declared.failure.Failure.TheVariants.{Fault};
 
     ghost from_gives = { λ fault failure. failure ≡ Fault fault };
 

@@ -1,4 +1,4 @@
-//! When clauses: conditions on context keys, read from texts into trees and valued over scopes.
+//! When clauses: conditions on context keys, parsed from texts into trees and evaluated in scopes.
 #![tactic(auto)]
 
 mod atom;
@@ -20,4 +20,4 @@ mod words;
 pub use clause::Clause;
 pub use fault::WhenFault;
 pub use shared::SharedClause;
-pub use unread::UnreadPattern;
+pub use unread::ClausePattern;

@@ -1,4 +1,4 @@
-//! Whole numbers in texts.
+//! Integers in texts.
 ghost use Rattle.std.specs.Prelude.{◌≡◌};
 ghost use Rattle.std.specs.Str.{bytes_eq};
 ghost use Rattle.std.specs.Fmt.{signed_decimal};
@@ -6,12 +6,12 @@ ghost use Rattle.kb_when.specs.Number.{number_of};
 
 use itoa::Buffer;
 
-/// The number that a text spells, or `None`: an optional `-` and digits, within 64 signed bits.
-/// Leading zeros count for nothing. It takes no memory.
+/// Parses an integer: an optional `-` and digits, within 64 signed bits. Leading zeros are allowed. `None`
+/// for any other text.
 pub(crate) fn read_number(text: &str) -> Option<i64>
     ensures { result ≡ number_of text.now }
 {
-    // A clause has no `+` before a number, and Rust's reading has one.
+    // Rust's `parse` accepts a leading `+`, but a clause does not.
     let bytes = text.as_bytes();
     if !bytes.is_empty() && bytes[0] == b'+' {
         return None;
@@ -19,7 +19,7 @@ pub(crate) fn read_number(text: &str) -> Option<i64>
     text.parse().ok()
 }
 
-/// Whether a text is a number's decimal spelling, which has no leading zeros. It takes no memory.
+/// Whether a text is the decimal form of a number, without leading zeros.
 pub(crate) fn is_spelling(text: &str, number: i64) -> bool
     ensures { result ≡ bytes_eq (signed_decimal number) text.now }
 {

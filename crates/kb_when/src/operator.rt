@@ -1,7 +1,7 @@
-//! The comparisons of clauses.
+//! Comparison operators of clauses.
 ghost use Rattle.std.specs.Prelude.{◌≡◌};
 
-/// How a clause compares two numbers.
+/// A comparison of two numbers.
 #[derive(Clone, Copy, Debug)]
 pub(crate) enum Operator {
     /// `<`.
@@ -17,7 +17,7 @@ pub(crate) enum Operator {
 impl Operator {
     ghost use Rattle.kb_when.specs.Operator.{compared, operator_eq};
 
-    /// Whether the comparison is true of two numbers.
+    /// Whether the comparison holds for two numbers.
     pub(crate) fn compares(self, left: i64, right: i64) -> bool
         ensures { result ≡ compared self left right }
     {
@@ -29,7 +29,7 @@ impl Operator {
         }
     }
 
-    /// Whether both are one comparison.
+    /// Whether both are the same operator.
     pub(crate) fn is(self, other: Operator) -> bool
         ensures { result ≡ operator_eq self other }
     {

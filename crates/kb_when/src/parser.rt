@@ -1,9 +1,10 @@
-//! Clauses from tokens, by descent with one token ahead. Each function says how the reading of the
-//! tokens goes on behind those that it read. What decides a fault takes no memory.
+//! A recursive-descent parser with one token of lookahead. Each contract states how the state machine of
+//! `specs/Reading.antt` continues after the tokens that the function consumes. Faults are decided without
+//! allocating.
 ghost use Rattle.std.specs.Prelude.{◌≡◌, ◌≤◌, ◌<◌, ◌∷◌, [], IfOk, IfErr, map, length};
 ghost use Rattle.kb_when.specs.Tree.{clause_of, clauses_of};
-ghost use Rattle.kb_context.specs.Failure.{Gives};
-ghost use Rattle.kb_context.specs.Reading.{seen};
+ghost use Rattle.kb_base.specs.Failure.{Gives};
+ghost use Rattle.kb_base.specs.Reading.{seen};
 ghost use Rattle.kb_when.specs.Grammar.{any_joined, all_joined};
 ghost use Rattle.kb_when.specs.Reading.{at_operand, clause_of_tokens};
 ghost use Rattle.kb_when.specs.Parser.{Begins, FailsToBegin, FailsAt, behind_close, all_read};
@@ -17,24 +18,24 @@ use crate::fault::WhenFault;
 use crate::token::Token;
 use crate::tree::Tree;
 use crate::words::{is_reserved, is_word};
-use kb_context::{Failure, Text};
+use kb_base::{Failure, Text};
 use std::alloc::Global;
 
-/// How many `(` and `!` may stand around an operand (our decision).
+/// The maximum number of `(` and `!` around an operand (our decision).
 const DEPTH_LIMIT: usize = 64;
 
-/// What an operand begins with.
+/// The beginning of an operand.
 #[derive(Clone, Copy)]
 enum Start<'t> {
     /// A `!`.
     Not,
     /// A `(`.
     Open,
-    /// A whole atom.
+    /// A complete atom.
     Atom(Condition<'t>),
 }
 
-/// What an operand begins with, and the tokens behind it.
+/// Parses the beginning of an operand. Errors: `TooDeep`, `BadNumber` and `Unexpected`.
 fn begin(tokens: &[Token], depth: usize) -> Result<(Start<'_>, &[Token]), WhenFault>
     ensures ok { IfOk result (λ r. Begins depth tokens.now r.0 r.1.now) }
     ensures err { IfErr result (FailsToBegin depth tokens.now) }
@@ -63,7 +64,7 @@ fn begin(tokens: &[Token], depth: usize) -> Result<(Start<'_>, &[Token]), WhenFa
     }
 }
 
-/// The atom that a word begins.
+/// Parses the atom that begins with a word. Errors: `BadNumber` and `Unexpected`.
 fn atom<'t>(word: &'t Text, rest: &'t [Token]) -> Result<(Condition<'t>, &'t [Token]), WhenFault>
     ensures ok { IfOk result (λ r. (depth : _) →
         ReadsOperand depth (Word word.now ∷ rest.now) (clause_of_condition r.0) r.1.now) }
@@ -81,7 +82,7 @@ fn atom<'t>(word: &'t Text, rest: &'t [Token]) -> Result<(Condition<'t>, &'t [To
     key_tail(word, rest)
 }
 
-/// The tokens behind a `)`.
+/// The tokens after a `)`. Error: `Unexpected`.
 fn behind_close(tokens: &[Token]) -> Result<&[Token], WhenFault>
     ensures { seen (λ r. r.now) result ≡ behind_close tokens.now }
 {
@@ -94,7 +95,7 @@ fn behind_close(tokens: &[Token]) -> Result<&[Token], WhenFault>
     }
 }
 
-/// That no token is left.
+/// Checks that no token is left. Error: `Unexpected`.
 fn all_read(tokens: &[Token]) -> Result<(), WhenFault>
     ensures { result ≡ all_read tokens.now }
 {
@@ -104,7 +105,7 @@ fn all_read(tokens: &[Token]) -> Result<(), WhenFault>
     Err(WhenFault::Unexpected)
 }
 
-/// An operand with the `!` before it.
+/// Parses an operand with its leading `!`.
 #[cycle(descent)]
 fn operand(
     alloc: Global,
@@ -123,7 +124,7 @@ fn operand(
     }
 }
 
-/// The operand behind a `!`.
+/// Parses the operand after a `!`.
 #[cycle(descent)]
 fn negated(
     alloc: Global,
@@ -139,7 +140,7 @@ fn negated(
     Ok((Tree::negation(tree), more))
 }
 
-/// What stands behind a `(`, up to its `)`.
+/// Parses a clause after a `(`, and its `)`.
 #[cycle(descent)]
 fn enclosed(
     alloc: Global,
@@ -155,7 +156,7 @@ fn enclosed(
     Ok((tree, after))
 }
 
-/// Trees joined by `||`; one alone stays as it is.
+/// Trees joined by `||`; a single tree is returned as it is.
 fn joined_by_or(mut trees: Vec<Tree>) -> Tree
     requires { 0 < length trees.items }
     ensures { clause_of result ≡ any_joined (clauses_of (map clause_of trees.items)) }
@@ -166,7 +167,7 @@ fn joined_by_or(mut trees: Vec<Tree>) -> Tree
     Tree::any(trees)
 }
 
-/// Trees joined by `&&`; one alone stays as it is.
+/// Trees joined by `&&`; a single tree is returned as it is.
 fn joined_by_and(mut trees: Vec<Tree>) -> Tree
     requires { 0 < length trees.items }
     ensures { clause_of result ≡ all_joined (clauses_of (map clause_of trees.items)) }
@@ -177,7 +178,7 @@ fn joined_by_and(mut trees: Vec<Tree>) -> Tree
     Tree::all(trees)
 }
 
-/// Operands joined by `&&`. A loop, so a long flat list takes no depth of calls.
+/// Parses operands joined by `&&`. A loop, so that a long list does not deepen the call stack.
 #[cycle(descent)]
 fn conjunction(
     alloc: Global,
@@ -203,7 +204,7 @@ fn conjunction(
     }
 }
 
-/// Conjunctions joined by `||`.
+/// Parses conjunctions joined by `||`. A loop, for the same reason.
 #[cycle(descent)]
 fn disjunction(
     alloc: Global,
@@ -229,8 +230,8 @@ fn disjunction(
     }
 }
 
-/// The tree of the tokens, or the fault that reading them meets first: `Unexpected` (31),
-/// `TooDeep` (32) or `BadNumber` (33); or want of memory.
+/// Parses all tokens. Errors: the first of `Unexpected` (31), `TooDeep` (32) and `BadNumber` (33) from the
+/// left, or `NoMemory`.
 pub(crate) fn parse_tokens(alloc: Global, tokens: &[Token]) -> Result<Tree, Failure<WhenFault>>
     ensures { Gives clause_of result (clause_of_tokens tokens.now) }
 {

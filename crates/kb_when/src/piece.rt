@@ -1,5 +1,5 @@
-//! Pieces of a text that are tokens, whose characters the text still holds. Finding them takes no
-//! memory, so that a fault is the text's.
+//! Tokens that borrow their characters from the text. Finding them allocates nothing, so its result is
+//! never `NoMemory`.
 ghost use Rattle.std.specs.Prelude.{◌≡◌, IfOk, false};
 ghost use Rattle.kb_when.specs.Characters.{bytes_of};
 ghost use Rattle.kb_when.specs.Tokenizer.{pattern_text};
@@ -7,10 +7,10 @@ ghost use Rattle.kb_when.specs.Tokenizer.{pattern_text};
 use crate::characters::text_of;
 use crate::operator::Operator;
 use crate::token::Token;
-use kb_context::{NoMemory, Text};
+use kb_base::{NoMemory, Text};
 use std::alloc::Global;
 
-/// A token that has no text.
+/// A token without a text.
 #[derive(Clone, Copy)]
 pub(crate) enum Sign {
     /// `||`.
@@ -33,16 +33,16 @@ pub(crate) enum Sign {
     Comparison(Operator),
 }
 
-/// The characters of a token.
+/// A token, with characters borrowed from the text.
 #[derive(Clone, Copy)]
 pub(crate) enum Piece<'c> {
-    /// Those of a sign or a comparison.
+    /// A sign or a comparison.
     Sign(Sign),
     /// A word.
     Word(&'c [char]),
-    /// What stands between single quotes.
+    /// The characters between single quotes.
     Quoted(&'c [char]),
-    /// What stands between slashes, and the letters behind them.
+    /// The characters between slashes, and the letters after them.
     Pattern(&'c [char], &'c [char]),
 }
 
@@ -69,7 +69,7 @@ impl Sign {
 impl Piece<'_> {
     ghost use Rattle.kb_when.specs.Tokenizer.{token_of};
 
-    /// The token, which takes memory for its texts.
+    /// The token, with copies of its texts. Error: `NoMemory`.
     pub(crate) fn token(self, alloc: Global) -> Result<Token, NoMemory>
         ensures { IfOk result (λ token. token ≡ token_of self.entry) }
     {
@@ -85,7 +85,7 @@ impl Piece<'_> {
     }
 }
 
-/// The text of a pattern, in which the pair of a backslash and a `/` is a `/`.
+/// The text of a pattern, in which `\/` is replaced by `/`. Error: `NoMemory`.
 fn pattern_of(alloc: Global, characters: &[char]) -> Result<Text, NoMemory>
     ensures { IfOk result (λ text. text ≡ bytes_of (pattern_text false characters.now)) }
 {

@@ -1,14 +1,14 @@
-//! A clause that several hold.
+//! Clauses with several owners.
 ghost use Rattle.std.specs.Prelude.{◌≡◌, IfOk};
 
 use crate::clause::Clause;
-use kb_context::NoMemory;
+use kb_base::NoMemory;
 use std::alloc::Global;
 use std::marker::Model;
 use std::rc::Rc;
 
-/// A clause that several hold, as a contributed command does and the search that asks it. Contracts see the
-/// clause itself.
+/// A clause with several owners, for example a contributed command and the resolver. Contracts see the
+/// clause.
 #[derive(Debug, Drop)]
 pub struct SharedClause {
     clause: Rc<Clause>,
@@ -25,7 +25,7 @@ impl Model for SharedClause {
 }
 
 impl SharedClause {
-    /// The clause, for several to hold. `NoMemory` where memory was refused.
+    /// Makes a clause shareable. Error: `NoMemory`.
     pub fn new(alloc: Global, clause: Clause) -> Result<SharedClause, NoMemory>
         ensures { IfOk result (λ made. made ≡ clause) }
     {
@@ -34,8 +34,8 @@ impl SharedClause {
         })
     }
 
-    /// The same clause for one more to hold. It isn't copied. `NoMemory` where the count of those that hold
-    /// it can't grow.
+    /// One more owner of the same clause, without a copy. Error: `NoMemory` if the reference count cannot
+    /// grow.
     pub fn share(&self) -> Result<SharedClause, NoMemory>
         ensures { IfOk result (λ made. made ≡ self.now) }
     {
@@ -44,7 +44,7 @@ impl SharedClause {
         })
     }
 
-    /// The clause, lent. It takes no memory.
+    /// The clause.
     pub fn as_clause(&self) -> &Clause
         ensures { result.now ≡ self.now }
     {

@@ -1,8 +1,8 @@
-//! The tokens of clauses.
+//! Tokens of clauses.
 use crate::operator::Operator;
-use kb_context::Text;
+use kb_base::Text;
 
-/// A token of a clause. `===` and `!==` are read as `==` and `!=`.
+/// A token of a clause. `===` is read as `==`, and `!==` as `!=`.
 #[derive(Drop)]
 pub(crate) enum Token {
     /// `||`.
@@ -25,8 +25,8 @@ pub(crate) enum Token {
     Like,
     /// A word: a key, a value, a number, `true`, `false`, `in` or `not`.
     Word(Text),
-    /// A text in single quotes, without them.
+    /// The text between single quotes.
     Quoted(Text),
-    /// A pattern between slashes and the letters behind it.
+    /// The pattern between slashes, and the letters after it.
     Pattern(Text, Text),
 }

@@ -1,9 +1,9 @@
-//! Tokens from texts. At each place the first rule that applies is taken: a comparison, a sign, a
-//! pattern, a quoted text, a word.
+//! Splits texts into tokens. At each position, the first rule that applies wins: a comparison, another
+//! sign, a pattern, a quoted text, a word.
 ghost use Rattle.std.specs.Prelude.{◌≡◌, ◌+◌, ◌<◌, ◌≤◌, if◌then◌else◌, false, chars, length};
 ghost use Rattle.std.specs.Prelude.{IfOk, IfSome, option_map, is_some};
-ghost use Rattle.kb_context.specs.Failure.{Gives};
-ghost use Rattle.kb_context.specs.Reading.{or_fault, seen};
+ghost use Rattle.kb_base.specs.Failure.{Gives};
+ghost use Rattle.kb_base.specs.Reading.{or_fault, seen};
 ghost use Rattle.kb_when.specs.Characters.{behind_sign};
 ghost use Rattle.kb_when.specs.Tokenizer.{blank_around, next_comparison, next_sign, up_to_close, from_close};
 ghost use Rattle.kb_when.specs.Tokenizer.{next_pattern, next_quoted, next_word, next_token, is_like};
@@ -16,10 +16,10 @@ use crate::fault::WhenFault;
 use crate::operator::Operator;
 use crate::piece::{Piece, Sign};
 use crate::token::Token;
-use kb_context::{Failure, NoMemory};
+use kb_base::{Failure, NoMemory};
 use std::alloc::Global;
 
-/// The comparisons, a longer one before a shorter one.
+/// The comparisons, longer ones before shorter ones.
 const COMPARISONS: [(&[char], Operator); 4] = [
     (&['<', '='], Operator::AtMost),
     (&['>', '='], Operator::AtLeast),
@@ -27,7 +27,7 @@ const COMPARISONS: [(&[char], Operator); 4] = [
     (&['>'], Operator::Above),
 ];
 
-/// The other signs, a longer one before a shorter one.
+/// The other signs, longer ones before shorter ones.
 const SIGNS: [(&[char], Sign); 10] = [
     (&['=', '=', '='], Sign::Equal),
     (&['!', '=', '='], Sign::Unequal),
@@ -41,7 +41,7 @@ const SIGNS: [(&[char], Sign); 10] = [
     (&[')'], Sign::Close),
 ];
 
-/// The longest sign that the characters begin with, and what follows it.
+/// The longest sign at the beginning of the characters, and the characters after it.
 fn sign(characters: &[char]) -> Option<(Sign, &[char])>
     ensures value { (other : _) → next_sign characters.now other ≡
         (if is_some result then option_map (λ r. (token_of_sign r.0, r.1.now)) result else other) }
@@ -55,7 +55,8 @@ fn sign(characters: &[char]) -> Option<(Sign, &[char])>
     None
 }
 
-/// What follows a sign that white space stands around.
+/// The characters after a sign that has white space on both sides. `spaced`: whether white space comes
+/// before it.
 fn after_spaced<'c>(characters: &'c [char], sign: &[char], spaced: bool) -> Option<&'c [char]>
     ensures value { option_map (λ r. r.now) result ≡
         blank_around spaced (behind_sign sign.now characters.now) }
@@ -69,7 +70,7 @@ fn after_spaced<'c>(characters: &'c [char], sign: &[char], spaced: bool) -> Opti
     }
 }
 
-/// The comparison that the characters begin with, and what follows it.
+/// The comparison at the beginning of the characters, and the characters after it.
 fn comparison(characters: &[char], spaced: bool) -> Option<(Operator, &[char])>
     ensures value { (other : _) → next_comparison spaced characters.now other ≡
         (if is_some result then option_map (λ r. (Comparison r.0, r.1.now)) result else other) }
@@ -83,8 +84,8 @@ fn comparison(characters: &[char], spaced: bool) -> Option<(Operator, &[char])>
     None
 }
 
-/// A pattern's characters up to the `/` that closes it, and what begins there. A backslash and the
-/// character behind it are one pair, and inside `[..]` a `/` closes nothing.
+/// The characters of a pattern before its closing `/`, and the characters from there on. A backslash and
+/// the character after it form a pair, and a `/` inside `[..]` does not close the pattern.
 fn split_pattern(characters: &[char]) -> (&[char], &[char])
     ensures front { result.0.now ≡ up_to_close false false characters.now }
     ensures rest { result.1.now ≡ from_close false false characters.now }
@@ -107,7 +108,7 @@ fn split_pattern(characters: &[char]) -> (&[char], &[char])
     (characters, &characters[characters.len()..])
 }
 
-/// The pattern behind its first `/`.
+/// The pattern after its opening `/`, or `None` if it is not closed.
 fn pattern(characters: &[char]) -> Option<(Piece<'_>, &[char])>
     ensures value { option_map (λ r. (token_of r.0, r.1.now)) result ≡ next_pattern characters.now }
     ensures shorter { IfSome result (λ r. length r.1.now < length characters.now) }
@@ -118,7 +119,7 @@ fn pattern(characters: &[char]) -> Option<(Piece<'_>, &[char])>
     Some((Piece::Pattern(text, flags), rest))
 }
 
-/// The quoted text behind its first quote.
+/// The quoted text after its opening quote, or `None` if it is not closed.
 fn quotation(characters: &[char]) -> Option<(Piece<'_>, &[char])>
     ensures value { option_map (λ r. (token_of r.0, r.1.now)) result ≡ next_quoted characters.now }
     ensures shorter { IfSome result (λ r. length r.1.now < length characters.now) }
@@ -128,7 +129,7 @@ fn quotation(characters: &[char]) -> Option<(Piece<'_>, &[char])>
     Some((Piece::Quoted(text), rest))
 }
 
-/// The word that the characters begin with, if they begin with one.
+/// The word at the beginning of the characters, or `None` if there is none.
 fn word(characters: &[char]) -> Option<(Piece<'_>, &[char])>
     ensures value { option_map (λ r. (token_of r.0, r.1.now)) result ≡ next_word characters.now }
     ensures shorter { IfSome result (λ r. length r.1.now < length characters.now) }
@@ -140,8 +141,8 @@ fn word(characters: &[char]) -> Option<(Piece<'_>, &[char])>
     Some((Piece::Word(text), rest))
 }
 
-/// The piece that the characters begin with, where white space stands before them or doesn't, and
-/// the token before is `=~` or isn't.
+/// The token at the beginning of the characters. `spaced`: whether white space comes before them.
+/// `behind_like`: whether the token before is `=~`.
 fn next_piece(characters: &[char], spaced: bool, behind_like: bool) -> Option<(Piece<'_>, &[char])>
     ensures value { option_map (λ r. (token_of r.0, r.1.now)) result ≡
         next_token spaced behind_like characters.now }
@@ -162,7 +163,7 @@ fn next_piece(characters: &[char], spaced: bool, behind_like: bool) -> Option<(P
     word(characters)
 }
 
-/// The next piece, or `BadToken` where there is none.
+/// The next token. Error: `BadToken`.
 fn read_piece(
     characters: &[char],
     spaced: bool,
@@ -181,8 +182,8 @@ fn is_like(token: &Token) -> bool
     matches!(token, Token::Like)
 }
 
-// They are pushed one by one, since `collect` goes on where its guess at the length finds no memory, and
-// each want ends the reading.
+// Characters are pushed one by one: `collect` continues if the allocation for its size hint is refused,
+// but here every refusal must end the reading.
 fn characters_of(alloc: Global, text: &str) -> Result<Vec<char>, NoMemory>
     ensures { IfOk result (λ characters. characters.items ≡ chars text.now) }
 {
@@ -193,7 +194,8 @@ fn characters_of(alloc: Global, text: &str) -> Result<Vec<char>, NoMemory>
     Ok(characters)
 }
 
-/// The tokens of a text, or `BadToken` (30) where one can't be read, or want of memory.
+/// Splits a text into tokens. Errors: `BadToken` (30) if a part of the text is not a token, and
+/// `NoMemory`.
 pub(crate) fn tokenize(alloc: Global, text: &str) -> Result<Vec<Token>, Failure<WhenFault>>
     ensures { Gives (λ tokens. tokens.items) result (tokens_or_fault text.now) }
 {

@@ -5,10 +5,10 @@ ghost use Rattle.kb_when.specs.Same.{same_all};
 ghost use Rattle.kb_when.specs.Tree.{clause_of, clauses_of};
 
 use crate::operator::Operator;
-use kb_context::Text;
+use kb_base::Text;
 use kb_pattern::Pattern;
 
-/// A clause as the program holds it. Parentheses leave no node of their own.
+/// The tree of a clause. Parentheses have no node of their own.
 #[derive(Debug, Drop)]
 pub(crate) enum Tree {
     /// `true`.
@@ -17,24 +17,24 @@ pub(crate) enum Tree {
     False,
     /// A key alone.
     Key(Text),
-    /// A key and the text that its value is to be.
+    /// A key and the text that its value must equal.
     Equals(Text, Text),
-    /// A key and the number that its value is compared with.
+    /// A key and the number with which its value is compared.
     Compare(Text, Operator, i64),
-    /// A key and the pattern that its value is to match.
+    /// A key and the pattern that its value must match.
     Matches(Text, Pattern),
-    /// A key, and the key of the list or object in which its value is to be.
+    /// A key, and the key of the list or object that must contain its value.
     Member(Text, Text),
-    /// What is not to hold.
+    /// The negation of a tree.
     Not(Box<Tree>),
-    /// Two or more that are all to hold, in the order of the text.
+    /// Two or more trees that must all hold, in the order of the text.
     And(Vec<Tree>),
-    /// Two or more of which one is to hold, in the order of the text.
+    /// Two or more trees of which one must hold, in the order of the text.
     Or(Vec<Tree>),
 }
 
-/// The trees by their cases. The clause of a tree is a fold, which doesn't compute in a proof:
-/// these functions say what each case stands for.
+/// One constructor for each case. The clause of a tree is a fold, which does not compute in a proof. The
+/// contracts of these functions state its value for each case.
 impl Tree {
     ghost use Rattle.kb_when.specs.Clause.{always, never, key, equals, compare, matches, member};
     ghost use Rattle.kb_when.specs.Clause.{not_of, all_of, any_of};
@@ -131,7 +131,7 @@ impl Tree {
     ghost use Rattle.kb_when.specs.Same.{same, is_key, is_equals, is_compare, is_matches, is_member};
     ghost use Rattle.kb_when.specs.Tree.{clause_of};
 
-    /// Whether it is the key alone.
+    /// Whether this is the key alone.
     fn is_key(&self, key: &Text) -> bool
         ensures { result ≡ is_key key.now (clause_of self.now) }
     {
@@ -141,7 +141,7 @@ impl Tree {
         }
     }
 
-    /// Whether it is the key with this text.
+    /// Whether this is the key with the same text.
     fn is_equals(&self, key: &Text, text: &Text) -> bool
         ensures { result ≡ is_equals key.now text.now (clause_of self.now) }
     {
@@ -151,7 +151,7 @@ impl Tree {
         }
     }
 
-    /// Whether it is the key, compared so with this number.
+    /// Whether this is the key with the same comparison and the same number.
     fn is_compare(&self, key: &Text, operator: Operator, number: i64) -> bool
         ensures { result ≡ is_compare key.now operator number (clause_of self.now) }
     {
@@ -163,7 +163,7 @@ impl Tree {
         }
     }
 
-    /// Whether it is the key with this pattern.
+    /// Whether this is the key with the same pattern.
     fn is_matches(&self, key: &Text, pattern: &Pattern) -> bool
         ensures { result ≡ is_matches key.now pattern.now.text pattern.now.flags (clause_of self.now) }
     {
@@ -173,7 +173,7 @@ impl Tree {
         }
     }
 
-    /// Whether it is the key in this list or object.
+    /// Whether this is the key with the same list or object.
     fn is_member(&self, key: &Text, among: &Text) -> bool
         ensures { result ≡ is_member key.now among.now (clause_of self.now) }
     {
@@ -183,7 +183,7 @@ impl Tree {
         }
     }
 
-    /// Whether both are one clause. It takes no memory.
+    /// Whether both trees are the same clause.
     #[cycle(same)]
     #[tactic(auto, using(crate::proofs::MarkedLemmas::and_seen, crate::proofs::MarkedLemmas::or_seen))]
     pub(crate) fn same(&self, other: &Tree) -> bool

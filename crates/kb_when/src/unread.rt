@@ -1,34 +1,34 @@
-//! Patterns of a clause that `regex` doesn't read.
+//! Patterns of clauses that `regex` rejects.
 ghost use Rattle.std.specs.Prelude.{◌≡◌, [], map, OnOk, IfOk};
 ghost use Rattle.kb_when.specs.Tree.{marked_of};
 ghost use Rattle.kb_when.specs.Unread.{IsKept};
 
 use crate::tree::Tree;
-use kb_context::{NoMemory, Seq, Text};
+use kb_base::{NoMemory, Seq, Text};
 use kb_pattern::Pattern;
 use std::alloc::Global;
 
-/// A pattern of a clause that `regex` doesn't read. What it stands for never holds (our decision).
+/// A pattern of a clause that `regex` rejects. It never matches (our decision).
 #[derive(Debug, Drop)]
-pub struct UnreadPattern {
-    /// Its number among the clause's patterns in the order of the text, from 0.
+pub struct ClausePattern {
+    /// Its index among the clause's patterns in the order of the text, from 0.
     pub number: usize,
-    /// The pattern, without its flags.
+    /// The pattern's text, without its flags.
     pub pattern: Text,
 }
 
-/// The patterns so far: whether each is marked, and those that are.
+/// The patterns visited so far: the mark of each, and the unread ones.
 #[derive(Drop)]
 pub(crate) struct Noted {
     pub(crate) marks: Seq<bool>,
-    pub(crate) unread: Seq<UnreadPattern>,
+    pub(crate) unread: Seq<ClausePattern>,
 }
 
 impl Noted {
     ghost use Rattle.kb_when.specs.Unread.{note};
     ghost use Rattle.kb_pattern.specs.Pattern.{HasRightMark};
 
-    /// No pattern so far.
+    /// No patterns.
     fn new(alloc: Global) -> Noted
         ensures { result ≡ record { marks = []; unread = [] } }
     {
@@ -38,7 +38,7 @@ impl Noted {
         }
     }
 
-    /// Notes one more pattern.
+    /// Adds one more pattern. Error: `NoMemory`.
     fn note(&mut self, pattern: &Pattern) -> Result<(), NoMemory>
         ensures noted { OnOk result (self.new ≡ note self.old pattern.now) }
         ensures right { HasRightMark pattern.now }
@@ -48,7 +48,7 @@ impl Noted {
         self.marks.push(is_unread)?;
         if is_unread {
             let pattern = pattern.text().copied()?;
-            self.unread.push(UnreadPattern { number, pattern })?;
+            self.unread.push(ClausePattern { number, pattern })?;
         }
         Ok(())
     }
@@ -59,7 +59,7 @@ impl Tree {
     ghost use Rattle.kb_when.specs.Tree.{marked_of, markeds_of};
     ghost use Rattle.kb_when.specs.Unread.{note_all, HaveRightMarks};
 
-    /// Notes the patterns of trees.
+    /// Adds the patterns of several trees, in order. Error: `NoMemory`.
     #[cycle(noting)]
     fn note_trees(trees: &[Tree], noted: &mut Noted) -> Result<(), NoMemory>
         ensures noted { OnOk result (noted.new ≡
@@ -73,7 +73,7 @@ impl Tree {
         Ok(())
     }
 
-    /// Notes the patterns of a tree in the order of the text.
+    /// Adds the patterns of a tree, in the order of the text. Error: `NoMemory`.
     #[cycle(noting)]
     fn note_patterns(&self, noted: &mut Noted) -> Result<(), NoMemory>
         ensures noted { OnOk result (noted.new ≡
@@ -95,8 +95,8 @@ impl Tree {
     }
 }
 
-/// The patterns of a tree that `regex` doesn't read.
-pub(crate) fn unread_patterns(alloc: Global, tree: &Tree) -> Result<Seq<UnreadPattern>, NoMemory>
+/// The patterns of a tree that `regex` rejects. Error: `NoMemory`.
+pub(crate) fn unread_patterns(alloc: Global, tree: &Tree) -> Result<Seq<ClausePattern>, NoMemory>
     ensures { IfOk result (IsKept (marked_of tree.now)) }
 {
     let mut noted = Noted::new(alloc);

@@ -1,4 +1,4 @@
-//! The values of clauses over the values of context keys.
+//! Evaluation of clauses.
 ghost use Rattle.std.specs.Prelude.{◌≡◌, IfOk, IfErr, map, option_copied};
 ghost use Rattle.std.specs.FinMap.{get};
 ghost use Rattle.std.specs.List.{list_any};
@@ -10,11 +10,12 @@ use crate::number::{is_spelling, read_number};
 use crate::operator::Operator;
 use crate::tree::Tree;
 use itoa::Buffer;
-use kb_context::{ContextValue, NoMemory, Scopes, Seq, Text};
+use kb_base::{NoMemory, Seq, Text};
+use kb_context::{ContextValue, Scopes};
 use kb_pattern::Pattern;
 use std::alloc::Global;
 
-/// Whether a key alone holds.
+/// Whether a key alone holds: its value is not absent, `false`, 0 or the empty text.
 fn key_of(value: Option<&ContextValue>) -> bool
     ensures { result ≡ key_holds (option_copied value.entry) }
 {
@@ -28,7 +29,7 @@ fn key_of(value: Option<&ContextValue>) -> bool
     }
 }
 
-/// Whether a key's value is a text, or a number of that spelling.
+/// Whether a key's value is this text, or a number whose decimal form is this text.
 fn equals_of(value: Option<&ContextValue>, text: &str) -> bool
     ensures { result ≡ equals_holds (option_copied value.entry) text.now }
 {
@@ -39,7 +40,7 @@ fn equals_of(value: Option<&ContextValue>, text: &str) -> bool
     }
 }
 
-/// Whether a key's value is a number, or a text that spells one, of which the comparison is true.
+/// Whether a key's value is a number, or the text of a number, for which the comparison holds.
 fn compare_of(value: Option<&ContextValue>, operator: Operator, number: i64) -> bool
     ensures { result ≡ compare_holds (option_copied value.entry) operator number }
 {
@@ -53,8 +54,8 @@ fn compare_of(value: Option<&ContextValue>, operator: Operator, number: i64) -> 
     }
 }
 
-/// Whether a key's value is a text that the pattern matches somewhere. That of a number is its decimal
-/// spelling, that of a truth value `true` or `false`.
+/// Whether the pattern matches somewhere in a key's value. A number is matched in its decimal form, a
+/// boolean as `true` or `false`. Error: `NoMemory`.
 fn match_of(
     alloc: Global,
     value: Option<&ContextValue>,
@@ -86,8 +87,8 @@ fn contains(texts: &Seq<Text>, text: &str) -> bool
     false
 }
 
-/// Whether a key's value is a text that another key's list contains, or that is the name of a
-/// member of its object.
+/// Whether a key's value is a text that is an element of the other key's list, or a member's name of its
+/// object.
 fn member_of(value: Option<&ContextValue>, other: Option<&ContextValue>) -> bool
     ensures { result ≡ member_holds (option_copied value.entry) (option_copied other.entry) }
 {
@@ -101,28 +102,28 @@ fn member_of(value: Option<&ContextValue>, other: Option<&ContextValue>) -> bool
     }
 }
 
-/// Whether a key alone holds in scopes.
+/// Whether a key alone holds in these scopes.
 fn key_in(scopes: &Scopes, key: &Text) -> bool
     ensures { result ≡ key_holds (get (context scopes.now) key.now) }
 {
     key_of(scopes.get(key.as_str()))
 }
 
-/// Whether a key's value in scopes is a text, or a number of that spelling.
+/// Whether a key's value in these scopes is this text, or a number whose decimal form is this text.
 fn equals_in(scopes: &Scopes, key: &Text, text: &Text) -> bool
     ensures { result ≡ equals_holds (get (context scopes.now) key.now) text.now }
 {
     equals_of(scopes.get(key.as_str()), text.as_str())
 }
 
-/// Whether the comparison is true of a key's value in scopes.
+/// Whether the comparison holds for a key's value in these scopes.
 fn compare_in(scopes: &Scopes, key: &Text, operator: Operator, number: i64) -> bool
     ensures { result ≡ compare_holds (get (context scopes.now) key.now) operator number }
 {
     compare_of(scopes.get(key.as_str()), operator, number)
 }
 
-/// Whether the pattern matches a key's value in scopes.
+/// Whether the pattern matches a key's value in these scopes. Error: `NoMemory`.
 fn match_in(alloc: Global, scopes: &Scopes, key: &Text, pattern: &Pattern) -> Result<bool, NoMemory>
     ensures { IfOk result (λ holds.
         holds ≡ match_holds (get (context scopes.now) key.now) pattern.now) }
@@ -130,7 +131,7 @@ fn match_in(alloc: Global, scopes: &Scopes, key: &Text, pattern: &Pattern) -> Re
     match_of(alloc, scopes.get(key.as_str()), pattern)
 }
 
-/// Whether another key's value in scopes has this one's.
+/// Whether the other key's value in these scopes contains this key's value.
 fn member_in(scopes: &Scopes, key: &Text, other: &Text) -> bool
     ensures { result ≡
         member_holds (get (context scopes.now) key.now) (get (context scopes.now) other.now) }
@@ -143,7 +144,7 @@ impl Tree {
     ghost use Rattle.kb_when.specs.Marked.{marked_value, all_marked_hold, any_marked_holds};
     ghost use Rattle.kb_when.specs.Marked.{patterns_in, all_patterns_in, HasPattern};
 
-    /// Whether all of these clauses hold.
+    /// Whether all of these trees hold. Error: `NoMemory`, only if one has a pattern.
     #[cycle(holding)]
     fn all_hold(alloc: Global, trees: &[Tree], scopes: &Scopes) -> Result<bool, NoMemory>
         ensures value { IfOk result (λ holds. holds ≡
@@ -159,7 +160,7 @@ impl Tree {
         Ok(true)
     }
 
-    /// Whether one of these clauses holds.
+    /// Whether one of these trees holds. Error: `NoMemory`, only if one has a pattern.
     #[cycle(holding)]
     fn any_holds(alloc: Global, trees: &[Tree], scopes: &Scopes) -> Result<bool, NoMemory>
         ensures value { IfOk result (λ holds. holds ≡
@@ -175,7 +176,8 @@ impl Tree {
         Ok(false)
     }
 
-    /// Whether the clause holds over the keys that the focus sees. Only patterns take memory.
+    /// Whether the tree holds for the keys that are visible from the focus. Error: `NoMemory`, only if it
+    /// has a pattern.
     #[cycle(holding)]
     pub(crate) fn holds(&self, alloc: Global, scopes: &Scopes) -> Result<bool, NoMemory>
         ensures value { IfOk result (λ holds.

@@ -1,8 +1,8 @@
-//! The host's closures: their registration while a session runs, and its end.
+//! The registration and disposal of the host's closures during a session.
 ghost use Rattle.std.specs.Prelude.{◌≡◌, ◌<◌, false, [], ◌∷◌, ◌++◌, Some, None};
 ghost use Rattle.std.specs.Prelude.{IfOk, IfErr, OnOk, OnErr};
-ghost use Rattle.kb_context.specs.Refusal.{refused_for};
-ghost use Rattle.kb_codes.specs.Live.{caller_of};
+ghost use Rattle.kb_base.specs.Refusal.{refused_for};
+ghost use Rattle.kb_handler_table.specs.Live.{caller_of};
 ghost use Rattle.kb_registry.specs.Live.{registration_fault, holder};
 ghost use Rattle.kb_session.specs.Session.{Answers, RefusesAt};
 ghost use Rattle.kb_session.specs.State.{Told, register, dispose, ticket, gave, refuse, step_on};
@@ -10,18 +10,18 @@ ghost use Rattle.kb_trace.specs.Lines as line;
 
 use crate::fault::SessionFault;
 use crate::session::Session;
-use kb_context::{NoMemory, Refusal};
+use kb_base::{NoMemory, Refusal};
 use kb_core::Native;
 use kb_registry::{HostCommand, RegistryFault, Ticket};
 use kb_trace::lines;
 
 impl<C: HostCommand> Session<C> {
-    /// Registers a closure, which is live from then on, and gives its ticket. A chord that is open stays (our
-    /// decision).
+    /// Registers a closure for its native command, and returns its ticket. An open chord stays open
+    /// (our decision).
     ///
-    /// Errors, with the closure: `Refused` where a closure for its native is live (70), or 1,000,000 were
-    /// registered (71); `Stopped` where the session was stopped before; `NoMemory` where memory was refused:
-    /// the session is stopped and else as before.
+    /// Errors, each with the closure: `Refused` if a closure is already registered for the native
+    /// command (70), or after 1,000,000 registrations (71); `Stopped` if the session was already
+    /// stopped; `NoMemory` if memory was refused. Then the session is stopped and otherwise unchanged.
     pub fn register(&mut self, command: C) -> Result<Ticket, (C, SessionFault)>
         ensures ok { IfOk result (λ made.
             Answers (register (C.stands_for command)) self.old (ticket made.0) self.new) }
@@ -40,12 +40,13 @@ impl<C: HostCommand> Session<C> {
         }
     }
 
-    /// Ends the registration that has a ticket, and gives its closure back. A chord that is open stays (our
+    /// Ends the registration with a ticket, and returns its closure. An open chord stays open (our
     /// decision).
     ///
-    /// Errors: `Refused` where no closure that is live has the ticket (72), or a live handler calls its
-    /// native (73, with the first such handler's command); `Stopped` where the session was
-    /// stopped before; `NoMemory` where memory was refused: the session is stopped and else as before.
+    /// Errors: `Refused` if no registered closure has the ticket (72), or if a live handler calls the
+    /// native command (73, with the command of the first such handler); `Stopped` if the session was
+    /// already stopped; `NoMemory` if memory was refused. Then the session is stopped and otherwise
+    /// unchanged.
     pub fn dispose(&mut self, ticket: Ticket) -> Result<C, SessionFault>
         ensures ok { IfOk result (λ command.
             Answers (dispose ticket.0) self.old (gave (C.stands_for command)) self.new) }
@@ -60,7 +61,7 @@ impl<C: HostCommand> Session<C> {
         }
     }
 
-    /// Takes the closure of a ticket out, unless a live handler calls its native.
+    /// Ends the registration of a native command, unless a live handler calls it.
     fn release_unless_called(&mut self, native: Native, ticket: Ticket) -> Result<C, SessionFault>
         requires running { self.old.state.stopped ≡ false }
         requires held { holder ticket.0 self.old.state.live ≡ Some native }
@@ -80,7 +81,7 @@ impl<C: HostCommand> Session<C> {
         }
     }
 
-    /// Notes the line of a refusal, and gives the refusal, or stops the session where memory is refused.
+    /// Adds the line of a refusal and returns the refusal. On refused memory it stops the session.
     fn refuse_disposal(&mut self, refusal: Refusal) -> SessionFault
         requires running { self.old.state.stopped ≡ false }
         ensures { (told : Told) → step_on told self.old.state ≡ refuse refusal self.old.state
@@ -92,8 +93,8 @@ impl<C: HostCommand> Session<C> {
         }
     }
 
-    /// Registers a closure that nothing forbids. The line comes first, since it is taken back where the
-    /// closure can't be held.
+    /// Registers a closure; no fault prevents it. The line is written first, and removed again if the
+    /// registry is refused memory.
     #[tactic(auto, using(kb_stream::proofs::Undoing::undoing))]
     fn admit(&mut self, command: C) -> Result<Ticket, (C, SessionFault)>
         requires running { self.old.state.stopped ≡ false }
@@ -116,7 +117,7 @@ impl<C: HostCommand> Session<C> {
         }
     }
 
-    /// Takes the closure of a ticket out. The line comes first, since it takes memory and the rest doesn't.
+    /// Ends a registration. The line is written first, since only it allocates.
     fn release(&mut self, native: Native, ticket: Ticket) -> Result<C, SessionFault>
         requires running { self.old.state.stopped ≡ false }
         requires held { holder ticket.0 self.old.state.live ≡ Some native }
@@ -134,7 +135,7 @@ impl<C: HostCommand> Session<C> {
         }
     }
 
-    /// Notes the line of a refusal, and gives the refusal.
+    /// Adds the line of a refusal, and returns the refusal.
     fn note_refusal(&mut self, refusal: Refusal) -> Result<Refusal, NoMemory>
         ensures refusal { IfOk result (λ noted. noted ≡ refusal) }
         ensures ok { OnOk result (self.new ≡ record self.old {

@@ -1,10 +1,10 @@
 use Rattle.std.proofs.Common.{◌≡◌, ◌++◌, drop}
 use Rattle.std.specs.List.{flat_map}
-use Rattle.kb_bindings.specs.Unread.{in_extension}
+use Rattle.kb_files.specs.Extension.{unread_in}
 use Rattle.kb_bindings.proofs.unread.add_of_extensions.Given as goal
 
 -- those so far, and then those of the extensions that are left
 abbrev pub invariant-loop-extension : goal.invariant-loop-extension
 invariant-loop-extension l =
-    l.all ++ flat_map in_extension (drop l.extension-index l.extensions)
-    ≡ l.fn.all ++ flat_map in_extension l.fn.extensions
+    l.all ++ flat_map unread_in (drop l.extension-index l.extensions)
+    ≡ l.fn.all ++ flat_map unread_in l.fn.extensions

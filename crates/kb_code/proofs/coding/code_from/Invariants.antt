@@ -1,5 +1,5 @@
 use Rattle.std.proofs.Common.{◌≡◌, ◌++◌, length}
-use Rattle.kb_context.specs.Reading.{seen}
+use Rattle.kb_base.specs.Reading.{seen}
 use Rattle.kb_code.specs.Coding.{code_from}
 use Rattle.kb_code.proofs.coding.code_from.Given as goal
 

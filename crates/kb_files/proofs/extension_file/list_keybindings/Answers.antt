@@ -2,7 +2,7 @@ use Rattle.std.proofs.Common.{◌≡◌, sym, subst, map, Some, List, IfOk}
 use Rattle.serde_json.specs.Data.{Data}
 use Rattle.serde_json.specs.View.{view}
 use Rattle.kb_rules.specs.RuleList.{Listed, listed}
-use Rattle.kb_rules.specs.declared.origin.Origin.TheVariants.{Extension}
+use Rattle.kb_base.specs.declared.note.Origin.TheVariants.{Extension}
 use Rattle.kb_files.proofs.Elements.{elements_view}
 use Rattle.kb_files.proofs.extension_file.list_keybindings.Goals as goal
 

@@ -1,8 +1,8 @@
 use Rattle.std.proofs.Common.{sym, ap, ◌∙◌, map, Some, List, Option}
 use Rattle.serde_json.specs.Data.{Data}
 use Rattle.serde_json.specs.View.{view}
-use Rattle.kb_context.specs.Reading.{or_fault}
-use Rattle.kb_context.specs.Refusal.{numbered}
+use Rattle.kb_base.specs.Reading.{or_fault}
+use Rattle.kb_base.specs.Refusal.{numbered}
 use Rattle.kb_json.specs.declared.fault.FileFault.TheVariants.{WrongShape}
 use Rattle.kb_json.specs.FileFault.{number_of}
 use Rattle.kb_files.proofs.Elements.{elements_view}

@@ -1,7 +1,7 @@
 use Rattle.std.proofs.Common.{◌≡◌, Ok, string_bytes}
 use Rattle.std.proofs.lemmas.Result.{err_from_is_err_and}
 use Rattle.std.specs.Str.{IsUtf8}
-use Rattle.kb_context.specs.Failure.{Fails}
+use Rattle.kb_base.specs.Failure.{Fails}
 use Rattle.kb_jsonc.specs.Text.{plain_text}
 use Rattle.kb_jsonc.specs.Reader.{without_mark}
 use Rattle.kb_jsonc.proofs.ReaderLemmas.{value_not_utf8, value_fault, value_whole}

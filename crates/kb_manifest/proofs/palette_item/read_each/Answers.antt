@@ -3,10 +3,10 @@ use Rattle.std.proofs.lemmas.Grind.{common_steps}
 use Rattle.std.proofs.lemmas.List.{append-nil, append_assoc}
 use Rattle.std.specs.Vec.Iter.{into_iter_items}
 use Rattle.serde_json.specs.View.{view, items_view}
-use Rattle.kb_manifest.specs.declared.warning.Part.TheVariants.{Palette}
+use Rattle.kb_base.specs.declared.note.Part.TheVariants.{Palette}
 use Rattle.kb_manifest.specs.Judged.{kept_in}
 use Rattle.kb_manifest.specs.PaletteItem.{judged_at, IsRightAt}
-use Rattle.kb_manifest.specs.declared.warning.Notes.{Notes}
+use Rattle.kb_manifest.specs.declared.notes.Notes.{Notes}
 use Rattle.kb_json.specs.Parts.{listed}
 use Rattle.kb_manifest.proofs.JudgedLemmas.{Goes, goes_on, ends, StaysRight, right_on, right_ends}
 use Rattle.kb_manifest.proofs.palette_item.read_each.Goals as goal
@@ -17,19 +17,19 @@ loop-entry-preserved c =
     let left = listed (items_view (into_iter_items c.next.new.self)) in
     let judged = c.in_ok-judged.judged in
     record {
-      goes = subst (Goes judged_at Palette ◌++◌ all (c.loop-entry.place + 1) left c.keep.new.items)
+      goes = subst (Goes judged_at c.args.origin Palette ◌++◌ all (c.loop-entry.place + 1) left c.keep.new.items)
           (sym c.in_ok-add.ensures)
-          (goes_on judged_at Palette ◌++◌ all left c.loop-entry.place (view c.in-Some.entry)
+          (goes_on judged_at c.args.origin Palette ◌++◌ all left c.loop-entry.place (view c.in-Some.entry)
           c.loop-entry.items c.keep.new.items c.loop-entry.notes judged c.in_ok-judged.ensures.read
           (λ xs. ap (λ t. t ++ xs) c.in_ok-keep.ensures
           ∙ append_assoc c.loop-entry.items (kept_in judged.kept) xs)
-          (subst (λ es. Goes judged_at Palette ◌++◌ all c.loop-entry.place (listed (items_view es))
+          (subst (λ es. Goes judged_at c.args.origin Palette ◌++◌ all c.loop-entry.place (listed (items_view es))
           c.loop-entry.items c.loop-entry.notes) c.in-Some.ensures.steps.0 c.loop-entry.invariant.goes));
-      right = subst (StaysRight IsRightAt all (c.loop-entry.place + 1) left)
+      right = subst (StaysRight IsRightAt c.args.origin Palette all (c.loop-entry.place + 1) left)
           (sym (ap (λ (n : Notes). n.unread) c.in_ok-add.ensures))
-          (right_on IsRightAt all left Palette c.loop-entry.place (view c.in-Some.entry)
+          (right_on IsRightAt c.args.origin Palette all left c.loop-entry.place (view c.in-Some.entry)
           c.loop-entry.notes.unread judged.unread c.loop-entry.invariant.goes.0 c.in_ok-judged.ensures.right
-          (subst (λ es. StaysRight IsRightAt all c.loop-entry.place (listed (items_view es))
+          (subst (λ es. StaysRight IsRightAt c.args.origin Palette all c.loop-entry.place (listed (items_view es))
           c.loop-entry.notes.unread) c.in-Some.ensures.steps.0 c.loop-entry.invariant.right));
       places = grind (arith, common_steps);
     }
@@ -38,9 +38,9 @@ pub returns-clause-read : goal.returns-clause-read
 returns-clause-read c =
     let all = listed (items_view c.args.entries.items) in
     let none : into_iter_items c.loop-entry.entry-iterator ≡ [] = grind (arith, common_steps) in
-    let whole = ends judged_at Palette ◌++◌ all c.loop-entry.place c.loop-entry.items c.loop-entry.notes
+    let whole = ends judged_at c.args.origin Palette ◌++◌ all c.loop-entry.place c.loop-entry.items c.loop-entry.notes
     (append-nil c.loop-entry.items)
-    (subst (λ es. Goes judged_at Palette ◌++◌ all c.loop-entry.place (listed (items_view es))
+    (subst (λ es. Goes judged_at c.args.origin Palette ◌++◌ all c.loop-entry.place (listed (items_view es))
     c.loop-entry.items c.loop-entry.notes) none c.loop-entry.invariant.goes) in
     λ i. (whole.0 i, whole.1 i)
 
@@ -48,6 +48,6 @@ pub returns-clause-right : goal.returns-clause-right
 returns-clause-right c =
     let all = listed (items_view c.args.entries.items) in
     let none : into_iter_items c.loop-entry.entry-iterator ≡ [] = grind (arith, common_steps) in
-    right_ends IsRightAt all c.loop-entry.place c.loop-entry.notes.unread
-    (subst (λ es. StaysRight IsRightAt all c.loop-entry.place (listed (items_view es))
+    right_ends IsRightAt c.args.origin Palette all c.loop-entry.place c.loop-entry.notes.unread
+    (subst (λ es. StaysRight IsRightAt c.args.origin Palette all c.loop-entry.place (listed (items_view es))
     c.loop-entry.notes.unread) none c.loop-entry.invariant.right)

@@ -6,7 +6,7 @@ use Rattle.kb_resolve.specs.Enablements.{enablement_in}
 use Rattle.kb_resolve.specs.Resolver.{chosen}
 use Rattle.kb_resolve.proofs.resolver.lowest.Given as goal
 
--- those that are left give the same
+-- the search in the remaining rules gives the result
 abbrev pub invariant-loop-rule : goal.invariant-loop-rule
 invariant-loop-rule l =
     chosen l.fn.pressed (context l.fn.scopes) (enablement_in l.fn.enablements)

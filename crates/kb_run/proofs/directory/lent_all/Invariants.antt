@@ -1,5 +1,5 @@
 use Rattle.std.proofs.Common.{◌≡◌, map, take}
-use Rattle.kb_bindings.specs.Load.{extension_bytes}
+use Rattle.kb_files.specs.Extensions.{extension_bytes}
 use Rattle.kb_run.specs.Directory.{bytes_held}
 use Rattle.kb_run.proofs.directory.lent_all.Given as goal
 

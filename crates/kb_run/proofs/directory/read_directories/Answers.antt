@@ -1,7 +1,7 @@
 use Rattle.std.proofs.Common.{◌≡◌, ◌++◌, ◌∷◌, [], ◌+◌, List, arith, rules, drop, map, subst, sym}
-use Rattle.kb_bindings.specs.Load.{ExtensionBytes}
+use Rattle.kb_files.specs.Extensions.{ExtensionBytes}
 use Rattle.kb_run.specs.Directory.{HasDirectories, bytes_held}
-use Rattle.kb_run.proofs.DirectoryLemmas.{directories_more, directories_end, stops_later}
+use Rattle.kb_run.proofs.DirectoryLemmas.{directories_more, directories_end, fails_later}
 use Rattle.kb_run.proofs.directory.read_directories.Goals as goal
 
 pub loop-dir-preserved : goal.loop-dir-preserved
@@ -16,8 +16,8 @@ loop-dir-preserved g c =
     c.loop-dir.invariant.0 in (
       subst (λ xs. (rest : List ExtensionBytes) → HasDirectories held (drop (i + 1) dirs) rest
           → HasDirectories held dirs (map bytes_held xs ++ rest)) (sym more) all,
-      λ stop why. c.loop-dir.invariant.1 stop
-          (stops_later held bytes_held dirs i _ got stop (omega arith) c.in_ok-read.ensures.ok why),
+      λ failure why. c.loop-dir.invariant.1 failure
+          (fails_later held bytes_held dirs i _ got failure (omega arith) c.in_ok-read.ensures.ok why),
     )
 
 pub returns-clause-ok : goal.returns-clause-ok

@@ -8,8 +8,8 @@ returns-in-Ok-write_from-clause-ok g c =
     c.in-Ok.ensures.ok (search rules)
     c.in-Ok-write_from.ensures.ok
 
-pub returns-in-Err-write_from-clause-err : goal.returns-in-Err-write_from-clause-err
-returns-in-Err-write_from-clause-err g c =
+pub returns-in-Err-clause-err : goal.returns-in-Err-clause-err
+returns-in-Err-clause-err g c =
     line_lacks c.obey.new.session.state.sources.user.unread c.args.number c.args.line.now _ _ _ _ c.len-before.result _
     c.in-Ok.ensures.ok (search rules)
-    c.in-Err-write_from.ensures.err
+    c.in-Err.ensures.err

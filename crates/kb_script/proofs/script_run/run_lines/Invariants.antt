@@ -4,13 +4,13 @@ use Rattle.kb_script.specs.Shelf.{beside}
 use Rattle.kb_script.proofs.ScriptRuns.{RunsUpTo}
 use Rattle.kb_script.proofs.script_run.run_lines.Given as goal
 
-abbrev pub invariant-loop-session : goal.invariant-loop-session
-invariant-loop-session g l =
+abbrev pub invariant-loop-after : goal.invariant-loop-after
+invariant-loop-after g l =
     RunsUpTo (said_of l.bytes) (beside l.fn.session (map g.C.HostCommand.stands_for l.fn.shelf.items))
     (beside l.session (map g.C.HostCommand.stands_for l.shelf.items))
     (g.W.Write.contents l.fn.writer) (g.W.Write.contents l.writer) (said_from l.number (lines_of l.rest))
     × (l.number + length l.rest ≤ length l.bytes + 1)
     × (l.session.state.stopped ≡ false)
 
-abbrev pub decreases-loop-session : goal.decreases-loop-session
-decreases-loop-session g l = length l.rest
+abbrev pub decreases-loop-after : goal.decreases-loop-after
+decreases-loop-after g l = length l.rest

@@ -1,6 +1,7 @@
 use Rattle.std.proofs.Common.{◌<◌, ◌^◌, sym, subst, length, arith}
 use Rattle.std.specs.Prelude.{slice_index}
-use Rattle.kb_verify.proofs.Dearest.{IsDearestPath, IsWalked, walk_start, walk_one, walk_jumps, walk_falls, walk_end}
+use Rattle.kb_verify.proofs.Dearest.{IsDearestPath, IsWalked, walk_start, walk_one, walk_jumps}
+use Rattle.kb_verify.proofs.Dearest.{walk_falls, walk_end}
 use Rattle.kb_verify.proofs.Edges.{at_place, reach_within}
 use Rattle.kb_verify.proofs.backward.dearest_path.Goals as goal
 

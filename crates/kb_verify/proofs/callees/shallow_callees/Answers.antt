@@ -6,7 +6,8 @@ use Rattle.kb_verify.specs.Accepted.{AreCallees, AreDeclared}
 use Rattle.kb_verify.proofs.Calls.{called_too, passed_too, declared_too, shallow_called, shallow_passed}
 use Rattle.kb_verify.proofs.Listed.{callees_are}
 use Rattle.kb_verify.proofs.callees.shallow_callees.Goals as goal
-use Rattle.kb_verify.proofs.callees.shallow_callees.Goals.{in-Some+else-depth+in_ok-share+in_ok-push, in_default}
+use Rattle.kb_verify.proofs.callees.shallow_callees.Goals.{in-Some+else-depth+in_ok-share+in_ok-push}
+use Rattle.kb_verify.proofs.callees.shallow_callees.Goals.{in_default}
 
 pub loop-place-init : goal.loop-place-init
 loop-place-init c = record {

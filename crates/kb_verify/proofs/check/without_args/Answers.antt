@@ -1,4 +1,5 @@
-use Rattle.std.proofs.Common.{◌≡◌, ◌<◌, ◌≤◌, ◌-◌, ◌∷◌, ◌∙◌, [], Some, suc, false, true, sym, ap, subst, arith, length, get_or, drop, take}
+use Rattle.std.proofs.Common.{◌≡◌, ◌<◌, ◌≤◌, ◌-◌, ◌∷◌, ◌∙◌, [], Some, suc, false, true, sym, ap, subst}
+use Rattle.std.proofs.Common.{arith, length, get_or, drop, take}
 use Rattle.std.specs.Prelude.{reverse, MatchOption, option_copied}
 use Rattle.kb_verify.specs.Check.{takes, takes_each, without_args}
 use Rattle.kb_verify.proofs.Lists.{takes_none, takes_rest, wrong_argument}

@@ -1,4 +1,4 @@
-use Rattle.kb_codes.specs.Found.{callee_of}
+use Rattle.kb_code.specs.Found.{callee_of}
 use Rattle.kb_vm.proofs.Turns.{found_callable}
 use Rattle.kb_vm.proofs.action.call.Goals as goal
 

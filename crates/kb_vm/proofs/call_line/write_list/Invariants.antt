@@ -4,7 +4,7 @@ use Rattle.kb_vm.specs.CallLine.{token_of}
 use Rattle.kb_vm.specs.Operand.{arg_of}
 use Rattle.kb_vm.proofs.call_line.write_list.Given as goal
 
--- the tokens so far, and then those of what is left
+-- the tokens so far, followed by those of the remaining values
 abbrev pub invariant-loop-value : goal.invariant-loop-value
 invariant-loop-value l = record {
   before : l.writer.before ≡ l.fn.writer.before;

@@ -1,8 +1,8 @@
 use Rattle.std.proofs.Common.{◌≤◌, ◌++◌, ◌∷◌, [], ap, sym, subst, ◌∙◌, arith}
 use Rattle.kb_vm.specs.CallLine.{call_line}
-use Rattle.kb_codes.specs.Callee.{Plain, Coded}
+use Rattle.kb_code.specs.Commands.{Plain, Coded}
 use Rattle.kb_vm.specs.Effect.{Enter}
-use Rattle.kb_codes.specs.Found.{callee_of}
+use Rattle.kb_code.specs.Found.{callee_of}
 use Rattle.kb_vm.specs.Meaning.{with_line}
 use Rattle.kb_vm.specs.Outcome.{Shows}
 use Rattle.kb_vm.specs.State.{TurnedFrom}

@@ -1,9 +1,9 @@
 use Rattle.std.proofs.Common.{◌<◌, ◌≤◌, ap, subst, ◌∙◌, arith, drop}
 use Rattle.kb_core.specs.Signature.{fits}
 use Rattle.kb_vm.specs.Action.{arity}
-use Rattle.kb_codes.specs.Callee.{declared_by}
+use Rattle.kb_code.specs.Commands.{declared_by}
 use Rattle.kb_vm.specs.Effect.{Enter, topmost}
-use Rattle.kb_codes.specs.Found.{callee_of}
+use Rattle.kb_code.specs.Found.{callee_of}
 use Rattle.kb_vm.specs.State.{TurnedFrom, rest_of}
 use Rattle.kb_vm.proofs.Frames.{rest_of_keeps}
 use Rattle.kb_vm.proofs.Turns.{entered_poor}

@@ -5,7 +5,7 @@ use Rattle.kb_vm.specs.Outcome.{Shows}
 use Rattle.kb_vm.specs.State.{rest, credit}
 use Rattle.kb_vm.proofs.machine.run_handler.Given as goal
 
--- what is left to do is all that there was to do, and no more is spent than there was
+-- the rest of the run is the whole run, and cost and remaining budget don't exceed the budget
 abbrev pub invariant-loop-next : goal.invariant-loop-next
 invariant-loop-next g l =
     let table = g.L.Commands.live l.fn.commands in

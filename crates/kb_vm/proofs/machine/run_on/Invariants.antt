@@ -2,7 +2,7 @@ use Rattle.std.proofs.Common.{◌≤◌}
 use Rattle.kb_vm.proofs.Runs.{Far}
 use Rattle.kb_vm.proofs.machine.run_on.Given as goal
 
--- what is left to do is all that there was to do
+-- the rest of the frame's run is the whole run
 abbrev pub invariant-loop-instr : goal.invariant-loop-instr
 invariant-loop-instr l = record {
   far : Far l.fn.handler l.fn.args l.fn.core l.fn.operands l.fn.place l.fn.left l.place l.left l.operands;

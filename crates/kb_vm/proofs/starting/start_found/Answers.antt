@@ -1,7 +1,7 @@
 use Rattle.std.proofs.Common.{◌≡◌, sym, subst, false, rules}
 use Rattle.kb_core.specs.Signature.{fits}
-use Rattle.kb_codes.specs.Callee.{declared_by}
-use Rattle.kb_codes.specs.Found.{callee_of}
+use Rattle.kb_code.specs.Commands.{declared_by}
+use Rattle.kb_code.specs.Found.{callee_of}
 use Rattle.kb_vm.specs.Meaning.{first_world, start_callee}
 use Rattle.kb_vm.specs.Outcome.{Ends}
 use Rattle.kb_vm.proofs.Starts.{misfit, unspent_shows}

@@ -1,6 +1,6 @@
 use Rattle.std.proofs.Common.{◌∙◌, is_some, sym, ap}
 use Rattle.indexmap.specs.IndexMap.{get}
-use Rattle.kb_codes.specs.Live.{same_native}
+use Rattle.kb_handler_table.specs.Live.{same_native}
 use Rattle.kb_registry.specs.Live.{is_live}
 use Rattle.kb_registry.proofs.Entries.{live-get, is_some-lent, holds_lent}
 use Rattle.kb_registry.proofs.registry.Registry.entry.Goals as goal

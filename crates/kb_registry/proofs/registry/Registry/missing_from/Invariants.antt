@@ -3,7 +3,7 @@ use Rattle.kb_registry.specs.Among.{handlers_among}
 use Rattle.kb_registry.specs.Missing.{missing_from}
 use Rattle.kb_registry.proofs.registry.Registry.missing_from.Given as goal
 
--- what is missing among those left is missing among all
+-- the search in the remaining handlers gives the result
 abbrev pub invariant-loop-place : goal.invariant-loop-place
 invariant-loop-place g l =
     missing_from (handlers_among l.among) l.self (drop l.place l.handlers) (drop l.place l.callees)

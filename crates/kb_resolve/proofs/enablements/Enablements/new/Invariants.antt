@@ -4,7 +4,7 @@ use Rattle.std.specs.Vec.Iter.{into_iter_items, into_iter_len}
 use Rattle.kb_resolve.specs.Enablements.{enablement_of}
 use Rattle.kb_resolve.proofs.enablements.Enablements.new.Given as goal
 
--- what the table has for a command, or else what those left give, is what all give
+-- the enablement in the table, or else that of the remaining contributions, is the enablement of all
 abbrev pub invariant-loop-contribution : goal.invariant-loop-contribution
 invariant-loop-contribution l =
     (length (into_iter_items l.contribution-iterator) ≡ into_iter_len l.contribution-iterator)

@@ -1,14 +1,17 @@
 use Rattle.std.proofs.Common.{map, subst}
 use Rattle.std.specs.Prelude.{Ok}
 use Rattle.kb_bindings.specs.Load.{files_of}
-use Rattle.kb_live.specs.Checked.{LiveChecked}
+use Rattle.kb_bindings.specs.Unread.{unread_of}
+use Rattle.kb_load_commands.specs.Checked.{LiveChecked}
 use Rattle.kb_session.proofs.FewHandlers.{few_handlers}
 use Rattle.kb_session.proofs.LoadLemmas.{begun_loads}
 use Rattle.kb_session.proofs.SoundLoads.{all_loads_sound}
 use Rattle.kb_session.proofs.session.Session.load.Goals as goal
 
 pub checked_commands-requires : goal.checked_commands-requires
-checked_commands-requires g c = few_handlers _ _ c.in_ok-scopes.field-0 c.in_ok-scopes.ensures.read
+checked_commands-requires g c =
+    let l = c.in_ok-scopes.field-0 in
+    few_handlers (unread_of l.bindings) (files_of c.args.inputs) l c.in_ok-scopes.ensures.read
 
 pub returns-in-Ok-clause-read : goal.returns-in-Ok-clause-read
 returns-in-Ok-clause-read g c =

@@ -1,0 +1,84 @@
+-- A hash map with strings as keys, as a finite map from the bytes of its keys.
+use Rattle.std.proofs.Common.{◌≡◌, ℕ, ◌+◌, List, [], ◌∷◌, Bool, false, Option, Some, None, cond, length, refl}
+use Rattle.std.proofs.Common.{sym, ◌∙◌, ap, String, string_bytes, is_some, add-one, Result, Ok, Err, OnErr}
+use Rattle.std.specs.Ordering.{nat_cmp, eq_by_cmp}
+use Rattle.std.specs.Str.{bytes_eq}
+use Rattle.std.specs.List.{AllByRecursion, IsDistinct}
+use Rattle.std.specs.Map.{lookup, keys_of}
+use Rattle.std.specs.Cmp.Lexicographic.{slice_cmp}
+use Rattle.std.specs.HashMap as hash
+use Rattle.std.specs.HashMap.{HashMap}
+use Rattle.std.specs.String.{string_eq}
+use Rattle.std.specs.FinMap.{FinMap, get, insert, remove, len, contains_key, from_entries, find}
+use Rattle.std.specs.FinMap.{get-from_entries, get-insert, get-remove, len-insert, len-empty, same_map}
+use Rattle.std.specs.declared.alloc.Global.{Global}
+use Rattle.std.proofs.lemmas.Cmp.{nat_list_cmp_total}
+use Rattle.std.proofs.lemmas.Map.Lookups.{exact_bytes}
+use Rattle.std.proofs.lemmas.Map.Text.{hash_map_updates_text, is_eq-slice_cmp}
+use Rattle.std.specs.Cmp.{eq_by_cmp_equiv}
+use Rattle.kb_base.specs.TextMap.{by_bytes}
+
+-- the finite map of a table
+abbrev pub seen : {X : Type 0} → List (String Global × X) → FinMap (slice_cmp nat_cmp) X
+seen es = from_entries (by_bytes es)
+
+same_test : (k q : List ℕ) → bytes_eq k q ≡ eq_by_cmp (slice_cmp nat_cmp) q k
+same_test k q = sym (is_eq-slice_cmp k q) ∙ (eq_by_cmp_equiv nat_list_cmp_total).symm k q
+
+module _ {X : Type 0} where
+  found : (es : List (String Global × X)) (q : List ℕ)
+      → find (slice_cmp nat_cmp) q (by_bytes es) ≡ lookup (λ k. bytes_eq q (string_bytes k)) es
+  found [] q = refl
+  found (e ∷ es) q =
+      ap (λ (b : Bool). cond b (Some e.1) (find (slice_cmp nat_cmp) q (by_bytes es)))
+      (is_eq-slice_cmp q (string_bytes e.0))
+      ∙ ap (cond (bytes_eq q (string_bytes e.0)) (Some e.1)) (found es q)
+
+  pub get_seen : (es : List (String Global × X)) (q : List ℕ)
+      → get (seen es) q ≡ lookup (λ k. bytes_eq q (string_bytes k)) es
+  get_seen es q = get-from_entries nat_list_cmp_total (by_bytes es) q ∙ found es q
+
+  -- a key that the table lacks
+  pub absent_seen : {S : Type 0} (m : HashMap (String Global) X S) (q : List ℕ)
+      → hash.get_by_text m q ≡ None → contains_key (seen m.entries) q ≡ false
+  absent_seen m q h = ap is_some (get_seen m.entries q ∙ h)
+
+  module _ {S : Type 0} (m n : HashMap (String Global) X S) (k : List ℕ) where
+    pub seen_inserted : (v : X) → hash.UpdatesBy string_eq (λ s. bytes_eq k (string_bytes s)) m n (Some v)
+        → seen n.entries ≡ insert (seen m.entries) k v
+    seen_inserted v u = same_map nat_list_cmp_total exact_bytes _ _ (λ q.
+        get_seen n.entries q ∙ hash_map_updates_text k m n (Some v) u q
+        ∙ ap (λ (b : Bool). cond b (Some v) (hash.get_by_text m q)) (same_test k q)
+        ∙ sym (get-insert nat_list_cmp_total (seen m.entries) k v q
+        ∙ ap (cond (eq_by_cmp (slice_cmp nat_cmp) q k) (Some v)) (get_seen m.entries q)))
+
+    pub seen_removed : hash.UpdatesBy string_eq (λ s. bytes_eq k (string_bytes s)) m n None
+        → seen n.entries ≡ remove (seen m.entries) k
+    seen_removed u = same_map nat_list_cmp_total exact_bytes _ _ (λ q.
+        get_seen n.entries q ∙ hash_map_updates_text k m n None u q
+        ∙ ap (λ (b : Bool). cond b None (hash.get_by_text m q)) (same_test k q)
+        ∙ sym (get-remove nat_list_cmp_total (seen m.entries) k q
+        ∙ ap (cond (eq_by_cmp (slice_cmp nat_cmp) q k) None) (get_seen m.entries q)))
+
+  absent : (k : String Global) (es : List (String Global × X))
+      → AllByRecursion (λ y. string_eq k y ≡ false) (keys_of es)
+      → lookup (λ y. bytes_eq (string_bytes k) (string_bytes y)) es ≡ None
+  absent k [] h = refl
+  absent k (e ∷ es) h = ap
+      (λ (b : Bool). cond b (Some e.1) (lookup (λ y. bytes_eq (string_bytes k) (string_bytes y)) es)) h.0
+      ∙ absent k es h.1
+
+  pub len_seen : (es : List (String Global × X)) → IsDistinct string_eq (keys_of es)
+      → len (seen es) ≡ length es
+  unfolding IsDistinct
+  len_seen [] h = len-empty (slice_cmp nat_cmp) X
+  len_seen (e ∷ es) h =
+      len-insert nat_list_cmp_total (seen es) (string_bytes e.0) e.1
+      ∙ ap (λ (o : Option X). cond (is_some o) (len (seen es)) (len (seen es) + 1))
+      (get_seen es (string_bytes e.0) ∙ absent e.0 es h.0)
+      ∙ ap (λ n. n + 1) (len_seen es h.1) ∙ add-one _
+
+-- what holds anyway holds on an error
+pub OnErr-holds : {X E P : Type 0} (r : Result X E) → P → OnErr r P
+OnErr-holds (Ok x) p = tt
+OnErr-holds (Err e) p = p

@@ -1,0 +1,73 @@
+//! What a load reports of single entries of files.
+ghost use Rattle.std.specs.Prelude.{◌≡◌};
+ghost use Rattle.kb_base.specs.Note.{part_name};
+
+use crate::text::Text;
+
+/// The file that an entry is read from.
+#[derive(Clone, Copy, Debug, PartialEq, Eq)]
+pub enum Origin {
+    /// The default rules.
+    Defaults,
+    /// The manifest of an extension, by the extension's number in load order, from 0.
+    Extension(u32),
+    /// The user's rules.
+    User,
+}
+
+/// The part of a file that holds an entry: a contribution point of VS Code's documentation. Each entry of a
+/// file of rules is in `Keybindings`.
+#[derive(Clone, Copy, Debug, PartialEq, Eq)]
+pub enum Part {
+    /// `contributes.commands`.
+    Commands,
+    /// `contributes.keybindings`.
+    Keybindings,
+    /// `contributes.menus.commandPalette`.
+    Palette,
+}
+
+impl Part {
+    /// The part's name in messages (our decision).
+    pub fn name(self) -> &'static str
+        ensures { result.now ≡ part_name self }
+    {
+        match self {
+            Part::Commands => "commands",
+            Part::Keybindings => "keybindings",
+            Part::Palette => "palette",
+        }
+    }
+}
+
+/// A warning about one entry: the entry is dropped, its clause counts as `false`, or a pattern of its clause
+/// isn't supported.
+#[derive(Clone, Copy, Debug, PartialEq, Eq)]
+pub struct Warning {
+    /// The file of the entry.
+    pub origin: Origin,
+    /// The part of the file that holds the entry.
+    pub part: Part,
+    /// The number of the warning. For a dropped entry it is the number of its first fault: 10 to 12 for a
+    /// key text, 30 to 33 for the clause of a rule, else 40 or 41. It is 30 to 33 for an unreadable clause of
+    /// a command or of an item of the palette, and 34 for a clause with an unsupported pattern.
+    pub number: u32,
+    /// The place of the entry in its part: the number of entries above it, including dropped ones.
+    pub place: usize,
+}
+
+/// A pattern in the clause of an entry that `regex` rejects. Such a comparison is always false (our
+/// decision).
+#[derive(Debug, Drop)]
+pub struct UnreadPattern {
+    /// The file of the entry.
+    pub origin: Origin,
+    /// The part of the file that holds the entry.
+    pub part: Part,
+    /// The place of the entry in its part: the number of entries above it, including dropped ones.
+    pub place: usize,
+    /// The number of the pattern among those of the clause, in the order of the text, from 0.
+    pub number: usize,
+    /// The pattern, without its flags.
+    pub pattern: Text,
+}

@@ -1,0 +1,103 @@
+//! Maps with texts as keys.
+ghost use Rattle.std.specs.Prelude.{◌≡◌, ◌<◌, ◌^◌, ◌↔◌, IsTrue, OnOk, OnErr, false, option_copied};
+ghost use Rattle.std.specs.FinMap as map;
+
+use crate::memory::NoMemory;
+use crate::text::Text;
+use std::alloc::Global;
+use std::collections::HashMap;
+use std::marker::Model;
+
+/// A hash map with texts as keys. Contracts see a finite map from the bytes of the keys: neither order nor
+/// capacity.
+#[derive(Debug, Drop)]
+pub struct TextMap<V> {
+    table: HashMap<String, V>,
+}
+
+impl<V> Model for TextMap<V> {
+    ghost use Rattle.std.specs.Prelude.{ℕ, List};
+    ghost use Rattle.std.specs.Coded.{coded_list, coded_ℕ};
+    ghost use Rattle.std.specs.Ordering.{nat_cmp};
+    ghost use Rattle.std.specs.Cmp.Lexicographic.{slice_cmp};
+    ghost use Rattle.std.specs.FinMap as map;
+    ghost use Rattle.kb_base.specs.TextMap.{by_bytes};
+
+    ghost Value = { map.FinMap (slice_cmp nat_cmp) V };
+
+    ghost coded = { map.code (coded_list coded_ℕ) V.code };
+
+    ghost view = { λ m. map.from_entries (by_bytes m.table.entries) };
+}
+
+impl<V: Drop> TextMap<V> {
+    /// An empty map.
+    pub fn new(alloc: Global) -> TextMap<V>
+        ensures { result ≡ map.empty }
+    {
+        TextMap {
+            table: HashMap::new(alloc),
+        }
+    }
+
+    /// The number of keys.
+    pub fn len(&self) -> usize
+        ensures len { result ≡ map.len self.now }
+        ensures fits { result < 2 ^ 63 }
+    {
+        self.table.len()
+    }
+
+    /// Whether the map is empty.
+    pub fn is_empty(&self) -> bool
+        ensures { IsTrue result ↔ (map.len self.now ≡ 0) }
+    {
+        self.len() == 0
+    }
+
+    /// The value of a key, or `None` if the map lacks the key.
+    pub fn get(&self, key: &str) -> Option<&V>
+        ensures { option_copied result ≡ map.get self.now key.now }
+    {
+        self.table.get(key)
+    }
+
+    /// Whether the map has the key.
+    pub fn contains_key(&self, key: &str) -> bool
+        ensures { result ≡ map.contains_key self.now key.now }
+    {
+        self.table.contains_key(key)
+    }
+
+    /// Sets the value of a key. Error: `NoMemory`, only if the map lacks the key; the map is then unchanged.
+    pub fn insert(&mut self, key: Text, value: V) -> Result<(), NoMemory>
+        ensures ok { OnOk result (self.new ≡ map.insert self.old key value) }
+        ensures err { OnErr result (self.new ≡ self.old) }
+        ensures absent { OnErr result (map.contains_key self.old key ≡ false) }
+    {
+        self.table.insert(key.into_string(), value)?;
+        Ok(())
+    }
+
+    /// Sets the value of a key, which is copied if the map lacks it. Error: `NoMemory`, only in that case; the
+    /// map is then unchanged.
+    pub fn set(&mut self, alloc: Global, key: &str, value: V) -> Result<(), NoMemory>
+        ensures ok { OnOk result (self.new ≡ map.insert self.old key.now value) }
+        ensures err { OnErr result (self.new ≡ self.old) }
+        ensures absent { OnErr result (map.contains_key self.old key.now ≡ false) }
+    {
+        if let Some(old) = self.table.get_mut(key) {
+            *old = value;
+            return Ok(());
+        }
+        self.table.insert(String::from_str(alloc, key)?, value)?;
+        Ok(())
+    }
+
+    /// Removes a key, if the map has it.
+    pub fn remove(&mut self, key: &str)
+        ensures { self.new ≡ map.remove self.old key.now }
+    {
+        self.table.remove(key);
+    }
+}

@@ -1,8 +1,0 @@
-use Rattle.std.proofs.Common.{◌≡◌, ◌++◌, drop}
-use Rattle.kb_bindings.specs.Unread.{in_rules}
-use Rattle.kb_bindings.proofs.unread.add_of_rules.Given as goal
-
--- those so far, and then those that are left
-abbrev pub invariant-loop-one : goal.invariant-loop-one
-invariant-loop-one l =
-    l.all ++ in_rules l.origin (drop l.one-index l.unread) ≡ l.fn.all ++ in_rules l.fn.origin l.fn.unread

@@ -1,3 +1,0 @@
-pub mod NeededLemmas
-pub mod ReportLemmas
-pub mod WalkLemmas

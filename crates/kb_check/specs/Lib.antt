@@ -1,5 +1,0 @@
-pub mod Extension
-pub mod Callable
-pub mod Judgement
-pub mod Visits
-pub mod Stop

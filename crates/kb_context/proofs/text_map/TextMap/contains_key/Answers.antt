@@ -1,9 +1,0 @@
-use Rattle.std.proofs.Common.{sym, ap, ◌∙◌, is_some}
-use Rattle.std.specs.FinMap as map
-use Rattle.kb_context.proofs.TextMapLemmas.{get_seen}
-use Rattle.kb_context.proofs.text_map.TextMap.contains_key.Goals as goal
-
-pub returns : goal.returns
-returns g c = c.contains_key.ensures
-    ∙ ap is_some (sym (get_seen c.self.inside.table.entries c.args.key.now))
-    ∙ ap (λ m. map.contains_key m c.args.key.now) c.self.view_is

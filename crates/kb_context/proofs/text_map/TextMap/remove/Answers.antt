@@ -1,8 +1,0 @@
-use Rattle.std.proofs.Common.{ap, ◌∙◌}
-use Rattle.std.specs.FinMap as map
-use Rattle.kb_context.proofs.TextMapLemmas.{seen_removed}
-use Rattle.kb_context.proofs.text_map.TextMap.remove.Goals as goal
-
-pub returns : goal.returns
-returns g c = seen_removed c.self.inside.table c.remove.new.self c.args.key.now c.remove.ensures.updates
-    ∙ ap (λ m. map.remove m c.args.key.now) c.self.view_is

@@ -1,0 +1,2 @@
+pub mod CannotRead
+pub mod Files

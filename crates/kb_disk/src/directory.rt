@@ -1,0 +1,63 @@
+//! Reads the files of an extension's directory.
+ghost use Rattle.std.specs.Prelude.{◌≡◌, IfOk};
+ghost use Rattle.kb_disk.specs.CannotRead.{path_in};
+ghost use Rattle.kb_disk.specs.Files.{HasManifest, HasHandlers};
+
+use crate::cannot_read::{CannotRead, DirFile};
+use crate::files::{FileSource, read_file, read_if_there};
+use kb_base::{Failure, NoMemory};
+use std::alloc::Global;
+
+/// The path of a file of an extension's directory: the directory's path as given, `/` and the file's name.
+///
+/// Errors: `NoMemory`.
+pub fn path_in(alloc: Global, dir: &str, file: DirFile) -> Result<String, NoMemory>
+    ensures { IfOk result (λ path. path.bytes.items ≡ path_in dir.now file) }
+{
+    let name = file.name();
+    format!(in alloc; "{dir}/{name}")
+}
+
+/// The bytes of the manifest of an extension's directory, which is the file `package.json` in it.
+///
+/// Errors: `CannotRead::InDirectory` if the file does not open, cannot be read or is longer than
+/// `FILE_LIMIT`, or refused memory.
+pub fn manifest_in<'a, F: FileSource>(
+    files: &F,
+    alloc: Global,
+    dir: &'a str,
+) -> Result<Vec<u8>, Failure<CannotRead<'a>>>
+    ensures { HasManifest (F.held files.now) (λ bytes. bytes.items) dir.entry result }
+{
+    let path = path_in(alloc, dir, DirFile::Package)?;
+    match read_file(files, alloc, path.as_str()) {
+        Ok(bytes) => Ok(bytes),
+        Err(Failure::NoMemory) => Err(Failure::NoMemory),
+        Err(Failure::Fault(_fault)) => {
+            let unread = CannotRead::InDirectory(dir, DirFile::Package);
+            Err(Failure::Fault(unread))
+        }
+    }
+}
+
+/// The bytes of the handlers of an extension's directory, which are the file `handlers.json` in it, or
+/// `None` if no such file exists. A file that exists and does not open is an error (our decision).
+///
+/// Errors: those of [`manifest_in`].
+pub fn handlers_in<'a, F: FileSource>(
+    files: &F,
+    alloc: Global,
+    dir: &'a str,
+) -> Result<Option<Vec<u8>>, Failure<CannotRead<'a>>>
+    ensures { HasHandlers (F.held files.now) (λ bytes. bytes.items) dir.entry result }
+{
+    let path = path_in(alloc, dir, DirFile::Handlers)?;
+    match read_if_there(files, alloc, path.as_str()) {
+        Ok(bytes) => Ok(bytes),
+        Err(Failure::NoMemory) => Err(Failure::NoMemory),
+        Err(Failure::Fault(_fault)) => {
+            let unread = CannotRead::InDirectory(dir, DirFile::Handlers);
+            Err(Failure::Fault(unread))
+        }
+    }
+}

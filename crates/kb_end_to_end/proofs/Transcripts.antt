@@ -1,0 +1,59 @@
+-- Why a script over memory fails in a session that was just loaded.
+use Rattle.std.proofs.Common.{◌≡◌, ◌∙◌, sym, ap, subst, true, false, List, [], ◌∷◌, ℕ}
+use Rattle.std.specs.Prelude.{Option, Some, Result, Err}
+use Rattle.kb_base.specs.declared.failure.Failure.{Failure}
+use Rattle.kb_base.specs.declared.failure.Failure.TheVariants.{Fault}
+use Rattle.kb_core.specs.declared.native.Native.{Native}
+use Rattle.kb_end_to_end.specs.Transcript.{FailsToRun}
+use Rattle.kb_script.specs.ScriptRun.{Answers, Fails}
+use Rattle.kb_script.specs.Shelf.{Said, Stand, move, move_unless, told_by}
+use Rattle.kb_script.specs.declared.fault.ScriptFault.{ScriptFault}
+use Rattle.kb_script.specs.declared.fault.ScriptFault.TheVariants as script
+use Rattle.kb_bindings.specs.Load.{Files}
+use Rattle.kb_session.proofs.Sound.{runs_on}
+use Rattle.kb_session.specs.Session.{IsOf}
+use Rattle.kb_session.specs.State.{State}
+use Rattle.kb_soundness.specs.Stays.{IsSound}
+use Rattle.kb_stream.specs.Fold.{Traced, fold}
+
+-- a session that was just loaded isn't stopped, and each of its handlers is verified
+pub loaded_runs : (files : Files) (natives : List Native) (session : Traced State) → IsOf files natives session
+    → session.state.stopped ≡ false
+loaded_runs files natives session is = ap (λ (s : Traced State). s.state.stopped) is.is
+
+-- no line of a script stops it, since no verified handler traps
+moves_on : (said : Said) (s : Stand) → s.state.stopped ≡ false → IsSound s.state.live
+    → ((move said s).state.state.stopped ≡ false) × IsSound (move said s).state.state.live
+moves_on said s running sound =
+    subst
+    (λ b. ((move_unless b said s).state.state.stopped ≡ false) × IsSound (move_unless b said s).state.state.live)
+    (sym running) (runs_on (told_by said s.shelf) s.state running sound)
+
+folds_on : (said : List Said) (s : Stand) → s.state.stopped ≡ false → IsSound s.state.live
+    → (fold move said s).state.state.stopped ≡ false
+folds_on [] s running sound = running
+folds_on (x ∷ xs) s running sound =
+    let p = moves_on x s running sound in folds_on xs (move x s).state p.0 p.1
+
+apart : false ≡ true → ⊥
+apart e = cc
+
+pub fails_to_run : (fault : ScriptFault) (text : List ℕ) (left : Option (List ℕ)) (old new : Traced Stand)
+    (before after : Option (List ℕ)) → old.state.state.stopped ≡ false → IsSound old.state.state.live
+    → Fails (Fault fault) (Some text) left old new before after → FailsToRun fault text
+fails_to_run script.Stopped text left old new before after running sound fails =
+    absurd (apart (sym running ∙ fails.stopped))
+fails_to_run script.TooLong text left old new before after running sound fails = fails.reader
+fails_to_run script.ReadFailed text left old new before after running sound fails = tt
+fails_to_run script.WriteFailed text left old new before after running sound fails = tt
+fails_to_run script.Trapped text left old new before after running sound fails =
+    apart (sym (folds_on fails.said old.state running sound)
+    ∙ sym (ap (λ (s : Traced Stand). s.state.state.stopped) fails.ran.session) ∙ fails.stopped)
+
+-- the same for the result of the script
+pub answered_fault : (ran : Result (Unit {0}) (Failure ScriptFault)) (fault : ScriptFault) (text : List ℕ)
+    (left : Option (List ℕ)) (old new : Traced Stand) (before after : Option (List ℕ))
+    → ran ≡ Err (Fault fault) → old.state.state.stopped ≡ false → IsSound old.state.state.live
+    → Answers ran (Some text) left old new before after → FailsToRun fault text
+answered_fault ran fault text left old new before after is running sound answers =
+    fails_to_run fault text left old new before after running sound (rw is at answers)

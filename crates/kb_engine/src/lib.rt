@@ -1,0 +1,28 @@
+//! The engine for hosts, in one crate: all that a host names to load a session, to send events and to run
+//! scripts. This crate defines nothing. Each item is documented in the crate that defines it.
+//!
+//! The definitions that contracts of a host cite are available through this crate too, as in
+//! `ghost use Rattle.kb_engine.specs.Native.{Fits};`, and declared types as well, as in
+//! `Rattle.kb_engine.specs.declared.Native.{Native}`. `specs/Lib.antt` lists the files of definitions.
+#![tactic(auto)]
+
+// Sessions: files, events, and what a session returns.
+pub use kb_context::ContextValue;
+pub use kb_files::{ExtensionFiles, Inputs, LoadFault, LoadFile, read_context_text};
+pub use kb_keys::{Chord, KeyFault, Keystroke, Platform};
+pub use kb_session::{Handled, Session, SessionFault};
+pub use kb_stream::{Lines, WriteRefused, write_whole};
+pub use kb_trace::{Answer, Event};
+
+// Native commands: the closures of a host, and what they run on.
+pub use kb_core::{Arg, Args, Buffer, Core, NATIVES, Native, Ran, Signature, at_budget, plain};
+pub use kb_registry::{HostCommand, NativeCommand, Run, Ticket};
+
+// Scripts.
+pub use kb_script::{SCRIPT_LIMIT, ScriptFault, run_script};
+
+// Texts, lists and faults.
+pub use kb_base::{Failure, NoMemory, Refusal, Seq, Text, fault_name};
+
+// Warnings and unread patterns of entries.
+pub use kb_base::{Origin, Part, UnreadPattern, Warning};

@@ -1,0 +1,49 @@
+-- Lemmas on live commands as they are started.
+use Rattle.std.proofs.Common.{◌≡◌, ◌∙◌, sym, ap, subst, true, List, ℕ, Some, None}
+use Rattle.std.specs.Prelude.{Option, option_map, if◌then◌else◌}
+use Rattle.serde_json.specs.Data.{Data}
+use Rattle.kb_code.specs.Handler.{HandlerData}
+use Rattle.kb_code.specs.Commands.{Callee, Table, Plain, Coded}
+use Rattle.kb_core.specs.Native.{named}
+use Rattle.kb_core.specs.Reading.{arguments_for}
+use Rattle.kb_core.specs.Signature.{fits}
+use Rattle.kb_core.specs.declared.arg.Arg.{Arg}
+use Rattle.kb_core.specs.declared.native.Native.{Native}
+use Rattle.kb_core.specs.declared.run.Core.{Core}
+use Rattle.kb_registry.specs.Live.{Live, callee, callee_by, live_native, table_of, where_live}
+use Rattle.kb_execute.specs.Start.{ran, start_live, started_as, started_with}
+use Rattle.kb_vm.specs.Meaning.{Stuck, first_world, run, run_callee, start_callee, start_of}
+use Rattle.kb_vm.specs.Outcome.{Ends, Gives}
+use Rattle.kb_vm.specs.declared.machine.Outcome.{Outcome}
+use Rattle.kb_vm.specs.declared.trap.Trap.TheVariants.{WrongArgument}
+
+native_by : (of_name : Option Native) (id : List ℕ) (live : Live) (native : Native)
+    → where_live of_name live ≡ Some native → callee_by of_name id live ≡ Some (Plain native)
+native_by None id live native is = cc
+native_by (Some other) id live native is = ap (option_map Plain) is
+
+-- a native with a registered closure, by its name
+pub native_callee : (id : List ℕ) (live : Live) (native : Native) → live_native id live ≡ Some native
+    → callee id live ≡ Some (Plain native)
+native_callee id live native is = native_by (named id) id live native is
+
+-- the start of a live handler has an answer
+pub handler_ends : (table : Table) (id : List ℕ) (h : HandlerData) (args : List Arg) (core : Core) (o : Outcome)
+    → table id ≡ Some (Coded h) → Gives (start_of table id args core) core o
+    → Ends core (start_callee table id (Coded h) args (first_world core)) o o.finish
+handler_ends table id h args core o is gives =
+    subst
+    (λ (k : Option Callee).
+    Gives (option_map (λ callee. start_callee table id callee args (first_world core)) k) core o) is gives
+
+-- which is that of its execution, if its arguments were read
+pub handler_started : (live : Live) (id : List ℕ) (h : HandlerData) (given : Option Data) (args : List Arg)
+    (core : Core) → callee id live ≡ Some (Coded h) → Some args ≡ arguments_for h.signature.params given
+    → fits h.signature.params args ≡ true
+    → ran (start_callee (table_of live) id (Coded h) args (first_world core)) ≡ start_live id given live core
+handler_started live id h given args core is read fit =
+    let table = table_of live in
+    let w = first_world core in
+    ap (λ b. ran (if b then run_callee (run table) (Coded h) args w else Stuck WrongArgument id 0 w)) fit
+    ∙ ap (λ a. started_with table id (Coded h) a core) read
+    ∙ sym (ap (λ k. started_as table id k given core) is)

@@ -1,0 +1,119 @@
+//! A core that commands change in place.
+ghost use Rattle.std.specs.Prelude.{◌≡◌, ◌≤◌, OnOk, OnErr, IfOk};
+ghost use Rattle.kb_core.specs.Core.{core_after};
+ghost use Rattle.kb_core.specs.Native.{Fits, budget_of};
+ghost use Rattle.kb_execute.specs.HeldCore.{outcome};
+ghost use Rattle.kb_vm.specs.Meaning.{start_of};
+ghost use Rattle.kb_vm.specs.Outcome.{Gives};
+
+use kb_base::NoMemory;
+use kb_code::Commands;
+use kb_context::Scopes;
+use kb_core::{Args, Core, Ran};
+use kb_registry::HostCommand;
+use kb_soundness::start;
+use kb_stream::Lines;
+use kb_vm::{End, Outcome};
+use std::alloc::Global;
+use std::marker::Model;
+
+/// The result of a start of a live command, without the core.
+#[derive(Drop)]
+pub struct Ended<'r> {
+    /// The cost: the number of instructions that began, plus the costs that native commands reported.
+    pub spent: u64,
+    /// One trace line for each call, in order.
+    pub lines: Lines,
+    /// How the run ended.
+    pub finish: End<'r>,
+}
+
+/// The owner of the core on which commands run. A command takes the core by value and returns it, so
+/// `core` is `None` during a run. Contracts see the core, which is present between calls.
+#[derive(Debug, Drop)]
+pub struct HeldCore {
+    core: Option<Core>,
+}
+
+impl Model for HeldCore {
+    ghost use Rattle.std.specs.Prelude.{IsSome};
+    ghost use Rattle.kb_core.specs.declared.run.Core.{Core};
+    ghost use Rattle.kb_core.specs.contracts.run.Core as whole;
+    ghost use Rattle.kb_execute.specs.HeldCore.{held};
+
+    ghost Value = { Core };
+
+    ghost coded = { whole.the_row.coded };
+
+    ghost view = { λ h. held h.core };
+
+    ghost invariant = { λ h. IsSome h.core };
+}
+
+impl HeldCore {
+    ghost use Rattle.std.specs.Borrow.{sem};
+    ghost use Rattle.kb_execute.specs.HeldCoreLoan.{LendsScopes};
+
+    /// Owns a core.
+    pub fn new(core: Core) -> HeldCore
+        ensures { result ≡ core }
+    {
+        HeldCore { core: Some(core) }
+    }
+
+    /// The core.
+    pub fn core(&self) -> &Core
+        ensures { result.now ≡ self.now }
+    {
+        self.core.as_ref().unwrap()
+    }
+
+    /// Runs a host's command with arguments that fit its native command. It returns the cost, in
+    /// instructions, which is at most the native command's budget. On `NoMemory` the core is unchanged.
+    pub fn run<C: HostCommand>(&mut self, command: &C, args: Args) -> Result<u32, NoMemory>
+        requires fits { Fits (C.stands_for command.now) args }
+        ensures ok { OnOk result (self.new ≡ core_after (C.stands_for command.now) args self.old) }
+        ensures err { OnErr result (self.new ≡ self.old) }
+        ensures cost { IfOk result (λ cost. cost ≤ budget_of (C.stands_for command.now)) }
+    {
+        let Ran { core, cost } = command.call(self.core.take().unwrap(), args);
+        self.core = Some(core);
+        cost
+    }
+
+    /// Runs a live command with arguments on this core, as `kb_soundness::start` does.
+    pub fn start<'r, L: Commands>(
+        &mut self,
+        alloc: Global,
+        commands: &'r L,
+        command: &'r str,
+        args: Args,
+    ) -> Ended<'r>
+        ensures { Gives (start_of (L.live commands.now) command.now args self.old) self.old
+            (outcome self.new result) }
+    {
+        let Outcome {
+            core,
+            spent,
+            lines,
+            finish,
+        } = start(alloc, commands, command, args, self.core.take().unwrap());
+        self.core = Some(core);
+        Ended {
+            spent,
+            lines,
+            finish,
+        }
+    }
+
+    /// The scopes of the core, borrowed mutably.
+    pub fn scopes_mut(&mut self) -> &mut Scopes
+        ensures* writes_back { sem 𝓛 (LendsScopes self.entry result) }
+        ensures scopes { result.now ≡ self.old.scopes }
+    {
+        match &mut self.core {
+            Some(core) => &mut core.scopes,
+            None => unreachable!(),
+        }
+    }
+}

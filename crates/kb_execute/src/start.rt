@@ -1,0 +1,162 @@
+//! The execution of a command.
+ghost use Rattle.std.specs.Prelude.{◌≡◌, IfOk, OnErr, Some, option_map};
+ghost use Rattle.serde_json.specs.View.{view};
+ghost use Rattle.kb_code.specs.Commands.{Table, Plain, Coded};
+ghost use Rattle.kb_core.specs.declared.run.Core.{Core};
+ghost use Rattle.kb_registry.specs.Live.{callee};
+ghost use Rattle.kb_execute.specs.HeldCore.{outcome};
+ghost use Rattle.kb_vm.specs.Meaning.{Answer};
+ghost use Rattle.kb_vm.specs.Outcome.{Ends};
+ghost use Rattle.kb_stream.specs.Lines.{Begins};
+ghost use Rattle.kb_execute.specs.Start.{started, started_as, behind, ran, start_of, start_live};
+
+use crate::held_core::{Ended, HeldCore};
+use crate::run_commands::start_list;
+use kb_base::NoMemory;
+use kb_code::{Commands, Found, Handler, Target};
+use kb_core::{Core, Native};
+use kb_registry::{HostCommand, Registry};
+use kb_stream::Lines;
+use kb_trace::lines;
+use kb_vm::End;
+use serde_json::Value;
+use std::alloc::{AllocError, Global};
+
+/// How the execution of a command ended.
+#[derive(Clone, Copy, Debug, PartialEq, Eq)]
+pub enum Finish {
+    /// The command completed.
+    Done,
+    /// No live command has the identifier.
+    NotFound,
+    /// The arguments don't fit the command.
+    BadArguments,
+    /// A handler trapped.
+    Trapped,
+}
+
+/// Runs a command with the arguments of a rule, as JSON, and adds its trace lines. On `NoMemory` the
+/// old lines are still there, before any new ones.
+#[tactic(auto, using(kb_stream::proofs::Undoing::undoing), unfolding(crate::specs::Start::start_of))]
+pub fn start_command<C: HostCommand>(
+    alloc: Global,
+    command: &str,
+    given: Option<&Value>,
+    registry: &Registry<C>,
+    core: &mut HeldCore,
+    trace: &mut Lines,
+) -> Result<Finish, NoMemory>
+    ensures ok { let given = option_map (λ v. view v.now) given.entry in
+        IfOk result (λ finish. started core.new trace.new finish
+        ≡ behind trace.old (start_of command.now given registry.now core.old)) }
+    ensures err { OnErr result (Begins trace.old trace.new) }
+{
+    if command == "runCommands" {
+        return start_list(alloc, given, registry, core, trace);
+    }
+    start_live(alloc, command, given, registry, core, trace)
+}
+
+/// Runs a live command and adds its trace lines. On `NoMemory` the old lines are still there, before
+/// any new ones.
+pub(crate) fn start_live<C: HostCommand>(
+    alloc: Global,
+    command: &str,
+    given: Option<&Value>,
+    registry: &Registry<C>,
+    core: &mut HeldCore,
+    trace: &mut Lines,
+) -> Result<Finish, NoMemory>
+    ensures ok { let given = option_map (λ v. view v.now) given.entry in
+        IfOk result (λ finish. started core.new trace.new finish
+        ≡ behind trace.old (start_live command.now given registry.now core.old)) }
+    ensures err { OnErr result (Begins trace.old trace.new) }
+{
+    if let Some(closure) = registry.live_command(command) {
+        return run_native(alloc, command, closure, given, core, trace);
+    }
+    match registry.command(command, Target::of(Native::named(command))) {
+        Some(Found::Coded(handler)) => {
+            let handler = handler.handler();
+            run_handler(alloc, command, handler, given, registry, core, trace)
+        }
+        Some(Found::Plain(_)) => unreachable!(),
+        None => {
+            lines::not_found_line(trace, command)?;
+            Ok(Finish::NotFound)
+        }
+    }
+}
+
+/// Runs a host's closure, if the arguments fit, and adds the trace lines. On `NoMemory` the lines are
+/// unchanged.
+fn run_native<C: HostCommand>(
+    alloc: Global,
+    command: &str,
+    closure: &C,
+    given: Option<&Value>,
+    core: &mut HeldCore,
+    trace: &mut Lines,
+) -> Result<Finish, NoMemory>
+    ensures ok { (table : Table) → let given = option_map (λ v. view v.now) given.entry in
+        IfOk result (λ finish. started core.new trace.new finish ≡ behind trace.old
+        (started_as table command.now (Some (Plain (C.stands_for closure.now))) given core.old)) }
+    ensures err { OnErr result (trace.new ≡ trace.old) }
+{
+    let Some(args) = closure.native().read_args(alloc, given)? else {
+        lines::bad_arguments_line(trace, command)?;
+        return Ok(Finish::BadArguments);
+    };
+    core.run(closure, args)?;
+    lines::done_line(trace, &core.core().buffer)?;
+    Ok(Finish::Done)
+}
+
+/// Runs a live handler, if the arguments fit, and adds the trace lines.
+fn run_handler<C: HostCommand>(
+    alloc: Global,
+    command: &str,
+    handler: &Handler,
+    given: Option<&Value>,
+    registry: &Registry<C>,
+    core: &mut HeldCore,
+    trace: &mut Lines,
+) -> Result<Finish, NoMemory>
+    requires { callee command.now registry.now ≡ Some (Coded handler.now) }
+    ensures ok { let given = option_map (λ v. view v.now) given.entry in
+        IfOk result (λ finish. started core.new trace.new finish
+        ≡ behind trace.old (start_live command.now given registry.now core.old)) }
+    ensures err { OnErr result (Begins trace.old trace.new) }
+{
+    let Some(args) = handler.signature().read_args(alloc, given)? else {
+        lines::bad_arguments_line(trace, command)?;
+        return Ok(Finish::BadArguments);
+    };
+    let ended = core.start(alloc, registry, command, args);
+    note_end(&ended, core.core(), trace)
+}
+
+/// Adds the trace lines of a run that ended with this core.
+fn note_end(ended: &Ended<'_>, core: &Core, trace: &mut Lines) -> Result<Finish, NoMemory>
+    requires { (first : Core) × (answer : Answer)
+        × Ends first answer (outcome core.now ended.now) ended.now.finish }
+    ensures ok { (first : Core) → (answer : Answer)
+        → Ends first answer (outcome core.now ended.now) ended.now.finish
+        → IfOk result (λ finish. started core.now trace.new finish ≡ behind trace.old (ran answer)) }
+    ensures err { OnErr result (Begins trace.old trace.new) }
+{
+    match ended.finish {
+        End::NoMemory => Err(AllocError),
+        End::NotFound => unreachable!(),
+        End::Done => {
+            trace.append(&ended.lines)?;
+            lines::done_line(trace, &core.buffer)?;
+            Ok(Finish::Done)
+        }
+        End::Trap(trap, command, place) => {
+            trace.append(&ended.lines)?;
+            lines::trap_line(trace, trap.number(), command, place)?;
+            Ok(Finish::Trapped)
+        }
+    }
+}

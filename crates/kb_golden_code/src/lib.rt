@@ -1,0 +1,40 @@
+//! Golden tests of handlers and of what they call: signatures, files of handlers, bytecode and the verifier.
+#![tactic(auto)]
+
+mod handlers;
+mod signatures;
+mod verifier;
+
+use kb_base::NoMemory;
+pub use signatures::signature_text;
+use std::alloc::Global;
+use std::str;
+pub use verifier::{callable_with, handlers_in};
+
+fn run_callees(alloc: Global, kind: &str, text: &str) -> Result<String, NoMemory> {
+    match kind.split_once(' ') {
+        Some(("callees", count)) => handlers::callees(alloc, count, text),
+        _ => String::from_str(alloc, "no kind"),
+    }
+}
+
+fn run_text_case(alloc: Global, kind: &str, text: &str) -> Result<String, NoMemory> {
+    match kind {
+        "native" => signatures::declared(alloc, text),
+        "arguments" => signatures::arguments(alloc, text),
+        "code" => handlers::code(alloc, text),
+        _ => run_callees(alloc, kind, text),
+    }
+}
+
+/// The output of a case of kind `native`, `arguments`, `handlers`, `code`, `callees N` or `verify`.
+pub fn run_case(alloc: Global, kind: &str, input: &[u8]) -> Result<String, NoMemory> {
+    match kind {
+        "handlers" => handlers::handlers(alloc, input),
+        "verify" => verifier::verify_first(alloc, input),
+        _ => match str::from_utf8(input) {
+            Ok(text) => run_text_case(alloc, kind, text),
+            Err(_) => String::from_str(alloc, "no text"),
+        },
+    }
+}

@@ -1,0 +1,54 @@
+//! The code of a handler, as hexadecimal text.
+ghost use Rattle.std.specs.Prelude.{◌≡◌};
+ghost use Rattle.std.specs.Result.{result_ok};
+ghost use Rattle.hex.specs.Hex.{decode_of};
+ghost use Rattle.kb_base.specs.Failure.{Gives};
+ghost use Rattle.kb_base.specs.Reading.{or_fault};
+ghost use Rattle.kb_handler_file.specs.Code.{bytes_in, instrs_of, code_in};
+
+use crate::fault::HandlersFault;
+use hex::FromHexError;
+use kb_base::{Failure, Seq};
+use kb_code::{Instr, decode};
+use std::alloc::Global;
+
+/// The maximum number of instructions in a handler.
+const INSTR_LIMIT: usize = 10_000;
+
+/// The number of bytes of an instruction.
+const INSTR_BYTES: usize = 3;
+
+/// Decodes hexadecimal text. Errors: `BadHex` and `NoMemory`.
+fn bytes_in(alloc: Global, text: &str) -> Result<Vec<u8>, Failure<HandlersFault>>
+    ensures { Gives (λ bytes. bytes.items) result (bytes_in text.now) }
+{
+    match hex::decode(alloc, text) {
+        Ok(bytes) => Ok(bytes),
+        Err(FromHexError::OutOfMemory) => Err(Failure::NoMemory),
+        Err(_) => Err(Failure::Fault(HandlersFault::BadHex)),
+    }
+}
+
+/// Decodes instructions. Errors: `TooLarge` for more than `INSTR_LIMIT` instructions, `Code`, and
+/// `NoMemory`.
+#[tactic(auto, unfolding(crate::specs::Code::instrs_of))]
+fn instrs_of(alloc: Global, bytes: &[u8]) -> Result<Seq<Instr>, Failure<HandlersFault>>
+    ensures { Gives (λ code. code) result (instrs_of bytes.now) }
+{
+    if bytes.len() % INSTR_BYTES == 0 && bytes.len() / INSTR_BYTES > INSTR_LIMIT {
+        return Err(Failure::Fault(HandlersFault::TooLarge));
+    }
+    match decode(alloc, bytes) {
+        Ok(code) => Ok(code),
+        Err(Failure::Fault(fault)) => Err(Failure::Fault(HandlersFault::Code(fault))),
+        Err(Failure::NoMemory) => Err(Failure::NoMemory),
+    }
+}
+
+/// Decodes the instructions of a hexadecimal text. Errors: `BadHex`, `TooLarge`, `Code` and `NoMemory`.
+pub(crate) fn read_code(alloc: Global, text: &str) -> Result<Seq<Instr>, Failure<HandlersFault>>
+    ensures { Gives (λ code. code) result (code_in text.now) }
+{
+    let bytes = bytes_in(alloc, text)?;
+    instrs_of(alloc, bytes.as_slice())
+}

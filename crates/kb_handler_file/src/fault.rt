@@ -1,0 +1,65 @@
+//! Faults of handler files.
+use kb_base::Failure;
+use kb_code::CodeFault;
+use kb_json::FileFault;
+use thiserror::Error;
+
+/// Why a JSON value is not a handler file. The numbers are our decision.
+#[derive(Clone, Copy, Debug, PartialEq, Eq, Error)]
+pub enum HandlersFault {
+    /// A member is missing (40), or a value has the wrong shape (41).
+    #[error("{0}")]
+    Shape(FileFault),
+    /// The code of a handler is not hexadecimal text.
+    #[error("the code is no hexadecimal text")]
+    BadHex,
+    /// Two handlers have the same command.
+    #[error("a command is named twice")]
+    DuplicateHandler,
+    /// The file has too many handlers, or a handler exceeds a limit.
+    #[error("a limit is passed")]
+    TooLarge,
+    /// The bytes of a handler's code cannot be decoded (50 to 52).
+    #[error("{0}")]
+    Code(CodeFault),
+}
+
+impl HandlersFault {
+    ghost use Rattle.std.specs.Prelude.{◌≡◌};
+    ghost use Rattle.kb_handler_file.specs.Fault.{number_of};
+
+    /// The fault's number in traces and messages: 40 to 44, or 50 to 52.
+    pub fn number(self) -> u32
+        ensures { result ≡ number_of self }
+    {
+        match self {
+            HandlersFault::Shape(fault) => fault.number(),
+            HandlersFault::BadHex => 42,
+            HandlersFault::DuplicateHandler => 43,
+            HandlersFault::TooLarge => 44,
+            HandlersFault::Code(fault) => fault.number(),
+        }
+    }
+}
+
+impl From<FileFault> for HandlersFault {
+    ghost use Rattle.std.specs.Prelude.{◌≡◌};
+    ghost use Rattle.kb_handler_file.specs.declared.fault.HandlersFault.TheVariants.{Shape};
+
+    ghost from_gives = { λ shape fault. fault ≡ Shape shape };
+
+    fn from(fault: FileFault) -> HandlersFault {
+        HandlersFault::Shape(fault)
+    }
+}
+
+impl From<HandlersFault> for Failure<HandlersFault> {
+    ghost use Rattle.std.specs.Prelude.{◌≡◌};
+    ghost use Rattle.kb_base.specs.declared.failure.Failure.TheVariants.{Fault};
+
+    ghost from_gives = { λ fault failure. failure ≡ Fault fault };
+
+    fn from(fault: HandlersFault) -> Failure<HandlersFault> {
+        Failure::Fault(fault)
+    }
+}

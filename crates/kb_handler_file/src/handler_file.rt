@@ -1,0 +1,167 @@
+//! Handler files.
+ghost use Rattle.std.specs.Prelude.{◌≡◌, ◌≤◌, IfErr, IsOk};
+ghost use Rattle.serde_json.specs.View.{view, items_view, members_view};
+ghost use Rattle.kb_base.specs.declared.failure.Failure.TheVariants.{NoMemory};
+ghost use Rattle.kb_base.specs.Failure.{Gives};
+ghost use Rattle.kb_base.specs.Reading.{seen};
+ghost use Rattle.kb_json.specs.Parts.{listed};
+ghost use Rattle.kb_handler_file.specs.HandlerFile.{head_of, list_in, list_of, handlers_of};
+ghost use Rattle.kb_handler_file.specs.HandlerFile.{each_read, code_within, handler_by, handler_in};
+ghost use Rattle.kb_handler_file.specs.HandlerFile.{handler_of};
+
+use crate::code::read_code;
+use crate::entry::{Declared, Entry, Written, read_entry, required_whole};
+use crate::fault::HandlersFault;
+use crate::limits::{few_texts, signature_of};
+use crate::names::repeats;
+use kb_base::{Failure, Seq, Text};
+use kb_code::{Handler, Instr};
+use kb_core::Signature;
+use kb_json::{FileFault, elements_in, members_in, take_member};
+use serde_json::{Map, Value};
+use std::alloc::Global;
+
+/// The maximum number of handlers in a file.
+const HANDLER_LIMIT: usize = 1_000;
+
+/// A handler file (`handlers.json`) contains the code of an extension's commands. The format and its
+/// limits are our decision.
+#[derive(Clone, Copy, Debug)]
+pub struct HandlerFile;
+
+impl HandlerFile {
+    /// Reads the handlers of a file, in order. For example:
+    ///
+    /// ```json
+    /// {"version": 1, "handlers": [{"command": "x.hi", "params": [{"name": "t", "kind": "text"}],
+    ///   "budget": 1004, "depth": 1, "texts": ["hi"], "calls": ["type"], "code": "010000300000000000"}]}
+    /// ```
+    ///
+    /// `params`, `texts` and `calls` are optional and default to empty lists. `code` is hexadecimal text.
+    /// Other members are ignored. Texts are moved out of the value.
+    ///
+    /// Errors, in this order:
+    ///
+    /// 1. For the file, decided without allocating: `Shape` if the value is not an object, `version` is not
+    ///    1, or `handlers` is not a list (40 for a missing member, otherwise 41). Then `TooLarge` (44) for
+    ///    more than 1,000 handlers.
+    /// 2. For the first invalid handler: `Shape` (41) if it is not an object; `Shape` (40, 41) for a member,
+    ///    in the order above; `TooLarge` for more than 8 parameters, a budget outside 1 to 1,000,000,000, a
+    ///    depth outside 1 to 64, more than 1,000 texts or more than 1,000 calls; `BadHex` (42); `Code` (50)
+    ///    for a bad length; `TooLarge` for more than 10,000 instructions; `Code` (51, 52).
+    /// 3. `DuplicateHandler` (43) if two handlers have the same command.
+    ///
+    /// `NoMemory` at any point after the first step.
+    pub fn read(alloc: Global, value: Value) -> Result<Seq<Handler>, Failure<HandlersFault>>
+        ensures handlers { Gives (λ handlers. handlers) result (handlers_of (view value)) }
+        ensures memory { IfErr result (λ failure. failure ≡ NoMemory → IsOk (head_of (view value))) }
+    {
+        let elements = read_head(value)?;
+        let handlers = read_handlers(alloc, elements)?;
+        if repeats(alloc, handlers.as_slice())? {
+            return Err(Failure::Fault(HandlersFault::DuplicateHandler));
+        }
+        Ok(handlers)
+    }
+}
+
+/// The elements of the list of handlers. Errors: `Shape` and `TooLarge`.
+#[tactic(auto, using(kb_json::proofs::PartsLemmas::as_many))]
+fn read_head(value: Value) -> Result<Vec<Value>, HandlersFault>
+    ensures { seen (λ elements. listed (items_view elements.items)) result ≡ head_of (view value) }
+{
+    let elements = read_list(value)?;
+    if elements.len() > HANDLER_LIMIT {
+        return Err(HandlersFault::TooLarge);
+    }
+    Ok(elements)
+}
+
+/// The elements of the list of handlers, without the limit. Errors: `MissingMember` and `WrongShape`.
+#[tactic(auto, unfolding(crate::specs::HandlerFile::list_of))]
+fn read_list(value: Value) -> Result<Vec<Value>, FileFault>
+    ensures { seen (λ elements. listed (items_view elements.items)) result ≡ list_of (view value) }
+{
+    let mut members = members_in(value).ok_or(FileFault::WrongShape)?;
+    list_in(&mut members)
+}
+
+/// Checks the version, and takes the list of handlers out of the members of a file. Errors:
+/// `MissingMember` and `WrongShape`.
+fn list_in(members: &mut Map<String, Value>) -> Result<Vec<Value>, FileFault>
+    ensures { seen (λ elements. listed (items_view elements.items)) result
+        ≡ list_in (members_view members.old.entries) }
+{
+    let version = required_whole(take_member(members, "version"))?;
+    if version != 1 {
+        return Err(FileFault::WrongShape);
+    }
+    let handlers = take_member(members, "handlers").ok_or(FileFault::MissingMember)?;
+    elements_in(handlers).ok_or(FileFault::WrongShape)
+}
+
+/// Reads all handlers. Errors: the fault of the first invalid one, or `NoMemory`.
+fn read_handlers(
+    alloc: Global,
+    elements: Vec<Value>,
+) -> Result<Seq<Handler>, Failure<HandlersFault>>
+    ensures { Gives (λ handlers. handlers) result
+        (each_read handler_of (listed (items_view elements.items))) }
+{
+    let mut handlers = Seq::new(alloc);
+    for element in elements {
+        handlers.push(read_handler(alloc, element)?)?;
+    }
+    Ok(handlers)
+}
+
+/// Reads a handler. Errors: as for `HandlerFile::read`, or `NoMemory`.
+fn read_handler(alloc: Global, element: Value) -> Result<Handler, Failure<HandlersFault>>
+    ensures { Gives (λ handler. handler) result (handler_of (view element)) }
+{
+    match read_entry(alloc, element) {
+        Ok(entry) => handler_in(alloc, entry),
+        Err(Failure::Fault(shape)) => Err(Failure::Fault(HandlersFault::Shape(shape))),
+        Err(Failure::NoMemory) => Err(Failure::NoMemory),
+    }
+}
+
+/// Makes a handler from its members. Errors: `TooLarge`, `BadHex`, `Code` and `NoMemory`.
+#[tactic(auto, unfolding(crate::specs::HandlerFile::handler_in))]
+fn handler_in(alloc: Global, entry: Entry) -> Result<Handler, Failure<HandlersFault>>
+    ensures { Gives (λ handler. handler) result (handler_in entry) }
+{
+    let Entry { declared, written } = entry;
+    let Declared {
+        command,
+        params,
+        budget,
+        depth,
+    } = declared;
+    let signature = signature_of(params, budget, depth).ok_or(HandlersFault::TooLarge)?;
+    handler_by(alloc, command, signature, written)
+}
+
+/// Makes a handler with this command and signature. Errors: as for `code_within`.
+fn handler_by(
+    alloc: Global,
+    command: Text,
+    signature: Signature,
+    written: Written,
+) -> Result<Handler, Failure<HandlersFault>>
+    requires depth { 1 ≤ signature.depth }
+    ensures { Gives (λ handler. handler) result (handler_by command signature written) }
+{
+    let code = code_within(alloc, &written)?;
+    Ok(Handler::new(command, signature, written.texts, written.calls, code))
+}
+
+/// Decodes the code, after checking the number of texts and calls. Errors: `TooLarge`, `BadHex`, `Code`
+/// and `NoMemory`.
+fn code_within(alloc: Global, written: &Written) -> Result<Seq<Instr>, Failure<HandlersFault>>
+    ensures { Gives (λ code. code) result (code_within written.now) }
+{
+    few_texts(&written.texts)?;
+    few_texts(&written.calls)?;
+    read_code(alloc, written.code.as_str())
+}

@@ -1,0 +1,13 @@
+//! Reading handler files (`handlers.json`): JSON values become handlers.
+#![tactic(auto)]
+
+mod code;
+mod entry;
+pub mod fault;
+pub mod handler_file;
+mod limits;
+mod names;
+mod parameters;
+
+pub use fault::HandlersFault;
+pub use handler_file::HandlerFile;

@@ -1,0 +1,3 @@
+pub mod FilesLemmas
+pub mod ReportLemmas
+pub mod WalkLemmas

@@ -1,0 +1,6 @@
+pub mod Extension
+pub mod Files
+pub mod Callable
+pub mod Judgement
+pub mod Visits
+pub mod Stop

@@ -1,0 +1,175 @@
+//! Reads the files of extensions.
+ghost use Rattle.std.specs.Prelude.{◌≡◌, ◌<◌, IfOk, None, length, map};
+ghost use Rattle.kb_files.specs.Identifiers as identifiers;
+ghost use Rattle.kb_handler_report.specs.Extension.{names_of};
+ghost use Rattle.kb_handler_report.specs.Files.{HasExtension, HasExtensions, HandlersIn, NamesIn};
+ghost use Rattle.kb_handler_report.specs.Files.{HasHandlers, HasNames};
+
+use crate::extension::ExtensionCode;
+use crate::stop::Stop;
+use kb_base::{Failure, NoMemory, Refusal, Seq, Text};
+use kb_code::Handler;
+use kb_disk::{CannotRead, DirFile, FileSource, path_in};
+use kb_files::{
+    EXTENSION_LIMIT, Extension, IdentifierFault, identifier_fault, read_extension, read_handlers,
+};
+use kb_keys::Platform;
+use std::alloc::Global;
+use std::mem;
+
+/// Reads the extensions in these directories: of each the manifest, and then the handlers, if there are any.
+///
+/// Errors: first that there are more than 100 directories; then the first file that cannot be read or is
+/// refused, or refused memory; and last the faults of the extensions' identifiers.
+#[tactic(auto, using(crate::proofs::FilesLemmas::fault_within))]
+pub(crate) fn read_extensions<F: FileSource>(
+    files: &F,
+    alloc: Global,
+    dirs: &[&str],
+) -> Result<Vec<ExtensionCode>, Stop>
+    ensures read { IfOk result (λ read. HasExtensions (F.held files.now) dirs.now read.items) }
+    ensures names { IfOk result (λ read.
+        identifiers.identifier_fault (map names_of read.items) ≡ None) }
+{
+    if dirs.len() > EXTENSION_LIMIT {
+        return Err(Stop::TooMany);
+    }
+    let extensions = read_directories(files, alloc, dirs)?;
+    match identifier_fault(extensions.as_slice()) {
+        Some(fault) => Err(refused_extension(alloc, extensions.as_slice(), fault)),
+        None => Ok(extensions),
+    }
+}
+
+/// Reads the extensions in these directories, whichever identifiers they have.
+fn read_directories<F: FileSource>(
+    files: &F,
+    alloc: Global,
+    dirs: &[&str],
+) -> Result<Vec<ExtensionCode>, Stop>
+    ensures { IfOk result (λ read. HasExtensions (F.held files.now) dirs.now read.items) }
+{
+    let mut extensions = Vec::new(alloc);
+    for dir in dirs {
+        let extension = read_directory(files, alloc, *dir)?;
+        extensions.push(extension).map_err(NoMemory::from)?;
+    }
+    Ok(extensions)
+}
+
+/// Reads the extension in a directory.
+fn read_directory<F: FileSource>(files: &F, alloc: Global, dir: &str) -> Result<ExtensionCode, Stop>
+    ensures { IfOk result (HasExtension (F.held files.now) dir.entry) }
+{
+    let (id, dependencies) = read_names(files, alloc, dir)?;
+    let handlers = handlers_in(files, alloc, dir)?;
+    Ok(ExtensionCode {
+        dir: Text::from_str(alloc, dir)?,
+        id,
+        dependencies,
+        handlers,
+    })
+}
+
+/// Reads the identifier and the dependencies of the extension in a directory.
+#[tactic(auto, using(crate::proofs::FilesLemmas::has_names))]
+fn read_names<F: FileSource>(files: &F, alloc: Global, dir: &str) -> Result<(Text, Seq<Text>), Stop>
+    ensures { IfOk result (λ names. HasNames (F.held files.now) dir.entry names.0 names.1) }
+{
+    match kb_disk::manifest_in(files, alloc, dir) {
+        Ok(bytes) => {
+            let names = names_in(alloc, dir, bytes.as_slice())?;
+            Ok(names)
+        }
+        Err(failure) => Err(unread(alloc, failure)),
+    }
+}
+
+/// The identifier and the dependencies that a manifest states.
+#[tactic(auto, using(crate::proofs::FilesLemmas::has_names_in))]
+fn names_in(alloc: Global, dir: &str, bytes: &[u8]) -> Result<(Text, Seq<Text>), Stop>
+    ensures { IfOk result (λ names. NamesIn bytes.now names.0 names.1) }
+{
+    match read_extension(alloc, bytes, 0, Platform::Linux) {
+        Ok(extension) => Ok(take_names(alloc, extension)),
+        Err(failure) => Err(failed_file(alloc, dir, DirFile::Package, &failure)),
+    }
+}
+
+/// The identifier and the dependencies, moved out of an extension.
+fn take_names(alloc: Global, extension: Extension) -> (Text, Seq<Text>)
+    ensures id { result.0 ≡ extension.manifest.id }
+    ensures dependencies { result.1 ≡ extension.manifest.dependencies }
+{
+    let mut extension = extension;
+    let id = mem::replace(&mut extension.manifest.id, Text::new(alloc));
+    let dependencies = mem::replace(&mut extension.manifest.dependencies, Seq::new(alloc));
+    drop(extension);
+    (id, dependencies)
+}
+
+/// Reads the handlers in a directory, or returns `None` if there is no such file.
+#[tactic(auto, using(crate::proofs::FilesLemmas::has_handlers))]
+fn handlers_in<F: FileSource>(
+    files: &F,
+    alloc: Global,
+    dir: &str,
+) -> Result<Option<Seq<Handler>>, Stop>
+    ensures { IfOk result (HasHandlers (F.held files.now) dir.entry) }
+{
+    match kb_disk::handlers_in(files, alloc, dir) {
+        Ok(bytes) => {
+            let handlers = listed(alloc, dir, &bytes)?;
+            Ok(handlers)
+        }
+        Err(failure) => Err(unread(alloc, failure)),
+    }
+}
+
+/// The handlers that a file lists, or `None` if there is no file.
+fn listed(alloc: Global, dir: &str, bytes: &Option<Vec<u8>>) -> Result<Option<Seq<Handler>>, Stop>
+    ensures { IfOk result (HandlersIn (λ bytes. bytes.items) bytes.now) }
+{
+    let Some(bytes) = bytes else {
+        return Ok(None);
+    };
+    match read_handlers(alloc, bytes.as_slice()) {
+        Ok(handlers) => Ok(Some(handlers)),
+        Err(failure) => Err(failed_file(alloc, dir, DirFile::Handlers, &failure)),
+    }
+}
+
+/// The error for a file that could not be read.
+fn unread(alloc: Global, failure: Failure<CannotRead<'_>>) -> Stop {
+    let Failure::Fault(unread) = failure else {
+        return Stop::NoMemory;
+    };
+    match format!(in alloc; "{unread}") {
+        Ok(path) => Stop::CannotRead(Text::from_string(path)),
+        Err(_) => Stop::NoMemory,
+    }
+}
+
+/// The error for the extension with this fault of its identifier or its dependencies.
+fn refused_extension(alloc: Global, extensions: &[ExtensionCode], fault: IdentifierFault) -> Stop
+    requires { fault.place < length extensions.now }
+{
+    let dir = extensions[fault.place].dir.as_str();
+    refused_file(alloc, dir, DirFile::Package, fault.number)
+}
+
+/// The error for a file in a directory that is refused, by the number of its fault.
+fn refused_file(alloc: Global, dir: &str, file: DirFile, number: u32) -> Stop {
+    match path_in(alloc, dir, file) {
+        Ok(path) => Stop::Refused(Text::from_string(path), number),
+        Err(_) => Stop::NoMemory,
+    }
+}
+
+/// The error for a file in a directory whose bytes could not be parsed.
+fn failed_file(alloc: Global, dir: &str, file: DirFile, failure: &Failure<Refusal>) -> Stop {
+    match failure {
+        Failure::NoMemory => Stop::NoMemory,
+        Failure::Fault(refusal) => refused_file(alloc, dir, file, refusal.number),
+    }
+}

@@ -1,0 +1,23 @@
+//! A report on handlers for their authors: for each handler of some extensions, whether the verifier accepts
+//! it, and why not, in sentences.
+#![tactic(auto)]
+
+pub mod callable;
+pub mod extension;
+mod files;
+mod instruction;
+pub mod judgement;
+mod meaning;
+mod path;
+pub mod report;
+pub mod run;
+mod sentences;
+pub mod stop;
+mod words;
+
+pub use callable::callable_of;
+pub use extension::ExtensionCode;
+pub use judgement::{Judgement, judge};
+pub use report::report_extensions;
+pub use run::check_handlers;
+pub use stop::{Stop, status_of};

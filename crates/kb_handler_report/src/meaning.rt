@@ -1,0 +1,76 @@
+//! The meaning of each fault, in plain words.
+use crate::instruction::callee_name;
+use kb_code::{Handler, Instr};
+use kb_verify::Defect;
+
+/// The meaning of a fault of a file, by its number.
+pub(crate) fn meaning_of(number: u32) -> &'static str {
+    match number {
+        1 => "its bytes are no UTF-8 text",
+        2 => "a block comment has no end",
+        3 => "a string has no closing quote",
+        4 => "it is no JSON text",
+        40 => "a member that must be there is absent",
+        41 => "a value is of another kind than it should be",
+        42 => "the code of a handler is no hexadecimal text",
+        43 => "two handlers are of one command",
+        44 => "a limit is passed",
+        50 => "the code of a handler is no whole number of instructions, of three bytes each",
+        51 => "the code of a handler has an opcode that no instruction has",
+        52 => "an instruction of a handler has an operand that it may not have",
+        90 => "an extension that it depends on isn't given before it",
+        91 => "an extension that is given before it has its identifier",
+        _ => "it isn't as it should be",
+    }
+}
+
+/// A sentence on the defect of a handler at a place with this instruction.
+pub(crate) fn defect_sentence(
+    handler: &Handler,
+    defect: Defect,
+    instr: Option<Instr>,
+) -> &'static str {
+    match defect {
+        Defect::MissingOperand => "It takes more values than stand on the stack.",
+        Defect::WrongOperand => wrong_operand_sentence(instr),
+        Defect::UnknownCommand => unknown_command_sentence(handler, instr),
+        Defect::WrongArgument => {
+            "A value that it hands over is of another kind than the command's parameter takes."
+        }
+        Defect::BadJump => "It leads to no later place of the code.",
+        Defect::FallsOff => falls_off_sentence(instr),
+        Defect::ShapesDiffer => {
+            "Two ways lead here, and leave other kinds of values on the stack, or another number of them."
+        }
+        Defect::TooHigh => "More than 64 values would stand on the stack behind it.",
+    }
+}
+
+/// A sentence on a command that may not be called.
+fn unknown_command_sentence(handler: &Handler, instr: Option<Instr>) -> &'static str {
+    match instr {
+        Some(instr) if callee_name(handler, instr).is_some() => {
+            "No native command, no handler of this file and none of the extensions depended on has this name."
+        }
+        _ => "The handler's list of calls has none of this index.",
+    }
+}
+
+/// A sentence on a wrong operand.
+fn wrong_operand_sentence(instr: Option<Instr>) -> &'static str {
+    match instr {
+        Some(Instr::Text(_)) | Some(Instr::Context(_)) => {
+            "The handler's list of texts has none of this index."
+        }
+        Some(Instr::Arg(_)) => "The handler has no parameter of this index.",
+        _ => "A value that it takes is of another kind than it should be.",
+    }
+}
+
+/// A sentence on code that runs past its end.
+fn falls_off_sentence(instr: Option<Instr>) -> &'static str {
+    match instr {
+        Some(_) => "The code ends behind it, and it is no RETURN.",
+        None => "The code has no instruction.",
+    }
+}

@@ -1,0 +1,121 @@
+//! Runs the program, from its command line to its exit status.
+ghost use Rattle.std.specs.Prelude.{◌≡◌, ◌≤◌};
+ghost use Rattle.std.specs.Process.{exit_status};
+ghost use Rattle.kb_handler_report.specs.Stop.{status_of};
+
+use crate::files::read_extensions;
+use crate::report::report_extensions;
+use crate::stop::{Stop, status_of};
+use crate::words::{dirs_in, matched, not_text};
+use kb_base::NoMemory;
+use kb_cli::{OptionsFault, WordsFault, line_status, words_fault};
+use kb_disk::SystemFiles;
+use std::alloc::Global;
+use std::io::{BufWriter, Write};
+use std::process::ExitCode;
+use std::rt::{Env, Files};
+use std::{env, io};
+
+/// Checks the handlers in the directories that the command line names, and returns the exit status. The
+/// report goes to standard output. If the check stops before its end, standard error has the reason.
+pub fn check_handlers<R: Alloc<A = Global> + Env + Files + Print + Eprint>(
+    rt: &R,
+    alloc: Global,
+) -> ExitCode
+    ensures { exit_status result ≤ 4 }
+{
+    let status = match line_words(rt, alloc) {
+        Ok(words) => obey(rt, alloc, words.as_slice()),
+        Err(fault) => refuse(rt, fault),
+    };
+    ExitCode::from(status)
+}
+
+/// The words of the command line.
+fn line_words<R: Env + Alloc<A = Global>>(
+    rt: &R,
+    alloc: Global,
+) -> Result<Vec<String>, OptionsFault> {
+    let given = match env::args(rt) {
+        Ok(given) => given,
+        Err(error) => return Err(no_words(alloc, words_fault(&error))?),
+    };
+    let mut words = Vec::new(alloc);
+    for word in given {
+        words.push(word).map_err(NoMemory::from)?;
+    }
+    Ok(words)
+}
+
+/// The fault of a command line whose words could not be read.
+fn no_words(alloc: Global, fault: WordsFault) -> Result<OptionsFault, NoMemory> {
+    match fault {
+        WordsFault::NotText => Ok(OptionsFault::Line(not_text(alloc)?)),
+        WordsFault::NoMemory => Ok(OptionsFault::NoMemory),
+    }
+}
+
+/// Parses the words, checks what they name, and returns the exit status.
+fn obey<R: Files + Print + Eprint>(rt: &R, alloc: Global, words: &[String]) -> u8
+    ensures { result ≤ 4 }
+{
+    match check_words(rt, alloc, words) {
+        Ok(end) => ended(rt, &end),
+        Err(fault) => refuse(rt, fault),
+    }
+}
+
+/// Checks the handlers in the directories that the words name.
+fn check_words<R: Files + Print>(
+    rt: &R,
+    alloc: Global,
+    words: &[String],
+) -> Result<Result<bool, Stop>, OptionsFault> {
+    let mut texts = Vec::new(alloc);
+    for word in words {
+        texts.push(word.as_str()).map_err(NoMemory::from)?;
+    }
+    let matches = matched(alloc, texts.as_slice())?;
+    match dirs_in(&matches) {
+        Some(dirs) => Ok(check(rt, alloc, dirs)),
+        None => Ok(check(rt, alloc, &[])),
+    }
+}
+
+/// Prints the error of a command line that is refused, or the help.
+fn refuse<R: Print + Eprint>(rt: &R, fault: OptionsFault) -> u8
+    ensures { result ≤ 4 }
+{
+    match fault {
+        OptionsFault::Line(error) => {
+            let _ = error.print(rt);
+            line_status(&error)
+        }
+        OptionsFault::NoMemory => ended(rt, &Err(Stop::NoMemory)),
+    }
+}
+
+/// Reports why a check stopped before its end, and returns the exit status.
+fn ended<R: Eprint>(rt: &R, end: &Result<bool, Stop>) -> u8
+    ensures status { result ≡ status_of end.now }
+    ensures table { result ≤ 4 }
+{
+    if let Err(stop) = end {
+        let _ = rt.eprintln(stop);
+    }
+    status_of(end)
+}
+
+/// Reads the files of extensions, and writes the report on their handlers.
+fn check<R: Files + Print>(rt: &R, alloc: Global, dirs: &[&str]) -> Result<bool, Stop> {
+    let files = SystemFiles { rt };
+    let extensions = read_extensions(&files, alloc, dirs)?;
+    let Ok(mut out) = BufWriter::new(alloc, io::writer(rt)) else {
+        return Err(Stop::NoMemory);
+    };
+    let all = report_extensions(alloc, extensions.as_slice(), &mut out);
+    match (all, out.flush()) {
+        (Ok(_), Err(_)) => Err(Stop::NotWritten),
+        (all, _) => all,
+    }
+}

@@ -1,0 +1,147 @@
+//! Sentences on a handler.
+ghost use Rattle.kb_handler_report.specs.Judgement.{IsJudged};
+ghost use Rattle.kb_verify.specs.Faults.{IsFault};
+ghost use Rattle.kb_verify.specs.Paths.{IsOverBudget};
+
+use crate::instruction::{Spelled, callee_name};
+use crate::judgement::Judgement;
+use crate::meaning::defect_sentence;
+use crate::path::{Visit, visits_of};
+use kb_base::{NoMemory, fault_name};
+use kb_code::{Handler, Instr};
+use kb_verify::{Callable, Step, VerifyFault};
+use std::alloc::Global;
+
+/// Lines on the result of the verifier for a handler, each with a line feed.
+pub(crate) fn sentences(
+    alloc: Global,
+    callable: &Callable,
+    handler: &Handler,
+    judgement: &Judgement,
+) -> Result<String, NoMemory>
+    requires { IsJudged callable.now handler.now judgement.now }
+{
+    match judgement {
+        Judgement::Accepted(cost) => accepted(alloc, handler, *cost),
+        Judgement::Refused(fault) => refused(alloc, callable, handler, fault),
+    }
+}
+
+/// The line of a handler that is accepted.
+fn accepted(alloc: Global, handler: &Handler, cost: u64) -> Result<String, NoMemory> {
+    let command = handler.command().as_str();
+    let budget = handler.signature().budget();
+    format!(in alloc; "{command}: accepted. It costs at most {cost} of its budget of {budget}.\n")
+}
+
+/// The lines of a handler that is not accepted: the fault, and its reason.
+fn refused(
+    alloc: Global,
+    callable: &Callable,
+    handler: &Handler,
+    fault: &VerifyFault,
+) -> Result<String, NoMemory>
+    requires { IsFault callable.now handler.now fault.now }
+{
+    let mut said = refusal(alloc, handler, fault)?;
+    match fault {
+        VerifyFault::Wrong(defect, place) => {
+            let sentence = defect_sentence(handler, *defect, instr_at(handler, *place));
+            write!(said, "    {sentence}\n")?;
+        }
+        VerifyFault::OverDepth(place) => add_depths(callable, handler, *place, &mut said)?,
+        VerifyFault::OverBudget(path) => {
+            add_path(alloc, callable, handler, path.as_slice(), &mut said)?;
+        }
+    }
+    Ok(said)
+}
+
+/// The line with the fault, the place and the instruction there.
+fn refusal(alloc: Global, handler: &Handler, fault: &VerifyFault) -> Result<String, NoMemory> {
+    let command = handler.command().as_str();
+    let number = fault.number();
+    let name = fault_name(number);
+    let place = fault.place();
+    match instr_at(handler, place) {
+        Some(instr) => {
+            let spelled = Spelled::new(handler, instr);
+            format!(in alloc;
+                "{command}: not accepted, for {number} {name} at place {place}, {spelled}.\n"
+            )
+        }
+        None => format!(in alloc;
+            "{command}: not accepted, for {number} {name} at place {place}.\n"
+        ),
+    }
+}
+
+/// The instruction at a place, if there is one.
+fn instr_at(handler: &Handler, place: usize) -> Option<Instr> {
+    handler.code().get(place).copied()
+}
+
+/// Adds a line on a call at a place that nests too deep.
+fn add_depths(
+    callable: &Callable,
+    handler: &Handler,
+    place: usize,
+    said: &mut String,
+) -> Result<(), NoMemory> {
+    let own = handler.signature().depth();
+    match depth_called(callable, handler, place) {
+        Some(depth) => write!(
+            said,
+            "    This command declares the depth {depth}, which is not below the handler's own, {own}.\n"
+        ),
+        None => write!(
+            said,
+            "    This command nests too deep for the handler's own depth, {own}.\n"
+        ),
+    }
+}
+
+/// The depth of the command that is called at a place, if the place has a call of a known command.
+fn depth_called(callable: &Callable, handler: &Handler, place: usize) -> Option<u8> {
+    let Some(instr) = instr_at(handler, place) else {
+        return None;
+    };
+    let Some(name) = callee_name(handler, instr) else {
+        return None;
+    };
+    match callable.get(name) {
+        Some(signature) => Some(signature.as_signature().depth()),
+        None => None,
+    }
+}
+
+/// Adds a path that costs too much: each of its places with its cost, and the sum.
+fn add_path(
+    alloc: Global,
+    callable: &Callable,
+    handler: &Handler,
+    path: &[Step],
+    said: &mut String,
+) -> Result<(), NoMemory>
+    requires { IsOverBudget callable.now handler.now path.now }
+{
+    let budget = handler.signature().budget();
+    write!(
+        said,
+        "    A path costs more than the handler's budget of {budget}:\n"
+    )?;
+    let mut sum = 0u64;
+    for visit in visits_of(alloc, callable, handler, path)?.as_slice() {
+        add_visit(handler, visit, said)?;
+        sum = sum.saturating_add(visit.cost);
+    }
+    write!(said, "        in all: {sum}\n")
+}
+
+/// Adds a place of a path with its cost.
+fn add_visit(handler: &Handler, visit: &Visit, said: &mut String) -> Result<(), NoMemory> {
+    let place = visit.place;
+    let cost = visit.cost;
+    let spelled = Spelled::new(handler, visit.instr);
+    write!(said, "        place {place}: {cost} for {spelled}\n")
+}

@@ -1,0 +1,270 @@
+-- Names of live handlers are distinct: lemmas on groups that are added and removed.
+use Rattle.std.proofs.Common.{◌≡◌, ◌∙◌, ℕ, zero, suc, ◌<◌, Bool, true, false, ◌||◌, cond, List, [], ◌∷◌}
+use Rattle.std.proofs.Common.{◌++◌}
+use Rattle.std.proofs.Common.{Option, Some, None, refl, sym, ap, is_some, bytes_eq, slice_get}
+use Rattle.std.proofs.Common.{true≢false, nat_lt, nat_eq, IfSome, subst}
+use Rattle.std.proofs.lemmas.List.Folds.{find-append}
+use Rattle.std.proofs.lemmas.Slice.Eq.{bytes_eq-Decides}
+use Rattle.std.specs.Bool.{⊤}
+use Rattle.std.specs.Option.{option_or}
+use Rattle.kb_code.specs.Handler.{HandlerData}
+use Rattle.kb_handler_table.specs.declared.fault.CodesFault.TheVariants.{AlreadyExists}
+use Rattle.kb_handler_table.specs.Apart.{IsApart, AreApart}
+use Rattle.kb_handler_table.specs.Group.{IsNamedAt}
+use Rattle.kb_handler_table.specs.Live.{Group, handlers_in, handler_named, is_reserved, is_taken}
+use Rattle.kb_handler_table.specs.Live.{has_taken, codes_fault}
+use Rattle.kb_handler_table.specs.Live.{with_group, without_group}
+
+some≢none : (h : HandlerData) → Some h ≡ None → ⊥
+some≢none h e = true≢false (ap is_some e)
+
+both : (name : List ℕ) (xs ys : List HandlerData)
+    → handler_named name (xs ++ ys) ≡ option_or (handler_named name xs) (handler_named name ys)
+both name xs ys = find-append (λ h. bytes_eq name h.command) xs ys
+
+neither : (a b : Option HandlerData) → option_or a b ≡ None → (a ≡ None) × (b ≡ None)
+neither None b e = (refl, e)
+neither (Some x) b e = absurd (some≢none x e)
+
+sides : (h : HandlerData) (xs ys : List HandlerData) → IsApart h (xs ++ ys) → IsApart h xs × IsApart h ys
+sides h xs ys e =
+    neither (handler_named h.command xs) (handler_named h.command ys) (sym (both h.command xs ys) ∙ e)
+
+joined : (h : HandlerData) (xs ys : List HandlerData) → IsApart h xs → IsApart h ys → IsApart h (xs ++ ys)
+joined h xs ys a b = both h.command xs ys ∙ ap (λ o. option_or o (handler_named h.command ys)) a ∙ b
+
+-- distinct from a list: from its head and from the rest
+differs : (h y : HandlerData) (ys : List HandlerData) → IsApart h (y ∷ ys)
+    → (bytes_eq h.command y.command ≡ false) × IsApart h ys
+differs h y ys e = by (bytes_eq h.command y.command) refl
+  where
+    by : (b : Bool) → bytes_eq h.command y.command ≡ b → (bytes_eq h.command y.command ≡ false) × IsApart h ys
+    by true is = absurd (some≢none y (sym (ap (λ b. cond b (Some y) (handler_named h.command ys)) is) ∙ e))
+    by false is = (is, sym (ap (λ b. cond b (Some y) (handler_named h.command ys)) is) ∙ e)
+
+grown : (h y : HandlerData) (ys : List HandlerData) → bytes_eq h.command y.command ≡ false → IsApart h ys
+    → IsApart h (y ∷ ys)
+grown h y ys is e = ap (λ b. cond b (Some y) (handler_named h.command ys)) is ∙ e
+
+turned : (x y : HandlerData) → bytes_eq x.command y.command ≡ false → bytes_eq y.command x.command ≡ false
+turned x y is = by (bytes_eq y.command x.command) refl
+  where
+    by : (b : Bool) → bytes_eq y.command x.command ≡ b → bytes_eq y.command x.command ≡ false
+    by false same = same
+    by true same =
+        let back : bytes_eq x.command y.command ≡ true =
+        (bytes_eq-Decides x.command y.command).1 (sym ((bytes_eq-Decides y.command x.command).0 same)) in
+        absurd (true≢false (sym back ∙ is))
+
+-- the names of the first list are distinct from those of the second
+abbrev EachApart : List HandlerData → List HandlerData → Type 0
+EachApart [] ys = ⊤
+EachApart (x ∷ xs) ys = IsApart x ys × EachApart xs ys
+
+heads : (xs : List HandlerData) (y : HandlerData) (ys : List HandlerData) → EachApart xs (y ∷ ys)
+    → IsApart y xs × EachApart xs ys
+heads [] y ys e = (refl, tt)
+heads (x ∷ xs) y ys e =
+    let first = differs x y ys e.0 in
+    let rest = heads xs y ys e.1 in
+    (grown y x xs (turned x y first.0) rest.0, (first.1, rest.1))
+
+flip : (xs ys : List HandlerData) → EachApart xs ys → EachApart ys xs
+flip xs [] e = tt
+flip xs (y ∷ ys) e = let first = heads xs y ys e in (first.0, flip xs ys first.1)
+
+from-none : (xs : List HandlerData) → EachApart xs []
+from-none [] = tt
+from-none (x ∷ xs) = (refl, from-none xs)
+
+each-sides : (xs ys zs : List HandlerData) → EachApart xs (ys ++ zs) → EachApart xs ys × EachApart xs zs
+each-sides [] ys zs e = (tt, tt)
+each-sides (x ∷ xs) ys zs e =
+    let first = sides x ys zs e.0 in
+    let rest = each-sides xs ys zs e.1 in
+    ((first.0, rest.0), (first.1, rest.1))
+
+join : (xs ys : List HandlerData) → AreApart xs → AreApart ys → EachApart xs ys → AreApart (xs ++ ys)
+join [] ys a b e = b
+join (x ∷ xs) ys a b e = (joined x xs ys a.0 e.0, join xs ys a.1 b e.1)
+
+record Parts (xs ys : List HandlerData) : Type 0 where
+  front : AreApart xs
+  behind : AreApart ys
+  between : EachApart xs ys
+
+part : (xs ys : List HandlerData) → AreApart (xs ++ ys) → Parts xs ys
+part [] ys a = record { front = tt; behind = a; between = tt }
+part (x ∷ xs) ys a =
+    let first = sides x xs ys a.0 in
+    let rest = part xs ys a.1 in
+    record { front = (first.0, rest.front); behind = rest.behind; between = (first.1, rest.between) }
+
+-- ---- free names
+
+or-false : (a b : Bool) → a || b ≡ false → (a ≡ false) × (b ≡ false)
+or-false false b e = (refl, e)
+or-false true b e = absurd (true≢false e)
+
+nothing : (o : Option HandlerData) → is_some o ≡ false → o ≡ None
+nothing None e = refl
+nothing (Some x) e = absurd (true≢false e)
+
+free : (above hs : List HandlerData) → has_taken above hs ≡ false → EachApart hs above × AreApart hs
+free above [] e = (tt, tt)
+free above (h ∷ hs) e =
+    let first = or-false (is_taken above h) (has_taken (above ++ h ∷ []) hs) e in
+    let own : IsApart h above = nothing (handler_named h.command above)
+    (or-false (is_reserved h.command) (is_some (handler_named h.command above)) first.0).1 in
+    let rest = free (above ++ h ∷ []) hs first.1 in
+    let split = each-sides hs above (h ∷ []) rest.0 in
+    ((own, split.0), ((flip hs (h ∷ []) split.1).0, rest.1))
+
+not-taken : (b : Bool) → cond b (Some AlreadyExists) None ≡ None → b ≡ false
+not-taken false e = refl
+not-taken true e = absurd (true≢false (ap is_some e))
+
+-- ---- added groups
+
+lives : (h : HandlerData) (new : Group) (gs : List Group) → IsApart h new.codes.handlers
+    → IsApart h (handlers_in gs) → IsApart h (handlers_in (with_group new gs))
+lives h new [] own rest = joined h new.codes.handlers [] own refl
+lives h new (g ∷ gs) own rest =
+    let split = sides h g.codes.handlers (handlers_in gs) rest in
+    by (nat_lt new.extension g.extension)
+    (joined h g.codes.handlers (handlers_in (with_group new gs)) split.0 (lives h new gs own split.1))
+  where
+    by : (b : Bool) → IsApart h (g.codes.handlers ++ handlers_in (with_group new gs))
+        → IsApart h (handlers_in (cond b (new ∷ g ∷ gs) (g ∷ with_group new gs)))
+    by true behind = joined h new.codes.handlers (handlers_in (g ∷ gs)) own rest
+    by false behind = behind
+
+each-lives : (xs : List HandlerData) (new : Group) (gs : List Group) → EachApart xs new.codes.handlers
+    → EachApart xs (handlers_in gs) → EachApart xs (handlers_in (with_group new gs))
+each-lives [] new gs own rest = tt
+each-lives (x ∷ xs) new gs own rest = (lives x new gs own.0 rest.0, each-lives xs new gs own.1 rest.1)
+
+put-apart : (new : Group) (gs : List Group) → AreApart new.codes.handlers → AreApart (handlers_in gs)
+    → EachApart new.codes.handlers (handlers_in gs) → AreApart (handlers_in (with_group new gs))
+put-apart new [] own rest e = join new.codes.handlers [] own tt (from-none new.codes.handlers)
+put-apart new (g ∷ gs) own rest e =
+    let split = part g.codes.handlers (handlers_in gs) rest in
+    let each = each-sides new.codes.handlers g.codes.handlers (handlers_in gs) e in
+    by (nat_lt new.extension g.extension)
+    (join g.codes.handlers (handlers_in (with_group new gs)) split.front
+    (put-apart new gs own split.behind each.1)
+    (each-lives g.codes.handlers new gs (flip new.codes.handlers g.codes.handlers each.0) split.between))
+  where
+    by : (b : Bool) → AreApart (g.codes.handlers ++ handlers_in (with_group new gs))
+        → AreApart (handlers_in (cond b (new ∷ g ∷ gs) (g ∷ with_group new gs)))
+    by true behind = join new.codes.handlers (handlers_in (g ∷ gs)) own rest e
+    by false behind = behind
+
+-- handlers with free names are distinct from the live ones
+pub put_stays : (new : Group) (gs left : List Group) → codes_fault new.codes.handlers gs ≡ None
+    → AreApart (handlers_in gs) → left ≡ with_group new gs → AreApart (handlers_in left)
+put_stays new gs left none rest is =
+    let named = free (handlers_in gs) new.codes.handlers (not-taken (has_taken (handlers_in gs) new.codes.handlers) none) in
+    subst (λ gs. AreApart (handlers_in gs)) (sym is) (put-apart new gs named.1 rest named.0)
+
+-- ---- removed groups
+
+fewer : (extension : ℕ) (h : HandlerData) (gs : List Group) → IsApart h (handlers_in gs)
+    → IsApart h (handlers_in (without_group extension gs))
+fewer extension h [] e = e
+fewer extension h (g ∷ gs) e =
+    let split = sides h g.codes.handlers (handlers_in gs) e in
+    by (nat_eq g.extension extension) split.1
+    (joined h g.codes.handlers (handlers_in (without_group extension gs)) split.0 (fewer extension h gs split.1))
+  where
+    by : (b : Bool) → IsApart h (handlers_in gs)
+        → IsApart h (g.codes.handlers ++ handlers_in (without_group extension gs))
+        → IsApart h (handlers_in (cond b gs (g ∷ without_group extension gs)))
+    by true gone behind = gone
+    by false gone behind = behind
+
+each-fewer : (extension : ℕ) (xs : List HandlerData) (gs : List Group) → EachApart xs (handlers_in gs)
+    → EachApart xs (handlers_in (without_group extension gs))
+each-fewer extension [] gs e = tt
+each-fewer extension (x ∷ xs) gs e = (fewer extension x gs e.0, each-fewer extension xs gs e.1)
+
+without-apart : (extension : ℕ) (gs : List Group) → AreApart (handlers_in gs)
+    → AreApart (handlers_in (without_group extension gs))
+without-apart extension [] a = a
+without-apart extension (g ∷ gs) a =
+    let split = part g.codes.handlers (handlers_in gs) a in
+    by (nat_eq g.extension extension) split.behind
+    (join g.codes.handlers (handlers_in (without_group extension gs)) split.front
+    (without-apart extension gs split.behind) (each-fewer extension g.codes.handlers gs split.between))
+  where
+    by : (b : Bool) → AreApart (handlers_in gs) → AreApart (g.codes.handlers ++ handlers_in (without_group extension gs))
+        → AreApart (handlers_in (cond b gs (g ∷ without_group extension gs)))
+    by true gone behind = gone
+    by false gone behind = behind
+
+pub without_stays : (extension : ℕ) (gs left : List Group) → AreApart (handlers_in gs)
+    → left ≡ without_group extension gs → AreApart (handlers_in left)
+without_stays extension gs left a is =
+    subst (λ gs. AreApart (handlers_in gs)) (sym is) (without-apart extension gs a)
+
+-- ---- the handler at a place is the one that its name finds
+
+-- the result of a search, by whether the head has the name
+module _ (name : List ℕ) (x : HandlerData) (xs : List HandlerData) where
+  pub by-head : (b : Bool) → bytes_eq name x.command ≡ b
+      → handler_named name (x ∷ xs) ≡ cond b (Some x) (handler_named name xs)
+  by-head b is = ap (λ b. cond b (Some x) (handler_named name xs)) is
+
+  -- a head whose name differs from the later ones is skipped
+  pub past-head : (ys : List HandlerData) (h : HandlerData) → IsApart x ys → handler_named name ys ≡ Some h
+      → bytes_eq name x.command ≡ false
+  past-head ys h apart found = by (bytes_eq name x.command) refl
+    where
+      by : (b : Bool) → bytes_eq name x.command ≡ b → bytes_eq name x.command ≡ false
+      by false is = is
+      by true is =
+          let own : name ≡ x.command = (bytes_eq-Decides name x.command).0 is in
+          absurd (some≢none h (sym found ∙ ap (λ n. handler_named n ys) own ∙ apart))
+
+itself : (name : List ℕ) (hs : List HandlerData) (place : ℕ) (h : HandlerData) → AreApart hs
+    → slice_get hs place ≡ Some h → h.command ≡ name → handler_named name hs ≡ Some h
+itself name [] place h a at is = absurd (some≢none h (sym at))
+itself name (x ∷ xs) zero h a at is =
+    let e : x ≡ h = cc in
+    let own : name ≡ x.command = sym (ap (λ (h : HandlerData). h.command) e ∙ is) in
+    by-head name x xs true ((bytes_eq-Decides name x.command).1 own) ∙ at
+itself name (x ∷ xs) (suc place) h a at is =
+    let rest = itself name xs place h a.1 at is in
+    by-head name x xs false (past-head name x xs xs h a.0 rest) ∙ rest
+
+not-before : (name : List ℕ) (xs ys : List HandlerData) (h : HandlerData) → EachApart xs ys
+    → handler_named name ys ≡ Some h → handler_named name xs ≡ None
+not-before name [] ys h e found = refl
+not-before name (x ∷ xs) ys h e found =
+    by-head name x xs false (past-head name x xs ys h e.0 found) ∙ not-before name xs ys h e.1 found
+
+found : (name : List ℕ) (gs : List Group) (i : ℕ) (g : Group) (place : ℕ) (h : HandlerData)
+    → AreApart (handlers_in gs) → slice_get gs i ≡ Some g → IsNamedAt name g.codes.handlers place h
+    → handler_named name (handlers_in gs) ≡ Some h
+found name [] i g place h a at is = absurd (true≢false (sym (ap is_some at)))
+found name (x ∷ gs) zero g place h a at is =
+    let e : x ≡ g = cc in
+    let there = ap (λ (g : Group). slice_get g.codes.handlers place) e ∙ is.there in
+    let split = part x.codes.handlers (handlers_in gs) a in
+    both name x.codes.handlers (handlers_in gs)
+    ∙ ap (λ o. option_or o (handler_named name (handlers_in gs)))
+    (itself name x.codes.handlers place h split.front there is.its)
+found name (x ∷ gs) (suc i) g place h a at is =
+    let split = part x.codes.handlers (handlers_in gs) a in
+    let rest = found name gs i g place h split.behind at is in
+    both name x.codes.handlers (handlers_in gs)
+    ∙ ap (λ o. option_or o (handler_named name (handlers_in gs)))
+    (not-before name x.codes.handlers (handlers_in gs) h split.between rest)
+    ∙ rest
+
+pub found_here : (name : List ℕ) (gs : List Group) (i : ℕ) (g : Group) (place : ℕ) (r : Option HandlerData)
+    → AreApart (handlers_in gs) → slice_get gs i ≡ Some g
+    → IfSome r (λ h. IsNamedAt name g.codes.handlers place h)
+    → IfSome r (λ h. handler_named name (handlers_in gs) ≡ Some h)
+found_here name gs i g place None a at is = tt
+found_here name gs i g place (Some h) a at is = found name gs i g place h a at is

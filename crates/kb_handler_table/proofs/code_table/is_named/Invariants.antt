@@ -1,0 +1,6 @@
+use Rattle.std.proofs.Common.{◌≡◌, drop}
+use Rattle.kb_handler_table.specs.Live.{handler_named}
+use Rattle.kb_handler_table.proofs.code_table.is_named.Given as goal
+
+abbrev pub invariant-loop-handler : goal.invariant-loop-handler
+invariant-loop-handler l = handler_named l.name (drop l.handler-index l.handlers) ≡ handler_named l.name l.handlers

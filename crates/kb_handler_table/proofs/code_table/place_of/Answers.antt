@@ -1,0 +1,17 @@
+use Rattle.std.proofs.Common.{◌≡◌, ◌∙◌, ◌++◌, ap, sym, take}
+use Rattle.std.proofs.lemmas.Bool.Decides.{Decides-eqb}
+use Rattle.kb_handler_table.proofs.Groups.{stands_at}
+use Rattle.kb_handler_table.proofs.code_table.place_of.Goals as goal
+
+pub returns-then-extension : goal.returns-then-extension
+returns-then-extension c =
+    let groups = c.args.groups.now in
+    let i = c.loop-place.place in
+    let g = c.index-groups-place.result in
+    let same : g.extension ≡ c.args.extension = sym c.extension.ensures ∙ c.if-extension.true in
+    let at = stands_at c.args.extension groups i g c.loop-place-test.true c.index-groups-place.is
+    ((Decides-eqb g.extension c.args.extension).1 same) in (
+      c.loop-place-test.true,
+      c.loop-place.invariant.0 ∙ at.0,
+      c.loop-place.invariant.1 ∙ ap (λ gs. take i groups ++ gs) at.1,
+    )

@@ -1,0 +1,79 @@
+-- The live handlers, as contracts see them.
+use Rattle.std.specs.Prelude.{ℕ, Bool, false, List, [], ◌∷◌, ◌++◌, map, find, Option, Some, None, is_some}
+use Rattle.std.specs.Prelude.{if◌then◌else◌, nat_eq, nat_lt, bytes_eq, codes, ◌||◌, get_or, option_map}
+use Rattle.std.specs.List.{list_any, flat_map}
+use Rattle.kb_core.specs.declared.native.Native.{Native}
+use Rattle.kb_core.specs.contracts.native.NativePartialEq.TheImpl as equality
+use Rattle.kb_core.specs.Native.{named}
+use Rattle.kb_code.specs.Handler.{HandlerData}
+use Rattle.kb_code.specs.Callees.{callees_of}
+use Rattle.kb_code.specs.Target.{natives_of}
+use Rattle.kb_handler_table.specs.Codes.{CodesData}
+use Rattle.kb_handler_table.specs.declared.fault.CodesFault.{CodesFault}
+use Rattle.kb_handler_table.specs.declared.fault.CodesFault.TheVariants.{AlreadyExists}
+
+-- the live code of an extension; extensions are numbered in load order, from 0
+pub record Group : Type 0 where
+  pub extension : ℕ
+  pub codes : CodesData
+
+-- all live handlers, in load and file order
+abbrev pub handlers_in : List Group → List HandlerData
+handlers_in groups = flat_map (λ g. g.codes.handlers) groups
+
+-- the first handler with a name
+abbrev pub handler_named : List ℕ → List HandlerData → Option HandlerData
+handler_named name handlers = find (λ h. bytes_eq name h.command) handlers
+
+-- names that no handler may have: those of the native commands, and `runCommands`
+abbrev pub is_reserved : List ℕ → Bool
+is_reserved name = is_some (named name) || bytes_eq name (codes "runCommands")
+
+-- whether a handler's name is reserved, or one of `others` has it
+abbrev pub is_taken : List HandlerData → HandlerData → Bool
+is_taken others h = is_reserved h.command || is_some (handler_named h.command others)
+
+-- whether, in order, a handler's name is taken by one of `above` or by an earlier handler
+abbrev pub has_taken : List HandlerData → List HandlerData → Bool
+has_taken above [] = false
+has_taken above (h ∷ hs) = is_taken above h || has_taken (above ++ h ∷ []) hs
+
+-- the fault of adding handlers beside the groups, if there is one
+abbrev pub codes_fault : List HandlerData → List Group → Option CodesFault
+codes_fault handlers groups =
+    if has_taken (handlers_in groups) handlers then Some AlreadyExists else None
+
+-- the code of an extension, if it has a group
+abbrev pub group_of : ℕ → List Group → Option CodesData
+group_of extension groups = option_map (λ g. g.codes) (find (λ g. nat_eq g.extension extension) groups)
+
+-- the groups with a new one, in load order
+abbrev pub with_group : Group → List Group → List Group
+with_group new [] = new ∷ []
+with_group new (g ∷ gs) = if nat_lt new.extension g.extension then new ∷ g ∷ gs else g ∷ with_group new gs
+
+-- the groups with the code of an extension
+abbrev pub with_codes : ℕ → CodesData → List Group → List Group
+with_codes extension codes groups = with_group (record { extension = extension; codes = codes }) groups
+
+-- the groups without that of an extension
+abbrev pub without_group : ℕ → List Group → List Group
+without_group extension [] = []
+without_group extension (g ∷ gs) = if nat_eq g.extension extension then gs else g ∷ without_group extension gs
+
+-- whether two natives are equal, as `==` decides it
+abbrev pub same_native : Native → Native → Bool
+same_native = (equality.ghosts).eq
+
+-- whether the option has this native
+abbrev pub is_it : Native → Option Native → Bool
+is_it native None = false
+is_it native (Some other) = same_native other native
+
+-- whether a reachable call of the handler names the native
+abbrev pub calls_native : Native → HandlerData → Bool
+calls_native native h = list_any (λ n. is_it native (get_or (natives_of h) n None)) (callees_of h)
+
+-- the first live handler, in load and file order, that calls the native
+abbrev pub caller_of : Native → List Group → Option HandlerData
+caller_of native groups = find (calls_native native) (handlers_in groups)

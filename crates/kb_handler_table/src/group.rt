@@ -1,0 +1,192 @@
+//! The code of an extension, with the data that is resolved once for it.
+ghost use Rattle.std.specs.Prelude.{◌≡◌, IfOk, IfSome, find, length, slice_get, option_copied, option_map};
+ghost use Rattle.std.specs.List.{AllZip};
+ghost use Rattle.kb_handler_table.specs.Group.{IsGroup, IsNamedAt};
+ghost use Rattle.kb_handler_table.specs.Links.{AreLinks};
+ghost use Rattle.kb_handler_table.specs.Live.{handler_named, calls_native};
+
+use crate::codes::Codes;
+use crate::links::Links;
+use crate::names::Names;
+use kb_base::{NoMemory, Seq};
+use kb_code::{Handler, Linked, Spot};
+use kb_core::{Native, Signature};
+use std::alloc::Global;
+use std::marker::Model;
+
+/// The code of an extension, with the extension's number in load order, prepared to be added to the
+/// live handlers. Contracts see both.
+#[derive(Drop)]
+pub struct Group {
+    extension: u32,
+    codes: Codes,
+    links: Seq<Links>,
+    names: Names,
+}
+
+/// The handlers among which names are resolved: the live ones, and those of the extension that is about
+/// to be added.
+#[derive(Drop)]
+pub(crate) struct Around<'a> {
+    pub groups: &'a [Group],
+    pub extension: u32,
+    pub names: &'a Names,
+}
+
+impl<'a> Around<'a> {
+    /// The spot of the handler with a name, first among the extension's own handlers, then among the
+    /// live ones. It is only a hint: no contract depends on it.
+    pub(crate) fn spot(&self, name: &str) -> Option<Spot> {
+        if let Some(place) = self.names.place(name) {
+            return Some(Spot {
+                extension: self.extension,
+                place,
+            });
+        }
+        for group in self.groups {
+            if let Some(spot) = group.spot(name) {
+                return Some(spot);
+            }
+        }
+        None
+    }
+}
+
+impl Model for Group {
+    ghost use Rattle.kb_handler_table.specs.Group.{IsGroup};
+    ghost use Rattle.kb_handler_table.specs.Live.{Group as GroupData};
+
+    ghost Value = { GroupData };
+
+    ghost view = { λ g. record { extension = g.extension; codes = g.codes } };
+
+    ghost invariant = { λ g. IsGroup g.names g.links g.codes.handlers };
+}
+
+impl Group {
+    /// A group, with the links and names of its handlers.
+    pub(crate) fn new(extension: u32, codes: Codes, links: Seq<Links>, names: Names) -> Group
+        requires { IsGroup names links codes.handlers }
+        ensures { result ≡ record { extension = extension; codes = codes } }
+    {
+        Group {
+            extension,
+            codes,
+            links,
+            names,
+        }
+    }
+
+    /// The number of the extension.
+    pub(crate) fn extension(&self) -> u32
+        ensures { result ≡ self.now.extension }
+    {
+        self.extension
+    }
+
+    /// The code.
+    pub fn codes(&self) -> &Codes
+        ensures { result.now ≡ self.now.codes }
+    {
+        &self.codes
+    }
+
+    /// The code, by value.
+    pub fn into_codes(self) -> Codes
+        ensures { result ≡ self.codes }
+    {
+        let Group { codes, .. } = self;
+        codes
+    }
+
+    /// The handler with a name, with its links.
+    pub(crate) fn linked(&self, name: &str) -> Option<Linked<'_>>
+        ensures { result ≡ handler_named name.now self.now.codes.handlers }
+    {
+        match self.names.place(name) {
+            Some(place) => linked_at(self.codes.handlers(), self.links.as_slice(), place),
+            None => None,
+        }
+    }
+
+    /// The handler at a place, with its links, if it has the name.
+    pub(crate) fn named_at(&self, place: usize, name: &str) -> Option<Linked<'_>>
+        ensures { IfSome result (λ h. IsNamedAt name.now self.now.codes.handlers place h) }
+    {
+        match linked_at(self.codes.handlers(), self.links.as_slice(), place) {
+            Some(linked) if linked.handler().command().as_str() == name => Some(linked),
+            _ => None,
+        }
+    }
+
+    /// The spot of the handler with a name.
+    pub(crate) fn spot(&self, name: &str) -> Option<Spot> {
+        match self.names.place(name) {
+            Some(place) => Some(Spot {
+                extension: self.extension,
+                place,
+            }),
+            None => None,
+        }
+    }
+
+    /// The signature of the handler with a name, or `None`.
+    pub fn signature(&self, name: &str) -> Option<&Signature>
+        ensures { option_copied result
+            ≡ option_map (λ h. h.signature) (handler_named name.now self.now.codes.handlers) }
+    {
+        match self.linked(name) {
+            Some(linked) => Some(linked.handler().signature()),
+            None => None,
+        }
+    }
+
+    /// The first handler that calls the native command.
+    pub(crate) fn caller_of(&self, native: Native) -> Option<&Handler>
+        ensures { option_copied result ≡ find (calls_native native) self.now.codes.handlers }
+    {
+        caller_in(self.codes.handlers(), self.links.as_slice(), native)
+    }
+}
+
+/// The first of the handlers that calls the native command.
+#[tactic(auto, using(crate::proofs::GroupLemmas::as_long, crate::proofs::GroupLemmas::passed, crate::proofs::GroupLemmas::met))]
+fn caller_in<'a>(handlers: &'a [Handler], links: &'a [Links], native: Native) -> Option<&'a Handler>
+    requires { AllZip AreLinks links.now handlers.now }
+    ensures { option_copied result ≡ find (calls_native native) handlers.now }
+{
+    for place in 0..handlers.len() {
+        if links[place].calls(native) {
+            return Some(&handlers[place]);
+        }
+    }
+    None
+}
+
+/// The handler at a place, with its links.
+#[tactic(auto, using(crate::proofs::GroupLemmas::as_long, crate::proofs::GroupLemmas::its_natives))]
+fn linked_at<'a>(handlers: &'a [Handler], links: &'a [Links], place: usize) -> Option<Linked<'a>>
+    requires { AllZip AreLinks links.now handlers.now }
+    ensures { result ≡ slice_get handlers.now place }
+{
+    if place < handlers.len() {
+        return Some(Linked::new(&handlers[place], links[place].targets.as_slice()));
+    }
+    None
+}
+
+/// The links of handlers, resolved among the handlers of `around`.
+#[tactic(auto, using(crate::proofs::GroupLemmas::one_more))]
+pub(crate) fn links_of(
+    alloc: Global,
+    handlers: &[Handler],
+    around: &Around<'_>,
+) -> Result<Seq<Links>, NoMemory>
+    ensures { IfOk result (λ links. AllZip AreLinks links handlers.now) }
+{
+    let mut links = Vec::with_capacity(alloc, handlers.len())?;
+    for handler in handlers {
+        links.push(Links::new(alloc, handler, around)?)?;
+    }
+    Ok(Seq::from_vec(links))
+}

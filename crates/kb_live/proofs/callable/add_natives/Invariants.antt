@@ -1,9 +1,0 @@
-use Rattle.std.proofs.Common.{◌≡◌, drop}
-use Rattle.kb_live.specs.Callable.{with_natives}
-use Rattle.kb_live.proofs.callable.add_natives.Given as goal
-
--- those that are left give what all give
-abbrev pub invariant-loop-native : goal.invariant-loop-native
-invariant-loop-native g l =
-    with_natives (drop l.native-index l.natives) l.registry l.callable
-    ≡ with_natives l.natives l.registry l.fn.callable

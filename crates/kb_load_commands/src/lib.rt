@@ -1,0 +1,13 @@
+//! The live commands of a new session: the host's closures, and the handlers of extensions, verified or
+//! raw (not verified).
+#![tactic(auto)]
+
+mod callable;
+pub mod checked;
+pub mod laws;
+mod natives;
+pub mod raw;
+mod verifying;
+
+pub use checked::checked_commands;
+pub use raw::raw_commands;

@@ -1,0 +1,88 @@
+//! What is reported of the entries of a manifest.
+ghost use Rattle.std.specs.Prelude.{◌≡◌, [], ◌++◌, OnOk};
+ghost use Rattle.kb_manifest.specs.Notes.{no_notes, with_warning, with_unread};
+
+use kb_base::{NoMemory, Origin, Part, Seq, UnreadPattern, Warning};
+use kb_when::ClausePattern;
+use std::alloc::Global;
+
+/// What is reported of the entries of a part of a manifest, in their order.
+#[derive(Debug, Drop)]
+pub struct Notes {
+    /// At most one warning for each entry.
+    pub warnings: Seq<Warning>,
+    /// The unsupported patterns, also those of an entry that an earlier one with the same identifier replaces.
+    pub unread: Seq<UnreadPattern>,
+}
+
+impl Notes {
+    /// No notes.
+    pub(crate) fn new(alloc: Global) -> Notes
+        ensures { result ≡ no_notes }
+    {
+        Notes {
+            warnings: Seq::new(alloc),
+            unread: Seq::new(alloc),
+        }
+    }
+
+    /// Adds the warning of an entry, if it has one.
+    fn warn(
+        &mut self,
+        origin: Origin,
+        part: Part,
+        place: usize,
+        number: Option<u32>,
+    ) -> Result<(), NoMemory>
+        ensures { OnOk result (self.new ≡ with_warning origin part place number self.old) }
+    {
+        match number {
+            Some(number) => self.warnings.push(Warning {
+                origin,
+                part,
+                number,
+                place,
+            }),
+            None => Ok(()),
+        }
+    }
+
+    /// Adds the warning and the unsupported patterns of an entry.
+    pub(crate) fn add(
+        &mut self,
+        origin: Origin,
+        part: Part,
+        place: usize,
+        number: Option<u32>,
+        patterns: Seq<ClausePattern>,
+    ) -> Result<(), NoMemory>
+        ensures { OnOk result (self.new
+            ≡ with_unread origin part place patterns (with_warning origin part place number self.old)) }
+    {
+        self.warn(origin, part, place, number)?;
+        self.mark(origin, part, place, patterns)
+    }
+
+    /// Adds the unsupported patterns of an entry.
+    fn mark(
+        &mut self,
+        origin: Origin,
+        part: Part,
+        place: usize,
+        patterns: Seq<ClausePattern>,
+    ) -> Result<(), NoMemory>
+        ensures { OnOk result (self.new ≡ with_unread origin part place patterns self.old) }
+    {
+        for one in patterns.into_vec() {
+            let ClausePattern { number, pattern } = one;
+            self.unread.push(UnreadPattern {
+                origin,
+                part,
+                place,
+                number,
+                pattern,
+            })?;
+        }
+        Ok(())
+    }
+}

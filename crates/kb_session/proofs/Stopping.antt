@@ -1,0 +1,74 @@
+-- Only a key press can stop a running session.
+use Rattle.std.specs.Prelude.{⊤}
+use Rattle.std.proofs.Common.{◌≡◌, ◌∙◌, false, Option, Some, None, Result, Ok, Err, ℕ, ap, refl}
+use Rattle.kb_base.specs.declared.refusal.Refusal.{Refusal}
+use Rattle.kb_code.specs.Handler.{HandlerData}
+use Rattle.kb_core.specs.declared.native.Native.{Native}
+use Rattle.kb_files.specs.RuleFile.{rules_in}
+use Rattle.kb_handler_table.specs.Live.{caller_of}
+use Rattle.kb_registry.specs.Live.{registration_fault, holder}
+use Rattle.kb_registry.specs.declared.fault.RegistryFault.{RegistryFault}
+use Rattle.kb_rules.specs.RuleList.{Listed}
+use Rattle.kb_base.specs.declared.note.Origin.TheVariants.{User}
+use Rattle.kb_session.specs.Session.{Answers, Does, answered}
+use Rattle.kb_session.specs.State.{State, Told, happens, reload, register, dispose, Answered, step_on, step_unless}
+use Rattle.kb_session.specs.State.{out_of, taken_unless, refusal_of, reloaded, registering, disposing}
+use Rattle.kb_session.specs.State.{disposing_unless}
+use Rattle.kb_stream.specs.Fold.{Traced}
+use Rattle.kb_trace.specs.declared.event.Answer.{Answer}
+use Rattle.kb_trace.specs.declared.event.Event.{Event}
+use Rattle.kb_trace.specs.declared.event.Event.TheVariants as event
+
+-- the input is no key press
+abbrev pub IsQuiet : Told → Type 0
+IsQuiet (happens (event.Key key)) = ⊥
+IsQuiet told = ⊤
+
+taken_quiet : (refusal : Option Refusal) (e : Event) (s : State) → IsQuiet (happens e)
+    → (taken_unless refusal e s).state.stopped ≡ s.stopped
+taken_quiet (Some refusal) e s quiet = refl
+taken_quiet None (event.Key key) s quiet = absurd quiet
+taken_quiet None (event.Focus name) s quiet = refl
+taken_quiet None (event.SetKey name key value) s quiet = refl
+taken_quiet None (event.UnsetKey name key) s quiet = refl
+taken_quiet None (event.Unread number) s quiet = refl
+taken_quiet None event.NoClosure s quiet = refl
+
+reloaded_quiet : (rules : Result Listed Refusal) (s : State) → (reloaded rules s).state.stopped ≡ s.stopped
+reloaded_quiet (Ok user) s = refl
+reloaded_quiet (Err refusal) s = refl
+
+registering_quiet : (fault : Option RegistryFault) (native : Native) (s : State)
+    → (registering fault native s).state.stopped ≡ s.stopped
+registering_quiet None native s = refl
+registering_quiet (Some fault) native s = refl
+
+disposing_quiet : (caller : Option HandlerData) (native : Native) (number : ℕ) (s : State)
+    → (disposing_unless caller native number s).state.stopped ≡ s.stopped
+disposing_quiet None native number s = refl
+disposing_quiet (Some caller) native number s = refl
+
+held_quiet : (o : Option Native) (number : ℕ) (s : State) → (disposing o number s).state.stopped ≡ s.stopped
+held_quiet None number s = refl
+held_quiet (Some native) number s = disposing_quiet (caller_of native s.live.code) native number s
+
+-- so the step of any other input leaves a running session running
+step_quiet : (told : Told) (s : State) → IsQuiet told → (step_on told s).state.stopped ≡ s.stopped
+step_quiet (happens e) s quiet = taken_quiet (refusal_of e s) e s quiet
+step_quiet (reload bytes marks) s quiet = reloaded_quiet (rules_in marks User bytes) s
+step_quiet (register native) s quiet = registering_quiet (registration_fault native s.live) native s
+step_quiet (dispose number) s quiet = held_quiet (holder number s.live) number s
+
+-- the same of a call that handled an input
+pub does_quietly : (told : Told) (old new : Traced State) (a : Answer) → IsQuiet told → Does told old a new
+    → new.state.stopped ≡ old.state.stopped
+does_quietly told old new a quiet does = ap (λ s. s.state.stopped) does.1 ∙ step_quiet told old.state quiet
+
+pub answers_quietly : (told : Told) (old new : Traced State) (a : Answered) → IsQuiet told → Answers told old a new
+    → new.state.stopped ≡ false
+answers_quietly told old new a quiet answers =
+    ap (λ s. s.state.stopped) answers.2
+    ∙ ap (λ b. (out_of (step_unless b told old.state)).state.stopped) answers.0
+    ∙ step_quiet told old.state quiet ∙ answers.0
+
+pub ruleset stopping = (does_quietly)

@@ -1,5 +1,0 @@
-use Rattle.kb_sound.proofs.Disposals.{disposed_stays_sound}
-use Rattle.kb_sound.proofs.laws.disposed_stays_sound.Goals as goal
-
-pub returns : goal.returns
-returns c = disposed_stays_sound

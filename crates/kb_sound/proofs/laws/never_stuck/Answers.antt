@@ -1,5 +1,0 @@
-use Rattle.kb_sound.proofs.NeverStuck.{never_stuck}
-use Rattle.kb_sound.proofs.laws.never_stuck.Goals as goal
-
-pub returns : goal.returns
-returns c = never_stuck

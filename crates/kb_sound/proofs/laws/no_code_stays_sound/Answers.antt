@@ -1,5 +1,0 @@
-use Rattle.kb_sound.proofs.Loads.{no_code_stays_sound}
-use Rattle.kb_sound.proofs.laws.no_code_stays_sound.Goals as goal
-
-pub returns : goal.returns
-returns c = no_code_stays_sound

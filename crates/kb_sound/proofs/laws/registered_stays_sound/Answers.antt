@@ -1,5 +1,0 @@
-use Rattle.kb_sound.proofs.Stays.{registered_stays_sound}
-use Rattle.kb_sound.proofs.laws.registered_stays_sound.Goals as goal
-
-pub returns : goal.returns
-returns c = registered_stays_sound

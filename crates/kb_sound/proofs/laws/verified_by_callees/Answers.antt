@@ -1,5 +1,0 @@
-use Rattle.kb_sound.proofs.Callees.{verified_by_callees}
-use Rattle.kb_sound.proofs.laws.verified_by_callees.Goals as goal
-
-pub returns : goal.returns
-returns c = verified_by_callees

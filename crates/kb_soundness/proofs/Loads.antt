@@ -1,0 +1,232 @@
+-- Added handlers that may join are verified, and keep each live handler verified.
+use Rattle.std.proofs.Common.{◌≡◌, ◌⊎◌, ⊎_elim, ℕ, Bool, true, false, cond, List, [], ◌∷◌, ◌++◌, Option}
+use Rattle.std.proofs.Common.{Some, None, refl, sym, ap, ◌∙◌, subst, find, is_some, if◌then◌else◌, arith}
+use Rattle.std.specs.Prelude.{slice_get, option_map, option_and_then, nat_lt, bytes_eq}
+use Rattle.std.specs.List.{All}
+use Rattle.std.specs.Option.{option_or}
+use Rattle.std.proofs.lemmas.Bool.{false≢true}
+use Rattle.std.proofs.lemmas.List.Folds.{find-append}
+use Rattle.std.proofs.lemmas.Slice.Eq.{bytes_eq-Decides}
+use Rattle.kb_core.specs.declared.native.Native.{Native}
+use Rattle.kb_core.specs.Declaration.{Declaration}
+use Rattle.kb_core.specs.Native.{named}
+use Rattle.kb_code.specs.Handler.{HandlerData}
+use Rattle.kb_code.specs.Commands.{Callee, Coded, declared_by}
+use Rattle.kb_handler_table.specs.Codes.{CodesData}
+use Rattle.kb_handler_table.specs.Live.{Group, handlers_in, handler_named, is_reserved, is_taken, has_taken}
+use Rattle.kb_handler_table.specs.Live.{with_group}
+use Rattle.kb_registry.specs.Live.{Live, callee_by, table_of, with_code}
+use Rattle.kb_verify.specs.Callable.{Commands}
+use Rattle.kb_verify.specs.Accepted.{IsAccepted, IsCallee}
+use Rattle.kb_soundness.specs.Sound.{IsVerified, live_declaration_at}
+use Rattle.kb_soundness.specs.Stays.{IsSound, NoCodeStaysSound}
+use Rattle.kb_soundness.proofs.Tests.{or_false}
+use Rattle.kb_soundness.proofs.Found.{found_all}
+use Rattle.kb_soundness.proofs.Stays.{Stays, declared_stays, verified_stays, coded_by, coded_live}
+
+-- the declaration of the handler, one of these, at an index of a handler's list of calls
+abbrev pub declaration_among : List HandlerData → HandlerData → ℕ → Option Declaration
+declaration_among handlers h n =
+    option_map (λ g. g.signature)
+    (option_and_then (λ name. handler_named name handlers) (slice_get h.calls n))
+
+-- the handler was accepted against some commands, and each of its callees declares the same, as a live
+-- command or as one of the handlers that are added
+pub record MayJoin (live : Live) (handlers : List HandlerData) (h : HandlerData) : Type 0 where
+  pub commands : Commands
+  pub accepted : IsAccepted commands h
+  pub callees : (place index : ℕ) (d : Declaration) → IsCallee commands h place index d →
+      (live_declaration_at (table_of live) h index ≡ Some d) ⊎ (declaration_among handlers h index ≡ Some d)
+
+-- an option that isn't some is none
+nothing : {X : Type 0} (o : Option X) → is_some o ≡ false → o ≡ None
+nothing None e = refl
+nothing (Some x) e = absurd (cc)
+
+-- ---- the first of two results
+
+or_none : {X : Type 0} (o : Option X) → option_or o None ≡ o
+or_none None = refl
+or_none (Some x) = refl
+
+-- if the first of two results is none, both are
+pub both_none : {X : Type 0} (a b : Option X) → option_or a b ≡ None → (a ≡ None) × (b ≡ None)
+both_none None b e = (refl, e)
+both_none (Some x) b e = absurd (cc)
+
+module _ (p : HandlerData → Bool) (new : Group) where
+  -- a group without a result doesn't change the search
+  old_found : (gs : List Group) → find p new.codes.handlers ≡ None →
+      find p (handlers_in (with_group new gs)) ≡ find p (handlers_in gs)
+  old_found [] none = find-append p new.codes.handlers [] ∙ ap (λ o. option_or o None) none
+  old_found (g ∷ gs) none = by (nat_lt new.extension g.extension) (old_found gs none)
+    where
+      by : (b : Bool) → find p (handlers_in (with_group new gs)) ≡ find p (handlers_in gs) →
+          find p (handlers_in (if b then new ∷ g ∷ gs else g ∷ with_group new gs))
+          ≡ find p (handlers_in (g ∷ gs))
+      by true rest =
+          find-append p new.codes.handlers (handlers_in (g ∷ gs))
+          ∙ ap (λ o. option_or o (find p (handlers_in (g ∷ gs)))) none
+      by false rest =
+          find-append p g.codes.handlers (handlers_in (with_group new gs))
+          ∙ ap (option_or (find p g.codes.handlers)) rest
+          ∙ sym (find-append p g.codes.handlers (handlers_in gs))
+
+  -- a result that no group has is found in the added group
+  new_found : (gs : List Group) → find p (handlers_in gs) ≡ None →
+      find p (handlers_in (with_group new gs)) ≡ find p new.codes.handlers
+  new_found [] none = find-append p new.codes.handlers [] ∙ or_none (find p new.codes.handlers)
+  new_found (g ∷ gs) none =
+      let each = both_none (find p g.codes.handlers) (find p (handlers_in gs))
+      (sym (find-append p g.codes.handlers (handlers_in gs)) ∙ none) in
+      by (nat_lt new.extension g.extension) each.0 (new_found gs each.1)
+    where
+      by : (b : Bool) → find p g.codes.handlers ≡ None →
+          find p (handlers_in (with_group new gs)) ≡ find p new.codes.handlers →
+          find p (handlers_in (if b then new ∷ g ∷ gs else g ∷ with_group new gs))
+          ≡ find p new.codes.handlers
+      by true first rest =
+          find-append p new.codes.handlers (handlers_in (g ∷ gs))
+          ∙ ap (option_or (find p new.codes.handlers)) none ∙ or_none (find p new.codes.handlers)
+      by false first rest =
+          find-append p g.codes.handlers (handlers_in (with_group new gs))
+          ∙ ap (λ o. option_or o (find p (handlers_in (with_group new gs)))) first ∙ rest
+
+-- ---- free names
+
+-- a handler has another name than those before it
+pub free : (above hs : List HandlerData) → has_taken above hs ≡ false → (name : List ℕ) (h : HandlerData) →
+    handler_named name above ≡ Some h → handler_named name hs ≡ None
+free above [] e name h is = refl
+free above (x ∷ hs) e name h is =
+    let each = or_false (is_taken above x) (has_taken (above ++ x ∷ []) hs) e in
+    by (bytes_eq name x.command) refl (or_false (is_reserved x.command) _ each.0).1
+    (free (above ++ x ∷ []) hs each.1 name h
+    (find-append (λ g. bytes_eq name g.command) above (x ∷ [])
+    ∙ ap (λ o. option_or o (handler_named name (x ∷ []))) is))
+  where
+    by : (b : Bool) → bytes_eq name x.command ≡ b → is_some (handler_named x.command above) ≡ false →
+        handler_named name hs ≡ None → cond b (Some x) (handler_named name hs) ≡ None
+    by true same other rest =
+        let its : name ≡ x.command = (bytes_eq-Decides name x.command).0 same in
+        absurd (false≢true (sym other ∙ ap (λ n. is_some (handler_named n above)) (sym its) ∙ ap is_some is))
+    by false same other rest = rest
+
+-- and than each native
+pub unreserved : (above hs : List HandlerData) → has_taken above hs ≡ false → (name : List ℕ) (h : HandlerData) →
+    handler_named name hs ≡ Some h → named name ≡ None
+unreserved above [] e name h is = absurd (cc)
+unreserved above (x ∷ hs) e name h is =
+    let each = or_false (is_taken above x) (has_taken (above ++ x ∷ []) hs) e in
+    by (bytes_eq name x.command) refl (or_false (is_reserved x.command) _ each.0).0
+    (unreserved (above ++ x ∷ []) hs each.1 name h) is
+  where
+    by : (b : Bool) → bytes_eq name x.command ≡ b → is_reserved x.command ≡ false →
+        (handler_named name hs ≡ Some h → named name ≡ None) →
+        cond b (Some x) (handler_named name hs) ≡ Some h →
+        named name ≡ None
+    by true same plain rest is =
+        let its : name ≡ x.command = (bytes_eq-Decides name x.command).0 same in
+        ap named its ∙ nothing (named x.command) (or_false (is_some (named x.command)) _ plain).0
+    by false same plain rest is = rest is
+
+-- ---- the live commands after the addition
+
+module _ (extension : ℕ) (codes : CodesData) (live : Live)
+    (untaken : has_taken (handlers_in live.code) codes.handlers ≡ false) where
+  abbrev then_live : Live
+  then_live = with_code extension codes live
+
+  abbrev group : Group
+  group = record { extension = extension; codes = codes }
+
+  handler_stays : (name : List ℕ) (c : Callee) (o : Option HandlerData) →
+      handler_named name (handlers_in live.code) ≡ o → option_map Coded o ≡ Some c →
+      option_map Coded (handler_named name (handlers_in then_live.code)) ≡ Some c
+  handler_stays name c None is e = absurd (cc)
+  handler_stays name c (Some h) is e =
+      ap (option_map Coded) (old_found (λ g. bytes_eq name g.command) group live.code
+      (free (handlers_in live.code) codes.handlers untaken name h is) ∙ is) ∙ e
+
+  each_stays : (o : Option Native) (name : List ℕ) (c : Callee) → callee_by o name live ≡ Some c →
+      callee_by o name then_live ≡ Some c
+  each_stays None name c e = handler_stays name c (handler_named name (handlers_in live.code)) refl e
+  each_stays (Some n) name c e = e
+
+  pub stays : Stays (table_of live) (table_of then_live)
+  stays name c e = each_stays (named name) name c e
+
+  -- the name of an added handler was free
+  was_free : (name : List ℕ) (h : HandlerData) → handler_named name codes.handlers ≡ Some h →
+      (o : Option HandlerData) →
+      handler_named name (handlers_in live.code) ≡ o → o ≡ None
+  was_free name h is None before = refl
+  was_free name h is (Some g) before =
+      let none = free (handlers_in live.code) codes.handlers untaken name g before in absurd (cc)
+
+  comes : (name : List ℕ) (h : HandlerData) → handler_named name codes.handlers ≡ Some h →
+      handler_named name (handlers_in then_live.code) ≡ Some h
+  comes name h is =
+      new_found (λ g. bytes_eq name g.command) group live.code
+      (was_free name h is (handler_named name (handlers_in live.code)) refl) ∙ is
+
+  pub comes_live : (name : List ℕ) (h : HandlerData) → handler_named name codes.handlers ≡ Some h →
+      table_of then_live name ≡ Some (Coded h)
+  comes_live name h is =
+      coded_live name then_live h (unreserved (handlers_in live.code) codes.handlers untaken name h is)
+      (comes name h is)
+
+  -- the declaration of an added handler is that of the live command afterwards
+  declared_comes : (o : Option (List ℕ)) (d : Declaration) →
+      option_map (λ (g : HandlerData). g.signature)
+      (option_and_then (λ name. handler_named name codes.handlers) o) ≡ Some d →
+      option_map declared_by (option_and_then (table_of then_live) o) ≡ Some d
+  declared_comes None d e = absurd (cc)
+  declared_comes (Some name) d e = by (handler_named name codes.handlers) refl e
+    where
+      by : (o : Option HandlerData) → handler_named name codes.handlers ≡ o →
+          option_map (λ (g : HandlerData). g.signature) o ≡ Some d →
+          option_map declared_by (table_of then_live name) ≡ Some d
+      by None is e = absurd (cc)
+      by (Some h) is e = ap (option_map declared_by) (comes_live name h is) ∙ e
+
+  -- a handler that may join is verified afterwards
+  joins : (h : HandlerData) → MayJoin live codes.handlers h → IsVerified (table_of then_live) h
+  joins h may = record {
+    commands = may.commands;
+    accepted = may.accepted;
+    callees = λ p n d c. ⊎_elim
+        (declared_stays (table_of live) (table_of then_live) (slice_get h.calls n)
+        (λ name c is. stays name c) d)
+        (declared_comes (slice_get h.calls n) d) (may.callees p n d c);
+  }
+
+  -- and so is each live handler
+  verified_then : All (MayJoin live codes.handlers) codes.handlers → IsSound live →
+      (name : List ℕ) (h : HandlerData) → named name ≡ None →
+      handler_named name (handlers_in then_live.code) ≡ Some h →
+      (o : Option HandlerData) → handler_named name codes.handlers ≡ o → IsVerified (table_of then_live) h
+  verified_then all sound name h none is None before =
+      verified_stays (table_of live) (table_of then_live) stays h
+      (sound name h (coded_live name live h none
+      (sym (old_found (λ g. bytes_eq name g.command) group live.code before) ∙ is)))
+  verified_then all sound name h none is (Some g) before =
+      let same : g ≡ h = cc (comes name g before, is) in
+      joins h (found_all (MayJoin live codes.handlers) (λ g. bytes_eq name g.command) codes.handlers h
+      all (before ∙ ap Some same))
+
+-- handlers that may join, with free names, keep each live handler verified
+pub joined_stays_sound : (extension : ℕ) (codes : CodesData) (live : Live) →
+    has_taken (handlers_in live.code) codes.handlers ≡ false →
+    All (MayJoin live codes.handlers) codes.handlers → IsSound live →
+    IsSound (with_code extension codes live)
+joined_stays_sound extension codes live untaken all sound name h e =
+    let is = coded_by (named name) name (with_code extension codes live) h e in
+    verified_then extension codes live untaken all sound name h is.0 is.1
+    (handler_named name codes.handlers) refl
+
+-- code without a handler may join
+pub no_code_stays_sound : NoCodeStaysSound
+no_code_stays_sound extension codes live none =
+    joined_stays_sound extension codes live (ap (has_taken (handlers_in live.code)) none)
+    (subst (λ hs. All (MayJoin live hs) hs) (sym none) (λ k d lt. absurd (omega (arith, lt))))

@@ -1,0 +1,50 @@
+//! Theorems about verified handlers. The functions have no effect; their contracts are the theorems.
+ghost use Rattle.kb_soundness.specs.Sound.{NeverStuck, StartsNeverStuck};
+ghost use Rattle.kb_soundness.specs.Callees.{VerifiedByCallees};
+ghost use Rattle.kb_soundness.specs.Stays.{FreshIsSound, RegisteredStaysSound, DisposedStaysSound};
+ghost use Rattle.kb_soundness.specs.Stays.{CodeStaysSound, NoCodeStaysSound};
+
+/// The run of a verified handler with fitting arguments ends without a trap, in each state of the core.
+pub fn never_stuck()
+    ensures { NeverStuck }
+{}
+
+/// If each live handler is verified, the start of each live command with fitting arguments ends without
+/// a trap.
+pub fn starts_never_stuck()
+    ensures { StartsNeverStuck }
+{}
+
+/// An accepted handler is verified if each callee in the verifier's list is live and still declares
+/// what it declared when the handler was accepted.
+pub fn verified_by_callees()
+    ensures { VerifiedByCallees }
+{}
+
+/// In an empty registry each live handler is verified.
+pub fn fresh_is_sound()
+    ensures { FreshIsSound }
+{}
+
+/// If each live handler is verified, this still holds after a closure is registered.
+pub fn registered_stays_sound()
+    ensures { RegisteredStaysSound }
+{}
+
+/// If each live handler is verified, this still holds after a registration is ended whose native
+/// command no live handler calls.
+pub fn disposed_stays_sound()
+    ensures { DisposedStaysSound }
+{}
+
+/// If each live handler is verified, this still holds after verified code is added, unless the registry
+/// refuses it.
+pub fn code_stays_sound()
+    ensures { CodeStaysSound }
+{}
+
+/// If each live handler is verified, this still holds after code without any handler is added, verified
+/// or not.
+pub fn no_code_stays_sound()
+    ensures { NoCodeStaysSound }
+{}

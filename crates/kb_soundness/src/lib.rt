@@ -1,0 +1,7 @@
+//! Soundness of the verifier: verified handlers never trap.
+#![tactic(auto)]
+
+pub mod laws;
+pub mod starting;
+
+pub use starting::start;

@@ -1,0 +1,1 @@
+"""Checks that tools/ready runs over documents and sources, without a proof."""

@@ -1,0 +1,114 @@
+"""In which order the gate tries the wrong bodies of crates, beside rt ci, and for how long.
+
+The wrong bodies of a crate are tried once rt ci has said that the crate is proved. Of the crates that are
+ready come first those that the commit changes, then those above them, then the others, whose order begins
+at another crate for each commit: where the time never suffices for all, each crate comes first some time.
+Edits that an earlier run on this machine saw refused are not tried again (kept.py). Once the time is up no
+check begins. What was not tried by then is counted and fails nothing.
+"""
+
+import concurrent.futures
+import os
+import queue
+import re
+import subprocess
+
+from gate.kept import Kept
+from gate.kit import TOP, rt
+from gate.trying import Limit, Tried, are_refused, crates_with_edits, say, try_crate, work_of
+
+# What rt ci says of a crate that it has proved, or that an earlier run on this machine has.
+PROVED = re.compile(r"^rt: (\w+) (?:proved$|is kept: )")
+
+
+def git(*words, top=TOP):
+    """What git prints, or nothing where it fails."""
+    try:
+        how = {"stdin": subprocess.DEVNULL, "capture_output": True, "text": True}
+        ran = subprocess.run(["git", *words], cwd=top, check=False, **how)
+    except OSError:
+        return ""
+    return "" if ran.returncode else ran.stdout.strip()
+
+
+def landed_before(git):
+    """The commit that landed before this one: where this one left the main line, or its parent, if known."""
+    head = git("rev-parse", "HEAD")
+    bases = [git("merge-base", "HEAD", it) for it in ("origin/main", "main")]
+    return next((it for it in bases if it and it != head), "") or git("rev-parse", "-q", "--verify", "HEAD~1")
+
+
+def changed_crates(git):
+    """The names of the crates that changed since the commit that landed before, or none if it is unknown."""
+    base = landed_before(git)
+    files = git("diff", "--name-only", base, "--", "crates").split("\n") if base else []
+    return {it.split("/")[1] for it in files if it.count("/") > 1}
+
+
+def turns_of(crates, changed, commit):
+    """For each crate its turn: 0 if it changed, 1 if one below it did, or else 2 or more, by the commit."""
+    names = sorted(it.name for it in crates)
+    first = int(commit[:8] or "0", 16) % max(1, len(names))
+    turns = {name: 2 + (at - first) % len(names) for at, name in enumerate(names)}
+    for it in crates:
+        if it.name in changed:
+            turns[it.name] = 0
+        elif changed & {below.name for below in it.below()}:
+            turns[it.name] = 1
+    return turns
+
+
+def try_what_is_new(crate, functions, edits, before, limit):
+    """Tries those edits of a proved crate that no earlier run on this machine saw refused as they are."""
+    known = before.refused()
+    found = [Tried(it, True, text) for it, text in known.items()]
+    if known:
+        counts = f"{len(known)} of its {len(edits)} edits"
+        say(f"{crate.name}: {counts} were refused in an earlier run on this machine, of the same files")
+    left = [it for it in edits if it not in known]
+    if left:
+        tried = try_crate(crate, functions, left, is_proved=True, limit=limit)
+        before.keep(tried)
+        found += tried
+    return found
+
+
+def try_ready(ready, limit):
+    """Tries the edits of crates that come ready, one crate after another, until `None` comes for a crate."""
+    found = []
+    while (it := ready.get()[-1]) is not None:
+        found += try_what_is_new(*it, limit)
+    return found
+
+
+def be_idle():
+    """Has this thread's checks run only where rt ci leaves a processor idle."""
+    os.sched_setscheduler(0, os.SCHED_IDLE, os.sched_param(0))
+
+
+def try_as_proved(crates, lines, at=None, limit=None, git=git):
+    """Tries the wrong bodies of each crate once these lines of rt ci say that the crate is proved.
+
+    It passes the lines on. The folder `at`, if there is one, keeps what runs found.
+    """
+    limit, turns = limit or Limit(), turns_of(crates, changed_crates(git), git("rev-parse", "HEAD"))
+    waiting = {it[0].name: (*it, Kept(it[0], it[2], at)) for it in crates_with_edits(crates)}
+    ready, proved = queue.PriorityQueue(), set()
+    with concurrent.futures.ThreadPoolExecutor(rt.processors(), initializer=be_idle) as pool:
+        lanes = [pool.submit(try_ready, ready, limit) for _ in range(rt.processors())]
+        try:
+            for line in lines:
+                say(line.rstrip("\n"))
+                proved.update(PROVED.findall(line))
+                for name, (crate, functions, edits, before) in [*waiting.items()]:
+                    if {name, *(it.name for it in crate.below())} <= proved:
+                        del waiting[name]
+                        task = (crate, functions, edits, before)
+                        ready.put((turns[name], -work_of(crate, edits), name, task))
+        finally:
+            for number in range(len(lanes)):
+                # (behind all that is there)
+                ready.put((len(crates) + 2, 0, str(number), None))
+    found = [it for lane in lanes for it in lane.result()]
+    unproved = [it for _, _, edits, _ in waiting.values() for it in edits]
+    return are_refused([*found, *(Tried(it, False, "the crate is not proved") for it in unproved)])
