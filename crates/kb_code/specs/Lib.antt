@@ -8,3 +8,5 @@ pub mod Reachable
 pub mod Commands
 pub mod Found
 pub mod Target
+pub mod Same
+pub mod Face

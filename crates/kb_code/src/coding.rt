@@ -84,7 +84,7 @@ fn instr_at(place: usize, opcode: u8, operand: u16) -> Result<Instr, CodeFault>
 }
 
 /// Encodes code. `decode` returns the same code. Error: `NoMemory`.
-#[tactic(auto, using(crate::proofs::Laws::all_read_again))]
+#[tactic(auto, using(crate::proofs::CodingLemmas::all_read_again))]
 pub fn encode(alloc: Global, code: &[Instr]) -> Result<Seq<u8>, NoMemory>
     ensures bytes { IfOk result (λ bytes. bytes ≡ flat_map bytes_of code.now) }
     ensures read_again { IfOk result (λ bytes. code_of bytes ≡ Ok code.now) }

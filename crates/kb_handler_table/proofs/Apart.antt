@@ -7,11 +7,11 @@ use Rattle.std.proofs.lemmas.List.Folds.{find-append}
 use Rattle.std.proofs.lemmas.Slice.Eq.{bytes_eq-Decides}
 use Rattle.std.specs.Bool.{⊤}
 use Rattle.std.specs.Option.{option_or}
-use Rattle.kb_code.specs.Handler.{HandlerData}
+use Rattle.kb_code.specs.Handler.{HandlerData, handler_named}
 use Rattle.kb_handler_table.specs.declared.fault.CodesFault.TheVariants.{AlreadyExists}
 use Rattle.kb_handler_table.specs.Apart.{IsApart, AreApart}
 use Rattle.kb_handler_table.specs.Group.{IsNamedAt}
-use Rattle.kb_handler_table.specs.Live.{Group, handlers_in, handler_named, is_reserved, is_taken}
+use Rattle.kb_handler_table.specs.Live.{Group, handlers_in, is_reserved, is_taken}
 use Rattle.kb_handler_table.specs.Live.{has_taken, codes_fault}
 use Rattle.kb_handler_table.specs.Live.{with_group, without_group}
 

@@ -9,10 +9,10 @@ use Rattle.std.proofs.lemmas.List.Folds.{find-append}
 use Rattle.std.proofs.lemmas.Option.{slice_get_read}
 use Rattle.std.specs.Option.{option_or, option_and_then}
 use Rattle.std.proofs.lemmas.Slice.Eq.{bytes_eq-Decides}
-use Rattle.kb_code.specs.Handler.{HandlerData}
+use Rattle.kb_code.specs.Handler.{HandlerData, handler_named}
 use Rattle.kb_handler_table.specs.declared.names.Names.{Names}
 use Rattle.kb_handler_table.specs.Group.{FindsFirst}
-use Rattle.kb_handler_table.specs.Live.{handler_named, is_reserved, is_taken, has_taken}
+use Rattle.kb_handler_table.specs.Live.{is_reserved, is_taken, has_taken}
 use Rattle.kb_handler_table.specs.Names.{place_in}
 
 -- the handler at a place, and the later ones

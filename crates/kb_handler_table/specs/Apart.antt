@@ -1,7 +1,6 @@
 -- Handlers with distinct names.
 use Rattle.std.specs.Prelude.{◌≡◌, ⊤, List, [], ◌∷◌, None}
-use Rattle.kb_code.specs.Handler.{HandlerData}
-use Rattle.kb_handler_table.specs.Live.{handler_named}
+use Rattle.kb_code.specs.Handler.{HandlerData, handler_named}
 
 -- none of `hs` has the handler's name
 abbrev pub IsApart : HandlerData → List HandlerData → Type 0

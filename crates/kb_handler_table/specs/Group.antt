@@ -2,11 +2,10 @@
 use Rattle.std.specs.Prelude.{◌≡◌, ℕ, Bool, List, Some, is_some, slice_get}
 use Rattle.std.specs.List.{AllZip}
 use Rattle.std.specs.Option.{option_and_then}
-use Rattle.kb_code.specs.Handler.{HandlerData}
+use Rattle.kb_code.specs.Handler.{HandlerData, handler_named}
 use Rattle.kb_handler_table.specs.declared.links.Links.{Links}
 use Rattle.kb_handler_table.specs.declared.names.Names.{Names}
 use Rattle.kb_handler_table.specs.Links.{AreLinks}
-use Rattle.kb_handler_table.specs.Live.{handler_named}
 use Rattle.kb_handler_table.specs.Names.{place_in}
 
 -- a look-up by name finds a handler of `all` exactly if it is one of `first`

@@ -5,7 +5,7 @@ use Rattle.std.specs.List.{list_any, flat_map}
 use Rattle.kb_core.specs.declared.native.Native.{Native}
 use Rattle.kb_core.specs.contracts.native.NativePartialEq.TheImpl as equality
 use Rattle.kb_core.specs.Native.{named}
-use Rattle.kb_code.specs.Handler.{HandlerData}
+use Rattle.kb_code.specs.Handler.{HandlerData, handler_named}
 use Rattle.kb_code.specs.Callees.{callees_of}
 use Rattle.kb_code.specs.Target.{natives_of}
 use Rattle.kb_handler_table.specs.Codes.{CodesData}
@@ -20,10 +20,6 @@ pub record Group : Type 0 where
 -- all live handlers, in load and file order
 abbrev pub handlers_in : List Group → List HandlerData
 handlers_in groups = flat_map (λ g. g.codes.handlers) groups
-
--- the first handler with a name
-abbrev pub handler_named : List ℕ → List HandlerData → Option HandlerData
-handler_named name handlers = find (λ h. bytes_eq name h.command) handlers
 
 -- names that no handler may have: those of the native commands, and `runCommands`
 abbrev pub is_reserved : List ℕ → Bool

@@ -4,7 +4,8 @@ ghost use Rattle.std.specs.Prelude.{IfErr, IfSome, option_copied, is_some, lengt
 ghost use Rattle.std.specs.List.{AllZip};
 ghost use Rattle.kb_base.specs.Failure.{IsRefusal, IsRefusalOrMemory};
 ghost use Rattle.kb_handler_table.specs.Group.{IsGroup, FindsFirst, is_kept};
-ghost use Rattle.kb_handler_table.specs.Live.{handlers_in, handler_named, is_reserved, codes_fault};
+ghost use Rattle.kb_handler_table.specs.Live.{handlers_in, is_reserved, codes_fault};
+ghost use Rattle.kb_code.specs.Handler.{handler_named};
 ghost use Rattle.kb_handler_table.specs.Live.{group_of, with_group, without_group, caller_of};
 ghost use Rattle.kb_handler_table.specs.Live.{Group as GroupData};
 ghost use Rattle.kb_handler_table.specs.Place.{IsPlaceOf};

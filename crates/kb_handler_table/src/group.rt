@@ -3,7 +3,8 @@ ghost use Rattle.std.specs.Prelude.{◌≡◌, IfOk, IfSome, find, length, slice
 ghost use Rattle.std.specs.List.{AllZip};
 ghost use Rattle.kb_handler_table.specs.Group.{IsGroup, IsNamedAt};
 ghost use Rattle.kb_handler_table.specs.Links.{AreLinks};
-ghost use Rattle.kb_handler_table.specs.Live.{handler_named, calls_native};
+ghost use Rattle.kb_handler_table.specs.Live.{calls_native};
+ghost use Rattle.kb_code.specs.Handler.{handler_named};
 
 use crate::codes::Codes;
 use crate::links::Links;

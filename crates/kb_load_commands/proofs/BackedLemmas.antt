@@ -13,9 +13,9 @@ use Rattle.std.specs.Cmp.Lexicographic.{nat_list_cmp_total}
 use Rattle.std.proofs.lemmas.Map.Text.{is_eq-slice_cmp}
 use Rattle.std.proofs.lemmas.List.Elements.{All-head, All-tail, All-weaker}
 use Rattle.std.proofs.lemmas.Slice.Eq.{bytes_eq-Decides}
-use Rattle.kb_code.specs.Handler.{HandlerData}
+use Rattle.kb_code.specs.Handler.{HandlerData, handler_named}
 use Rattle.kb_code.specs.Commands.{Coded, Plain, declared_by}
-use Rattle.kb_handler_table.specs.Live.{handler_named, handlers_in, has_taken}
+use Rattle.kb_handler_table.specs.Live.{handlers_in, has_taken}
 use Rattle.kb_core.specs.Declaration.{Declaration}
 use Rattle.kb_core.specs.Native.{name_of, named, natives, declaration_of}
 use Rattle.kb_core.specs.declared.native.Native.{Native}
@@ -26,9 +26,9 @@ use Rattle.kb_registry.specs.Missing.{declares, declared_live, is_there, unless_
 use Rattle.kb_registry.specs.Missing.{missing_in, missing_from}
 use Rattle.kb_verify.specs.Accepted.{AreDeclared, CheckedHandler}
 use Rattle.kb_verify.specs.Callable.{Commands, with_first}
-use Rattle.kb_verify.specs.Same.{same_declaration}
+use Rattle.kb_code.specs.Same.{same_declaration}
 use Rattle.kb_verify.specs.declared.callees.Callee.{Callee}
-use Rattle.kb_verify.proofs.SameLemmas.{same_is_equal}
+use Rattle.kb_code.proofs.SameLemmas.{same_is_equal}
 use Rattle.kb_verify.specs.Provider.{is_needed, with_handlers, with_natives, with_needed}
 use Rattle.kb_load_commands.specs.Callable.{callable_of, dependencies_of, handlers_live, live_among}
 use Rattle.kb_load_commands.specs.Callable.{provided_by}

@@ -10,10 +10,10 @@ use Rattle.std.proofs.lemmas.List.Elements.{All-drop, All-same}
 use Rattle.std.proofs.lemmas.List.Folds.{find-append}
 use Rattle.std.proofs.lemmas.Slice.Eq.{bytes_eq-Decides}
 use Rattle.std.proofs.Math.Seq.{take-append_seam, drop-append_seam}
-use Rattle.kb_code.specs.Handler.{HandlerData}
+use Rattle.kb_code.specs.Handler.{HandlerData, handler_named}
 use Rattle.kb_code.specs.Commands.{Coded}
 use Rattle.kb_handler_table.specs.Codes.{CodesData}
-use Rattle.kb_handler_table.specs.Live.{Group, group_of, handlers_in, handler_named, has_taken}
+use Rattle.kb_handler_table.specs.Live.{Group, group_of, handlers_in, has_taken}
 use Rattle.kb_handler_table.specs.Live.{is_taken, with_group}
 use Rattle.kb_registry.specs.Live.{Live, callee, with_code}
 use Rattle.kb_soundness.proofs.Loads.{free, stays, comes_live}

@@ -4,9 +4,9 @@ use Rattle.std.proofs.Common.{is_some}
 use Rattle.std.proofs.Common.{true≢false, option_map, cond}
 use Rattle.kb_core.specs.declared.native.Native.{Native}
 use Rattle.kb_core.specs.Native.{named}
-use Rattle.kb_code.specs.Handler.{HandlerData}
+use Rattle.kb_code.specs.Handler.{HandlerData, handler_named}
 use Rattle.kb_code.specs.Commands.{Callee, Plain, Coded, IsLive}
-use Rattle.kb_handler_table.specs.Live.{handlers_in, handler_named}
+use Rattle.kb_handler_table.specs.Live.{handlers_in}
 use Rattle.kb_registry.specs.Live.{Live, is_live, callee_by, table_of}
 
 -- the native of a callee

@@ -6,7 +6,8 @@ use Rattle.kb_core.specs.declared.native.Native.{Native}
 use Rattle.kb_core.specs.Native.{named}
 use Rattle.kb_code.specs.Commands.{Callee, Plain, Coded, Table}
 use Rattle.kb_handler_table.specs.Codes.{CodesData}
-use Rattle.kb_handler_table.specs.Live.{Group, handlers_in, handler_named, caller_of, with_codes}
+use Rattle.kb_handler_table.specs.Live.{Group, handlers_in, caller_of, with_codes}
+use Rattle.kb_code.specs.Handler.{handler_named}
 use Rattle.kb_handler_table.specs.Live.{without_group, same_native}
 use Rattle.kb_registry.specs.declared.fault.RegistryFault.{RegistryFault}
 use Rattle.kb_registry.specs.declared.fault.RegistryFault.TheVariants.{AlreadyExists, Exhausted, StaleTicket}

@@ -3,12 +3,11 @@ use Rattle.std.specs.Prelude.{ℕ, Bool, false, ◌||◌, List, [], ◌∷◌, O
 use Rattle.std.specs.Prelude.{if◌then◌else◌}
 use Rattle.std.specs.Option.{option_or}
 use Rattle.kb_core.specs.Declaration.{Declaration}
-use Rattle.kb_code.specs.Handler.{HandlerData}
+use Rattle.kb_code.specs.Handler.{HandlerData, handler_named}
 use Rattle.kb_code.specs.Commands.{declared_by}
 use Rattle.kb_handler_table.specs.Codes.{CodesData}
-use Rattle.kb_handler_table.specs.Live.{handler_named}
 use Rattle.kb_registry.specs.Live.{Live, callee}
-use Rattle.kb_verify.specs.Same.{same_declaration}
+use Rattle.kb_code.specs.Same.{same_declaration}
 use Rattle.kb_verify.specs.declared.callees.Callee.{Callee}
 
 -- the declaration of the live command with a name; that of the handler with a name

@@ -4,10 +4,10 @@ use Rattle.std.proofs.Common.{Option, Some, None, refl, sym, ap, ◌∙◌, subs
 use Rattle.std.specs.Prelude.{slice_get, option_map, option_and_then}
 use Rattle.std.specs.List.{All}
 use Rattle.kb_core.specs.Declaration.{Declaration}
-use Rattle.kb_code.specs.Handler.{HandlerData}
+use Rattle.kb_code.specs.Handler.{HandlerData, handler_named}
 use Rattle.kb_code.specs.Commands.{declared_by}
 use Rattle.kb_handler_table.specs.Codes.{EachChecked, HaveCallees}
-use Rattle.kb_handler_table.specs.Live.{handlers_in, handler_named, has_taken}
+use Rattle.kb_handler_table.specs.Live.{handlers_in, has_taken}
 use Rattle.kb_registry.specs.declared.fault.RegistryFault.TheVariants.{AlreadyExists}
 use Rattle.kb_registry.specs.CodeFault.{callee_fault}
 use Rattle.kb_registry.specs.Live.{Live, table_of}
@@ -17,7 +17,7 @@ use Rattle.kb_verify.specs.declared.callees.Callee.{Callee}
 use Rattle.kb_verify.specs.Callable.{Commands}
 use Rattle.kb_verify.specs.Accepted.{IsChecked, IsCallee, AreCallees}
 use Rattle.kb_verify.proofs.Listed as verifier
-use Rattle.kb_verify.proofs.SameLemmas.{same_is_equal}
+use Rattle.kb_code.proofs.SameLemmas.{same_is_equal}
 use Rattle.kb_soundness.specs.Sound.{live_declaration_at}
 use Rattle.kb_soundness.specs.Stays.{CodeStaysSound}
 use Rattle.kb_soundness.proofs.Tests.{or_elim}

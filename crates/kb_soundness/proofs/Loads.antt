@@ -10,10 +10,10 @@ use Rattle.std.proofs.lemmas.Slice.Eq.{bytes_eq-Decides}
 use Rattle.kb_core.specs.declared.native.Native.{Native}
 use Rattle.kb_core.specs.Declaration.{Declaration}
 use Rattle.kb_core.specs.Native.{named}
-use Rattle.kb_code.specs.Handler.{HandlerData}
+use Rattle.kb_code.specs.Handler.{HandlerData, handler_named}
 use Rattle.kb_code.specs.Commands.{Callee, Coded, declared_by}
 use Rattle.kb_handler_table.specs.Codes.{CodesData}
-use Rattle.kb_handler_table.specs.Live.{Group, handlers_in, handler_named, is_reserved, is_taken, has_taken}
+use Rattle.kb_handler_table.specs.Live.{Group, handlers_in, is_reserved, is_taken, has_taken}
 use Rattle.kb_handler_table.specs.Live.{with_group}
 use Rattle.kb_registry.specs.Live.{Live, callee_by, table_of, with_code}
 use Rattle.kb_verify.specs.Callable.{Commands}

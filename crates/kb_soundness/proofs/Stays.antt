@@ -6,9 +6,9 @@ use Rattle.std.specs.List.{list_any}
 use Rattle.kb_core.specs.declared.native.Native.{Native}
 use Rattle.kb_core.specs.Declaration.{Declaration}
 use Rattle.kb_core.specs.Native.{named}
-use Rattle.kb_code.specs.Handler.{HandlerData}
+use Rattle.kb_code.specs.Handler.{HandlerData, handler_named}
 use Rattle.kb_code.specs.Commands.{Callee, Plain, Coded, Table, declared_by}
-use Rattle.kb_handler_table.specs.Live.{handlers_in, handler_named, same_native}
+use Rattle.kb_handler_table.specs.Live.{handlers_in, same_native}
 use Rattle.kb_registry.specs.Live.{Live, Registered, natives_of, is_live, callee_by, table_of, fresh}
 use Rattle.kb_registry.specs.Live.{registered}
 use Rattle.kb_soundness.specs.Sound.{IsVerified}

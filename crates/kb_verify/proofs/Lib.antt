@@ -8,5 +8,4 @@ pub mod Packed
 pub mod Passes
 pub mod ProviderLemmas
 pub mod Refutes
-pub mod SameLemmas
 pub mod Swapped

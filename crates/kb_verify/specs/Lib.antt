@@ -1,7 +1,6 @@
 pub mod Fault
 pub mod Callable
 pub mod Provider
-pub mod Same
 pub mod Check
 pub mod Packed
 pub mod Shapes

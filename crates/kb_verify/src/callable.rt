@@ -1,9 +1,11 @@
 //! The commands that handlers may call, and their signatures.
 ghost use Rattle.std.specs.Prelude.{◌≡◌, IfOk, OnOk, OnErr, false, option_copied};
 ghost use Rattle.std.specs.FinMap as map;
+ghost use Rattle.kb_code.specs.Same.{same_declaration};
 ghost use Rattle.kb_verify.specs.Callable.{with_first};
 
 use kb_base::{NoMemory, Seq, Text, TextMap};
+use kb_code::same_signature;
 use kb_core::{Param, Signature};
 use std::alloc::Global;
 use std::marker::Model;
@@ -43,6 +45,14 @@ impl SharedSignature {
         Ok(SharedSignature {
             signature: Rc::clone(&self.signature)?,
         })
+    }
+
+    /// Whether a signature is equal to this one: the same parameters, by name and kind, in the same order,
+    /// and the same budget and depth.
+    pub fn is_same(&self, other: &Signature) -> bool
+        ensures { result ≡ same_declaration self.now other.now }
+    {
+        same_signature(&self.signature, other)
     }
 
     /// Borrows the signature.

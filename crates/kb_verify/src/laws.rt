@@ -6,7 +6,6 @@ ghost use Rattle.kb_verify.specs.Accepted.{AreCallees, HasCallee, IsAccepted, Is
 ghost use Rattle.kb_verify.specs.Accepted.{IsNamed, IsSwapped};
 ghost use Rattle.kb_verify.specs.Callable.{Commands};
 ghost use Rattle.kb_verify.specs.Faults.{IsFault, IsSameFault};
-ghost use Rattle.kb_verify.specs.Same.{SameIsEqual};
 ghost use Rattle.kb_verify.specs.declared.callees.Callee.{Callee};
 ghost use Rattle.kb_verify.specs.declared.fault.VerifyFault.{VerifyFault};
 
@@ -36,9 +35,4 @@ pub fn each_callee_is_named()
 pub fn accepted_by_its_callees()
     ensures { (commands other : Commands) (h : HandlerData) → IsAccepted commands h →
         IsSwapped commands other h → IsAccepted other h }
-{}
-
-/// `same_declaration` decides equality of two declarations.
-pub fn same_is_equal()
-    ensures { SameIsEqual }
 {}

@@ -1,6 +1,5 @@
 //! The verifier of handler code. It accepts only handlers that can't trap, and reports why it rejects a
 //! handler.
-//! others.
 #![tactic(auto)]
 
 mod backward;
@@ -12,7 +11,6 @@ pub mod fault;
 mod forward;
 pub mod laws;
 pub mod provider;
-mod same;
 mod shape;
 pub mod verified;
 

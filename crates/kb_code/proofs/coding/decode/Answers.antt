@@ -1,5 +1,5 @@
 use Rattle.std.proofs.Common.{arith}
-use Rattle.kb_code.proofs.Laws.{written_again}
+use Rattle.kb_code.proofs.CodingLemmas.{written_again}
 use Rattle.kb_code.proofs.coding.decode.Goals as goal
 
 pub returns-in-Ok-clause-written_again : goal.returns-in-Ok-clause-written_again

@@ -1,6 +1,6 @@
 use Rattle.std.proofs.Common.{◌≡◌, true, take, flat_map}
 use Rattle.std.specs.List.{list_all}
-use Rattle.kb_code.proofs.Laws.{has_room}
+use Rattle.kb_code.proofs.CodingLemmas.{has_room}
 use Rattle.kb_code.specs.Coding.{bytes_of}
 use Rattle.kb_code.proofs.coding.encode.Given as goal
 

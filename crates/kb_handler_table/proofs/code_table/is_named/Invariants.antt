@@ -1,5 +1,5 @@
 use Rattle.std.proofs.Common.{◌≡◌, drop}
-use Rattle.kb_handler_table.specs.Live.{handler_named}
+use Rattle.kb_code.specs.Handler.{handler_named}
 use Rattle.kb_handler_table.proofs.code_table.is_named.Given as goal
 
 abbrev pub invariant-loop-handler : goal.invariant-loop-handler

@@ -1,5 +1,6 @@
 use Rattle.std.proofs.Common.{◌≡◌, drop}
-use Rattle.kb_handler_table.specs.Live.{handlers_in, handler_named}
+use Rattle.kb_handler_table.specs.Live.{handlers_in}
+use Rattle.kb_code.specs.Handler.{handler_named}
 use Rattle.kb_handler_table.proofs.code_table.CodeTable.linked.Given as goal
 
 -- the search in the remaining groups gives the result

@@ -1,6 +1,7 @@
 use Rattle.std.proofs.Common.{◌≡◌, ◌∙◌, Some, IfSome, refl, sym, ap, subst, slice_get}
 use Rattle.std.proofs.lemmas.Option.{slice_get_read}
-use Rattle.kb_handler_table.specs.Live.{handlers_in, handler_named}
+use Rattle.kb_handler_table.specs.Live.{handlers_in}
+use Rattle.kb_code.specs.Handler.{handler_named}
 use Rattle.kb_handler_table.proofs.Apart.{found_here}
 use Rattle.kb_handler_table.proofs.code_table.CodeTable.linked_at.Goals as goal
 

@@ -1,6 +1,7 @@
 use Rattle.std.proofs.Common.{◌∙◌, sym, ap, cond, Some, None, take, is_some, ◌||◌}
 use Rattle.kb_handler_table.specs.declared.fault.CodesFault.TheVariants.{AlreadyExists}
-use Rattle.kb_handler_table.specs.Live.{handlers_in, handler_named, is_reserved}
+use Rattle.kb_handler_table.specs.Live.{handlers_in, is_reserved}
+use Rattle.kb_code.specs.Handler.{handler_named}
 use Rattle.kb_handler_table.proofs.Taken.{live_here, above_here, free_here, kept_here}
 use Rattle.kb_handler_table.proofs.code_table.CodeTable.names_of.Goals as goal
 use Rattle.kb_handler_table.proofs.code_table.CodeTable.names_of.Goals.{then-has-via-then-has}

@@ -1,20 +1,17 @@
 //! Comparison of signatures.
 ghost use Rattle.std.specs.Prelude.{◌≡◌};
-ghost use Rattle.kb_verify.specs.Same.{same_declaration, same_kind, same_params};
+ghost use Rattle.kb_code.specs.Same.{same_declaration, same_kind, same_params};
 
-use crate::callable::SharedSignature;
 use kb_core::{Kind, Param, Signature};
 
-impl SharedSignature {
-    /// Whether two signatures are equal: parameters with their names, budget and depth.
-    pub fn is_same(&self, other: &Signature) -> bool
-        ensures { result ≡ same_declaration self.now other.now }
-    {
-        let own = self.as_signature();
-        own.budget() == other.budget()
-            && own.depth() == other.depth()
-            && same_params(own.params(), other.params())
-    }
+/// Whether two signatures are equal: the same parameters, by name and kind, in the same order, and the same
+/// budget and depth.
+pub fn same_signature(own: &Signature, other: &Signature) -> bool
+    ensures { result ≡ same_declaration own.now other.now }
+{
+    own.budget() == other.budget()
+        && own.depth() == other.depth()
+        && same_params(own.params(), other.params())
 }
 
 /// Whether two lists of parameters are equal.

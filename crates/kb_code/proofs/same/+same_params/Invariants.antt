@@ -1,5 +1,5 @@
 use Rattle.std.proofs.Common.{length}
-use Rattle.kb_verify.proofs.same.+same_params.Given as goal
+use Rattle.kb_code.proofs.same.+same_params.Given as goal
 
 abbrev pub decreases-same_params : goal.decreases-same_params
 decreases-same_params l = length l.own.now

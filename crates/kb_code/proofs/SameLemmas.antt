@@ -7,7 +7,7 @@ use Rattle.kb_core.specs.declared.arg.Kind.{Kind}
 use Rattle.kb_core.specs.declared.arg.Kind.TheVariants as kind
 use Rattle.kb_core.specs.declared.parameter.Param.{Param}
 use Rattle.kb_core.specs.Declaration.{Declaration}
-use Rattle.kb_verify.specs.Same.{same_kind, same_params, same_declaration, SameIsEqual}
+use Rattle.kb_code.specs.Same.{same_kind, same_params, same_declaration, SameIsEqual}
 
 both : (a b : Bool) → a && b ≡ true → (a ≡ true) × (b ≡ true)
 both true b h = (refl, h)

@@ -1,5 +1,0 @@
-use Rattle.kb_verify.proofs.SameLemmas.{same_is_equal}
-use Rattle.kb_verify.proofs.laws.same_is_equal.Goals as goal
-
-pub returns : goal.returns
-returns c = same_is_equal
