@@ -17,7 +17,7 @@ each : (a b : Bool) → a ≡ true → b ≡ true → a && b ≡ true
 each true b h k = k
 each false b h k = absurd (true≢false (sym h))
 
-kind_is : (a b : Kind) → same_kind a b ≡ true → a ≡ b
+pub kind_is : (a b : Kind) → same_kind a b ≡ true → a ≡ b
 kind_is kind.Text kind.Text h = refl
 kind_is kind.Text kind.Number h = absurd (true≢false (sym h))
 kind_is kind.Text kind.Truth h = absurd (true≢false (sym h))
@@ -35,7 +35,7 @@ kind_is kind.Any kind.Number h = absurd (true≢false (sym h))
 kind_is kind.Any kind.Truth h = absurd (true≢false (sym h))
 kind_is kind.Any kind.Any h = refl
 
-kind_same : (a : Kind) → same_kind a a ≡ true
+pub kind_same : (a : Kind) → same_kind a a ≡ true
 kind_same kind.Text = refl
 kind_same kind.Number = refl
 kind_same kind.Truth = refl

@@ -22,7 +22,8 @@ use Rattle.kb_core.specs.declared.native.Native.{Native}
 use Rattle.kb_core.specs.declared.native.Native.TheVariants as n
 use Rattle.kb_files.specs.declared.extension_file.Extension.{Extension}
 use Rattle.kb_registry.specs.Live.{Live, callee, callee_by, is_live, where_live}
-use Rattle.kb_registry.specs.Missing.{declares, declared_live, is_there, unless_there}
+use Rattle.kb_registry.specs.Missing.{declared_live, is_there, unless_there}
+use Rattle.kb_code.specs.Face.{declares}
 use Rattle.kb_registry.specs.Missing.{missing_in, missing_from}
 use Rattle.kb_verify.specs.Accepted.{AreDeclared, CheckedHandler}
 use Rattle.kb_verify.specs.Callable.{Commands, with_first}

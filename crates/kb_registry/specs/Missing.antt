@@ -1,26 +1,18 @@
 -- The search for a missing callee of verified code.
-use Rattle.std.specs.Prelude.{ℕ, Bool, false, ◌||◌, List, [], ◌∷◌, Option, Some, None, option_map, slice_get}
+use Rattle.std.specs.Prelude.{ℕ, Bool, ◌||◌, List, [], ◌∷◌, Option, Some, None, option_map, slice_get}
 use Rattle.std.specs.Prelude.{if◌then◌else◌}
 use Rattle.std.specs.Option.{option_or}
 use Rattle.kb_core.specs.Declaration.{Declaration}
-use Rattle.kb_code.specs.Handler.{HandlerData, handler_named}
+use Rattle.kb_code.specs.Face.{declared_among, declares}
+use Rattle.kb_code.specs.Handler.{HandlerData}
 use Rattle.kb_code.specs.Commands.{declared_by}
 use Rattle.kb_handler_table.specs.Codes.{CodesData}
 use Rattle.kb_registry.specs.Live.{Live, callee}
-use Rattle.kb_code.specs.Same.{same_declaration}
 use Rattle.kb_verify.specs.declared.callees.Callee.{Callee}
 
--- the declaration of the live command with a name; that of the handler with a name
+-- the declaration of the live command with a name
 abbrev pub declared_live : Live → List ℕ → Option Declaration
 declared_live live name = option_map declared_by (callee name live)
-
-abbrev pub declared_among : List HandlerData → List ℕ → Option Declaration
-declared_among handlers name = option_map (λ h. h.signature) (handler_named name handlers)
-
--- a command exists and declares `d`
-abbrev pub declares : Option Declaration → Declaration → Bool
-declares None d = false
-declares (Some e) d = same_declaration d e
 
 -- the live command or the handler with the name declares `d`
 abbrev pub is_there : List HandlerData → Live → Declaration → List ℕ → Bool

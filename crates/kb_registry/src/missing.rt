@@ -3,7 +3,8 @@
 ghost use Rattle.std.specs.Prelude.{◌≡◌, option_copied, option_map, slice_get, None, Some};
 ghost use Rattle.kb_core.specs.Declaration.{Declaration};
 ghost use Rattle.kb_registry.specs.Among.{handlers_among};
-ghost use Rattle.kb_registry.specs.Missing.{declared_among, declared_live, declares, is_there, unless_there};
+ghost use Rattle.kb_registry.specs.Missing.{declared_live, is_there, unless_there};
+ghost use Rattle.kb_code.specs.Face.{declared_among, declares};
 ghost use Rattle.kb_registry.specs.Missing.{missing_callee, missing_from, missing_in};
 
 use crate::command::HostCommand;

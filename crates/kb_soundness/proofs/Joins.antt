@@ -11,7 +11,8 @@ use Rattle.kb_handler_table.specs.Live.{handlers_in, has_taken}
 use Rattle.kb_registry.specs.declared.fault.RegistryFault.TheVariants.{AlreadyExists}
 use Rattle.kb_registry.specs.CodeFault.{callee_fault}
 use Rattle.kb_registry.specs.Live.{Live, table_of}
-use Rattle.kb_registry.specs.Missing.{declares, declared_live, declared_among, is_there, unless_there}
+use Rattle.kb_registry.specs.Missing.{declared_live, is_there, unless_there}
+use Rattle.kb_code.specs.Face.{declares, declared_among}
 use Rattle.kb_registry.specs.Missing.{missing_in, missing_from, missing_by, missing_callee}
 use Rattle.kb_verify.specs.declared.callees.Callee.{Callee}
 use Rattle.kb_verify.specs.Callable.{Commands}

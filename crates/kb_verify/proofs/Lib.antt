@@ -1,6 +1,7 @@
 pub mod Calls
 pub mod Checks
 pub mod Dearest
+pub mod Decides
 pub mod Edges
 pub mod Listed
 pub mod Lists

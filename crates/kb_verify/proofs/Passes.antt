@@ -59,7 +59,7 @@ hit_to ms ns q after lt f =
     let same : mark_at ns q ≡ f.0 = ap (λ l. mark_at l q) f.2 ∙ get_or-set_same ms q f.0 mark.Unreached lt in
     subst (λ x. HasBeen x after) (sym same) (meets_hit (mark_at ms q) f.0 after f.1)
 
-flow_size : (ms ns : List Mark) (q : ℕ) (after : List Kind) → FlowsTo ms q after ns → length ns ≡ length ms
+pub flow_size : (ms ns : List Mark) (q : ℕ) (after : List Kind) → FlowsTo ms q after ns → length ns ≡ length ms
 flow_size ms ns q after f = ap length f.2 ∙ length-set ms q f.0
 
 carried : (exits : Exits) (ms ns : List Mark) (after : List Kind) → AreWithin exits (length ms) →

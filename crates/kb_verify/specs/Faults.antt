@@ -10,7 +10,7 @@ use Rattle.kb_verify.specs.declared.fault.VerifyFault.TheVariants.{Wrong, OverBu
 use Rattle.kb_verify.specs.Callable.{Commands}
 use Rattle.kb_verify.specs.Shapes.{HasShapes, IsFirstWrong}
 use Rattle.kb_verify.specs.Paths.{IsWithinBudget, IsOverBudget}
-use Rattle.kb_verify.specs.Accepted.{IsFirstTooDeep}
+use Rattle.kb_verify.specs.Accepted.{IsAccepted, IsFirstTooDeep}
 
 -- a handler without code falls off its end at place 0
 abbrev pub IsEmpty : HandlerData → Defect → ℕ → Type 0
@@ -39,3 +39,7 @@ IsSameFault _ _ = ⊥
 abbrev pub IsTrueFault : Failure VerifyFault → Type 0
 IsTrueFault NoMemory = ⊥
 IsTrueFault (Fault fault) = Unit {0}
+
+-- a handler is accepted, or it has a fault
+abbrev pub IsDecided : Commands → HandlerData → Type 0
+IsDecided commands h = IsAccepted commands h ⊎ ((fault : VerifyFault) × IsFault commands h fault)

@@ -5,7 +5,7 @@ ghost use Rattle.kb_core.specs.Declaration.{Declaration};
 ghost use Rattle.kb_verify.specs.Accepted.{AreCallees, HasCallee, IsAccepted, IsCallee};
 ghost use Rattle.kb_verify.specs.Accepted.{IsNamed, IsSwapped};
 ghost use Rattle.kb_verify.specs.Callable.{Commands};
-ghost use Rattle.kb_verify.specs.Faults.{IsFault, IsSameFault};
+ghost use Rattle.kb_verify.specs.Faults.{IsDecided, IsFault, IsSameFault};
 ghost use Rattle.kb_verify.specs.declared.callees.Callee.{Callee};
 ghost use Rattle.kb_verify.specs.declared.fault.VerifyFault.{VerifyFault};
 
@@ -13,6 +13,11 @@ ghost use Rattle.kb_verify.specs.declared.fault.VerifyFault.{VerifyFault};
 pub fn one_fault()
     ensures { (commands : Commands) (h : HandlerData) (a b : VerifyFault) →
         IsFault commands h a → IsFault commands h b → IsSameFault a b }
+{}
+
+/// Each handler is accepted or has a fault, whatever commands it may call.
+pub fn accepted_or_faulty()
+    ensures { (commands : Commands) (h : HandlerData) → IsDecided commands h }
 {}
 
 /// Each reachable call of a handler has an entry in its list of callees.

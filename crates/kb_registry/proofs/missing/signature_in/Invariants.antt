@@ -1,5 +1,5 @@
 use Rattle.std.proofs.Common.{◌≡◌, drop}
-use Rattle.kb_registry.specs.Missing.{declared_among}
+use Rattle.kb_code.specs.Face.{declared_among}
 use Rattle.kb_registry.proofs.missing.signature_in.Given as goal
 
 abbrev pub invariant-loop-handler : goal.invariant-loop-handler
