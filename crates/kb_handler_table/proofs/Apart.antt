@@ -1,19 +1,22 @@
 -- Names of live handlers are distinct: lemmas on groups that are added and removed.
 use Rattle.std.proofs.Common.{◌≡◌, ◌∙◌, ℕ, zero, suc, ◌<◌, Bool, true, false, ◌||◌, cond, List, [], ◌∷◌}
-use Rattle.std.proofs.Common.{◌++◌}
+use Rattle.std.proofs.Common.{◌++◌, ◌&&◌, find, not, option_map}
 use Rattle.std.proofs.Common.{Option, Some, None, refl, sym, ap, is_some, bytes_eq, slice_get}
 use Rattle.std.proofs.Common.{true≢false, nat_lt, nat_eq, IfSome, subst}
 use Rattle.std.proofs.lemmas.List.Folds.{find-append}
 use Rattle.std.proofs.lemmas.Slice.Eq.{bytes_eq-Decides}
 use Rattle.std.specs.Bool.{⊤}
-use Rattle.std.specs.Option.{option_or}
+use Rattle.std.specs.Option.{option_or, option_map_or}
 use Rattle.kb_code.specs.Handler.{HandlerData, handler_named}
 use Rattle.kb_handler_table.specs.declared.fault.CodesFault.TheVariants.{AlreadyExists}
 use Rattle.kb_handler_table.specs.Apart.{IsApart, AreApart}
 use Rattle.kb_handler_table.specs.Group.{IsNamedAt}
 use Rattle.kb_handler_table.specs.Live.{Group, handlers_in, is_reserved, is_taken}
 use Rattle.kb_handler_table.specs.Live.{has_taken, codes_fault}
-use Rattle.kb_handler_table.specs.Live.{with_group, without_group}
+use Rattle.kb_handler_table.specs.Live.{with_group, without_group, exchanged, handlers_of}
+use Rattle.kb_handler_table.specs.Codes.{CodesData}
+use Rattle.kb_code.specs.Face.{are_distinct, declared_among, each_declared, same_face}
+use Rattle.kb_code.proofs.FaceLemmas.{same_face_declares_the_same}
 
 some≢none : (h : HandlerData) → Some h ≡ None → ⊥
 some≢none h e = true≢false (ap is_some e)
@@ -206,6 +209,141 @@ pub without_stays : (extension : ℕ) (gs left : List Group) → AreApart (handl
     → left ≡ without_group extension gs → AreApart (handlers_in left)
 without_stays extension gs left a is =
     subst (λ gs. AreApart (handlers_in gs)) (sym is) (without-apart extension gs a)
+
+-- ---- exchanged groups
+
+truths : (a b : Bool) → a && b ≡ true → (a ≡ true) × (b ≡ true)
+truths true b e = (refl, e)
+truths false b e = absurd (true≢false (sym e))
+
+untrue : (b : Bool) → not b ≡ true → b ≡ false
+untrue false e = refl
+untrue true e = absurd (true≢false (sym e))
+
+distinct-apart : (hs : List HandlerData) → are_distinct hs ≡ true → AreApart hs
+distinct-apart [] e = tt
+distinct-apart (h ∷ hs) e =
+    let split = truths (not (is_some (handler_named h.command hs))) (are_distinct hs) e in
+    (nothing (handler_named h.command hs) (untrue (is_some (handler_named h.command hs)) split.0),
+    distinct-apart hs split.1)
+
+-- the parts of the same face
+pub face-parts : (old new : List HandlerData) → same_face old new ≡ true
+    → (are_distinct new ≡ true) × ((name : List ℕ) → declared_among old name ≡ declared_among new name)
+face-parts old new same =
+    let split = truths (are_distinct old && are_distinct new) (each_declared old new && each_declared new old) same in
+    ((truths (are_distinct old) (are_distinct new) split.0).1, same_face_declares_the_same old new same)
+
+none-declared : (hs : List HandlerData) (name : List ℕ) → handler_named name hs ≡ None → declared_among hs name ≡ None
+none-declared hs name e = ap (option_map (λ (h : HandlerData). h.signature)) e
+
+undeclared : (hs : List HandlerData) (name : List ℕ) → declared_among hs name ≡ None → handler_named name hs ≡ None
+undeclared hs name e = by (handler_named name hs) refl
+  where
+    by : (o : Option HandlerData) → handler_named name hs ≡ o → handler_named name hs ≡ None
+    by None is = is
+    by (Some h) is =
+        absurd (true≢false (ap is_some (sym (ap (option_map (λ (h : HandlerData). h.signature)) is) ∙ e)))
+
+declared-both : (name : List ℕ) (xs ys : List HandlerData)
+    → declared_among (xs ++ ys) name ≡ option_or (declared_among xs name) (declared_among ys name)
+declared-both name xs ys =
+    ap (option_map (λ (h : HandlerData). h.signature)) (both name xs ys)
+    ∙ by (handler_named name xs)
+  where
+    by : (o : Option HandlerData) → option_map (λ (h : HandlerData). h.signature) (option_or o (handler_named name ys))
+        ≡ option_or (option_map (λ (h : HandlerData). h.signature) o) (declared_among ys name)
+    by None = refl
+    by (Some h) = refl
+
+-- each name declares the same after an exchange of code with the same face
+pub exchange_declares : (extension : ℕ) (codes : CodesData) (gs : List Group)
+    → same_face (handlers_of extension gs) codes.handlers ≡ true → (name : List ℕ)
+    → declared_among (handlers_in (exchanged extension codes gs)) name ≡ declared_among (handlers_in gs) name
+exchange_declares extension codes [] same name = refl
+exchange_declares extension codes (g ∷ gs) same name =
+    by (nat_eq g.extension extension) refl (exchange_declares extension codes gs)
+  where
+    by : (b : Bool) → nat_eq g.extension extension ≡ b
+        → (same_face (handlers_of extension gs) codes.handlers ≡ true → (name : List ℕ)
+        → declared_among (handlers_in (exchanged extension codes gs)) name ≡ declared_among (handlers_in gs) name)
+        → declared_among (handlers_in (exchanged extension codes (g ∷ gs))) name
+        ≡ declared_among (handlers_in (g ∷ gs)) name
+    by true is rest =
+        let own : handlers_of extension (g ∷ gs) ≡ g.codes.handlers =
+        ap (λ b. option_map_or (λ (codes : CodesData). codes.handlers) (option_map (λ (g : Group). g.codes)
+        (cond b (Some g) (find (λ (g : Group). nat_eq g.extension extension) gs))) []) is in
+        let new = (face-parts g.codes.handlers codes.handlers
+        (ap (λ hs. same_face hs codes.handlers) (sym own) ∙ same)).1 name in
+        ap (λ b. declared_among (handlers_in (cond b (record { extension = g.extension; codes = codes } ∷ gs)
+        (g ∷ exchanged extension codes gs))) name) is
+        ∙ declared-both name codes.handlers (handlers_in gs)
+        ∙ ap (λ o. option_or o (declared_among (handlers_in gs) name)) (sym new)
+        ∙ sym (declared-both name g.codes.handlers (handlers_in gs))
+    by false is rest =
+        let other : handlers_of extension (g ∷ gs) ≡ handlers_of extension gs =
+        ap (λ b. option_map_or (λ (codes : CodesData). codes.handlers) (option_map (λ (g : Group). g.codes)
+        (cond b (Some g) (find (λ (g : Group). nat_eq g.extension extension) gs))) []) is in
+        ap (λ b. declared_among (handlers_in (cond b (record { extension = g.extension; codes = codes } ∷ gs)
+        (g ∷ exchanged extension codes gs))) name) is
+        ∙ declared-both name g.codes.handlers (handlers_in (exchanged extension codes gs))
+        ∙ ap (option_or (declared_among g.codes.handlers name))
+        (rest (ap (λ hs. same_face hs codes.handlers) (sym other) ∙ same) name)
+        ∙ sym (declared-both name g.codes.handlers (handlers_in gs))
+
+-- a handler that is distinct from some is distinct from others that declare the same names
+same-apart : (h : HandlerData) (xs ys : List HandlerData)
+    → ((name : List ℕ) → declared_among ys name ≡ declared_among xs name) → IsApart h xs → IsApart h ys
+same-apart h xs ys same e =
+    undeclared ys h.command (same h.command ∙ none-declared xs h.command e)
+
+each-same : (hs xs ys : List HandlerData) → ((name : List ℕ) → declared_among ys name ≡ declared_among xs name)
+    → EachApart hs xs → EachApart hs ys
+each-same [] xs ys same e = tt
+each-same (h ∷ hs) xs ys same e = (same-apart h xs ys same e.0, each-same hs xs ys same e.1)
+
+exchange-apart : (extension : ℕ) (codes : CodesData) (gs : List Group)
+    → same_face (handlers_of extension gs) codes.handlers ≡ true → AreApart (handlers_in gs)
+    → AreApart (handlers_in (exchanged extension codes gs))
+exchange-apart extension codes [] same a = a
+exchange-apart extension codes (g ∷ gs) same a =
+    by (nat_eq g.extension extension) refl (exchange-apart extension codes gs)
+  where
+    split : Parts g.codes.handlers (handlers_in gs)
+    split = part g.codes.handlers (handlers_in gs) a
+
+    by : (b : Bool) → nat_eq g.extension extension ≡ b
+        → (same_face (handlers_of extension gs) codes.handlers ≡ true → AreApart (handlers_in gs)
+        → AreApart (handlers_in (exchanged extension codes gs)))
+        → AreApart (handlers_in (exchanged extension codes (g ∷ gs)))
+    by true is rest =
+        let own : handlers_of extension (g ∷ gs) ≡ g.codes.handlers =
+        ap (λ b. option_map_or (λ (codes : CodesData). codes.handlers) (option_map (λ (g : Group). g.codes)
+        (cond b (Some g) (find (λ (g : Group). nat_eq g.extension extension) gs))) []) is in
+        let new = face-parts g.codes.handlers codes.handlers
+        (ap (λ hs. same_face hs codes.handlers) (sym own) ∙ same) in
+        subst (λ b. AreApart (handlers_in (cond b (record { extension = g.extension; codes = codes } ∷ gs)
+        (g ∷ exchanged extension codes gs)))) (sym is)
+        (join codes.handlers (handlers_in gs) (distinct-apart codes.handlers new.0) split.behind
+        (flip (handlers_in gs) codes.handlers
+        (each-same (handlers_in gs) g.codes.handlers codes.handlers (λ name. sym (new.1 name))
+        (flip g.codes.handlers (handlers_in gs) split.between))))
+    by false is rest =
+        let other : handlers_of extension (g ∷ gs) ≡ handlers_of extension gs =
+        ap (λ b. option_map_or (λ (codes : CodesData). codes.handlers) (option_map (λ (g : Group). g.codes)
+        (cond b (Some g) (find (λ (g : Group). nat_eq g.extension extension) gs))) []) is in
+        let alike = ap (λ hs. same_face hs codes.handlers) (sym other) ∙ same in
+        subst (λ b. AreApart (handlers_in (cond b (record { extension = g.extension; codes = codes } ∷ gs)
+        (g ∷ exchanged extension codes gs)))) (sym is)
+        (join g.codes.handlers (handlers_in (exchanged extension codes gs)) split.front (rest alike split.behind)
+        (each-same g.codes.handlers (handlers_in gs) (handlers_in (exchanged extension codes gs))
+        (exchange_declares extension codes gs alike) split.between))
+
+pub exchange_stays : (extension : ℕ) (codes : CodesData) (gs left : List Group)
+    → same_face (handlers_of extension gs) codes.handlers ≡ true → AreApart (handlers_in gs)
+    → left ≡ exchanged extension codes gs → AreApart (handlers_in left)
+exchange_stays extension codes gs left same a is =
+    subst (λ gs. AreApart (handlers_in gs)) (sym is) (exchange-apart extension codes gs same a)
 
 -- ---- the handler at a place is the one that its name finds
 

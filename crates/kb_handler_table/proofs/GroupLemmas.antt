@@ -9,7 +9,12 @@ use Rattle.kb_code.specs.Handler.{HandlerData}
 use Rattle.kb_handler_table.specs.declared.links.Links.{Links}
 use Rattle.kb_code.specs.Target.{natives_in, natives_of}
 use Rattle.kb_handler_table.specs.Links.{AreLinks}
-use Rattle.kb_handler_table.specs.Live.{calls_native, same_native}
+use Rattle.kb_handler_table.specs.Live.{calls_native, calls_one, names_one, same_native}
+use Rattle.kb_handler_table.proofs.Taken.{split}
+use Rattle.kb_code.specs.Callees.{callees_of}
+use Rattle.kb_verify.specs.Accepted.{EachChecked}
+use Rattle.kb_verify.specs.declared.callees.Callee.{Callee}
+use Rattle.std.specs.Prelude.{slice_get}
 
 -- there are as many links as handlers
 pub as_long : (links : List Links) (hs : List HandlerData) → AllZip AreLinks links hs → length links ≡ length hs
@@ -89,3 +94,54 @@ one_more links new hs place l h zip below its own pushed =
     ap (λ n. take n hs) next ∙ take-suc hs place h below ∙ ap (λ h. take place hs ++ h ∷ []) (sym its) in
     subst (λ ls. AllZip AreLinks ls (take (place + 1) hs)) (sym pushed)
     (subst (λ hs. AllZip AreLinks (links ++ l ∷ []) hs) (sym grown) (zip_more links (take place hs) l h zip own))
+
+-- ---- callees of verified handlers
+
+-- there are as many lists of callees as handlers
+pub many_callees : (hs : List HandlerData) (all : List (List Callee)) → EachChecked hs all → length all ≡ length hs
+many_callees [] [] each = refl
+many_callees [] (cs ∷ all) each = absurd each
+many_callees (h ∷ hs) [] each = absurd each
+many_callees (h ∷ hs) (cs ∷ all) each = ap suc (many_callees hs all each.1)
+
+-- the list at a handler's place has the callees of its reachable calls
+their_callees : (hs : List HandlerData) (all : List (List Callee)) (place : ℕ) (h : HandlerData) (cs : List Callee)
+    → EachChecked hs all → place < length hs → h ≡ get_or hs place h → cs ≡ get_or all place cs
+    → map (λ (c : Callee). c.index) cs ≡ callees_of h
+their_callees [] all place h cs each below at its = absurd (omega (arith, below))
+their_callees (x ∷ hs) [] place h cs each below at its = absurd each
+their_callees (x ∷ hs) (ys ∷ all) zero h cs each below at its =
+    ap (map (λ (c : Callee). c.index)) its ∙ each.0.2.called ∙ sym (ap callees_of at)
+their_callees (x ∷ hs) (ys ∷ all) (suc place) h cs each below at its =
+    their_callees hs all place h cs each.1 (omega (arith, below)) at its
+
+module _ (own : List HandlerData) where
+  abbrev calls_by : HandlerData → List Callee → Bool
+  calls_by h cs = list_any (λ n. names_one own (slice_get h.calls n)) (map (λ (c : Callee). c.index) cs)
+
+  its_calls : (hs : List HandlerData) (all : List (List Callee)) (place : ℕ) (h : HandlerData) (cs : List Callee)
+      → EachChecked hs all → place < length hs → h ≡ get_or hs place h → cs ≡ get_or all place cs
+      → calls_one own h ≡ calls_by h cs
+  its_calls hs all place h cs each below at its =
+      ap (list_any (λ n. names_one own (slice_get h.calls n))) (sym (their_callees hs all place h cs each below at its))
+
+  -- the search skips a handler that calls none of these
+  pub user_passed : (hs : List HandlerData) (all : List (List Callee)) (place : ℕ) (h : HandlerData)
+      (cs : List Callee) → EachChecked hs all → place < length hs → h ≡ get_or hs place h
+      → cs ≡ get_or all place cs → false ≡ calls_by h cs
+      → find (calls_one own) (drop (place + 1) hs) ≡ find (calls_one own) (drop place hs)
+  user_passed hs all place h cs each below at its is =
+      let next : place + 1 ≡ suc place = omega arith in
+      ap (λ n. find (calls_one own) (drop n hs)) next
+      ∙ sym (ap (find (calls_one own)) (split hs place h below at)
+      ∙ ap (λ b. cond b (Some h) (find (calls_one own) (drop (suc place) hs)))
+      (its_calls hs all place h cs each below at its ∙ sym is))
+
+  -- it ends at one that does
+  pub user_met : (hs : List HandlerData) (all : List (List Callee)) (place : ℕ) (h : HandlerData)
+      (cs : List Callee) → EachChecked hs all → place < length hs → h ≡ get_or hs place h
+      → cs ≡ get_or all place cs → true ≡ calls_by h cs → Some h ≡ find (calls_one own) (drop place hs)
+  user_met hs all place h cs each below at its is =
+      sym (ap (find (calls_one own)) (split hs place h below at)
+      ∙ ap (λ b. cond b (Some h) (find (calls_one own) (drop (suc place) hs)))
+      (its_calls hs all place h cs each below at its ∙ sym is))

@@ -1,11 +1,19 @@
 -- Lemmas on searches in the groups of extensions.
 use Rattle.std.proofs.Common.{◌≡◌, ◌∙◌, ℕ, zero, ◌+◌, ◌<◌, suc, Bool, List, [], ◌∷◌, Option, Some, None}
 use Rattle.std.proofs.Common.{sym, ap, drop}
-use Rattle.std.proofs.Common.{find, length, get_or, arith, cond, true, nat_eq, option_map, slice_get}
+use Rattle.std.proofs.Common.{find, length, get_or, arith, cond, true, false, nat_eq, option_map, slice_get}
+use Rattle.std.proofs.Common.{◌++◌, ◌||◌, refl, take, set}
 use Rattle.std.proofs.lemmas.List.Folds.{find-append}
-use Rattle.std.specs.Option.{option_or}
+use Rattle.std.specs.Option.{option_or, option_map_or}
+use Rattle.std.proofs.lemmas.Option.{slice_get_read}
 use Rattle.kb_code.specs.Handler.{HandlerData}
-use Rattle.kb_handler_table.specs.Live.{Group, handlers_in, group_of, without_group}
+use Rattle.kb_handler_table.specs.Codes.{CodesData, checked_in}
+use Rattle.kb_handler_table.specs.Live.{Group, handlers_in, group_of, without_group, exchanged, calls_one}
+use Rattle.kb_handler_table.specs.Live.{checked_handlers, handlers_of, names_one, user_of}
+use Rattle.kb_handler_table.specs.Place.{IsGroupAt}
+use Rattle.kb_code.specs.Callees.{callees_of}
+use Rattle.std.specs.List.{list_any}
+use Rattle.std.proofs.lemmas.Bool.Decides.{Decides-eqb}
 
 module _ (p : HandlerData → Bool) where
   -- the result of a search from a group on, by its result in this group
@@ -34,16 +42,110 @@ module _ (p : HandlerData → Bool) where
       sym (by x gs (Some h) (sym (ap (λ (g : Group). find p g.codes.handlers) at) ∙ sym found))
   met (x ∷ gs) (suc i) g h below at found = met gs i g h (omega (arith, below)) at found
 
+-- ---- searches among verified handlers
+
+module _ (own : List HandlerData) where
+  abbrev users_in : List Group → Option HandlerData
+  users_in gs = find (calls_one own) (checked_handlers gs)
+
+  -- the result of a search from a group on, by its result in this group
+  first_user : (g : Group) (gs : List Group) (found : Option HandlerData)
+      → find (calls_one own) (checked_in g.codes) ≡ found
+      → users_in (g ∷ gs) ≡ option_or found (users_in gs)
+  first_user g gs found is =
+      find-append (calls_one own) (checked_in g.codes) (checked_handlers gs) ∙ ap (λ o. option_or o (users_in gs)) is
+
+  skips : (gs : List Group) (i : ℕ) (g : Group) → i < length gs → g ≡ get_or gs i g
+      → None ≡ find (calls_one own) (checked_in g.codes) → users_in (drop (suc i) gs) ≡ users_in (drop i gs)
+  skips [] i g below at none = absurd (omega (arith, below))
+  skips (x ∷ gs) zero g below at none =
+      sym (first_user x gs None (sym (ap (λ (g : Group). find (calls_one own) (checked_in g.codes)) at) ∙ sym none))
+  skips (x ∷ gs) (suc i) g below at none = skips gs i g (omega (arith, below)) at none
+
+  pub user_passed : (gs : List Group) (i : ℕ) (g : Group) → i < length gs → g ≡ get_or gs i g
+      → None ≡ find (calls_one own) (checked_in g.codes)
+      → find (calls_one own) (checked_handlers (drop (i + 1) gs)) ≡ find (calls_one own) (checked_handlers (drop i gs))
+  user_passed gs i g below at none =
+      let next : i + 1 ≡ suc i = omega arith in
+      ap (λ n. users_in (drop n gs)) next ∙ skips gs i g below at none
+
+  pub user_met : (gs : List Group) (i : ℕ) (g : Group) (h : HandlerData) → i < length gs → g ≡ get_or gs i g
+      → Some h ≡ find (calls_one own) (checked_in g.codes)
+      → Some h ≡ find (calls_one own) (checked_handlers (drop i gs))
+  user_met [] i g h below at found = absurd (omega (arith, below))
+  user_met (x ∷ gs) zero g h below at found =
+      sym (first_user x gs (Some h) (sym (ap (λ (g : Group). find (calls_one own) (checked_in g.codes)) at) ∙ sym found))
+  user_met (x ∷ gs) (suc i) g h below at found = user_met gs i g h (omega (arith, below)) at found
+
+  -- a search in some groups and then in others
+  pub users_apart : (xs ys : List Group) → users_in (xs ++ ys) ≡ option_or (users_in xs) (users_in ys)
+  users_apart [] ys = refl
+  users_apart (x ∷ xs) ys =
+      first_user x (xs ++ ys) (find (calls_one own) (checked_in x.codes)) refl
+      ∙ ap (option_or (find (calls_one own) (checked_in x.codes))) (users_apart xs ys)
+      ∙ sym (assoc (find (calls_one own) (checked_in x.codes)) (users_in xs) (users_in ys))
+      ∙ ap (λ o. option_or o (users_in ys)) (sym (first_user x xs (find (calls_one own) (checked_in x.codes)) refl))
+    where
+      assoc : (a b c : Option HandlerData) → option_or (option_or a b) c ≡ option_or a (option_or b c)
+      assoc None b c = refl
+      assoc (Some a) b c = refl
+
+-- nothing calls a handler of an empty list
+calls_none : (h : HandlerData) → calls_one [] h ≡ false
+calls_none h = by (callees_of h)
+  where
+    names_none : (o : Option (List ℕ)) → names_one [] o ≡ false
+    names_none None = refl
+    names_none (Some name) = refl
+
+    by : (ns : List ℕ) → list_any (λ n. names_one [] (slice_get h.calls n)) ns ≡ false
+    by [] = refl
+    by (n ∷ ns) =
+        ap (λ b. b || list_any (λ n. names_one [] (slice_get h.calls n)) ns) (names_none (slice_get h.calls n)) ∙ by ns
+
+pub no_users : (hs : List HandlerData) → find (calls_one []) hs ≡ None
+no_users [] = refl
+no_users (h ∷ hs) = ap (λ b. cond b (Some h) (find (calls_one []) hs)) (calls_none h) ∙ no_users hs
+
 -- the place of an extension's group
 pub stands_at : (extension : ℕ) (gs : List Group) (i : ℕ) (g : Group) → i < length gs → g ≡ get_or gs i g
     → nat_eq g.extension extension ≡ true
     → (group_of extension (drop i gs) ≡ option_map (λ (g : Group). g.codes) (slice_get gs i))
     × (without_group extension (drop i gs) ≡ drop (suc i) gs)
+    × ((codes : CodesData) → exchanged extension codes (drop i gs)
+    ≡ record { extension = extension; codes = codes } ∷ drop (suc i) gs)
 stands_at extension [] i g below at is = absurd (omega (arith, below))
 stands_at extension (x ∷ gs) zero g below at is =
     let same : nat_eq x.extension extension ≡ true = sym (ap (λ (g : Group). nat_eq g.extension extension) at) ∙ is in (
       ap (λ b. option_map (λ (g : Group). g.codes)
           (cond b (Some x) (find (λ (g : Group). nat_eq g.extension extension) gs))) same,
       ap (λ b. cond b gs (x ∷ without_group extension gs)) same,
+      λ codes. ap (λ b. cond b (record { extension = x.extension; codes = codes } ∷ gs) (x ∷ exchanged extension codes gs))
+          same ∙ ap (λ n. record { extension = n; codes = codes } ∷ gs) ((Decides-eqb x.extension extension).0 same),
     )
 stands_at extension (x ∷ gs) (suc i) g below at is = stands_at extension gs i g (omega (arith, below)) at is
+
+-- the elements before a place, another one there, and those after it
+pub set_there : (gs : List Group) (i : ℕ) (g : Group) → i < length gs → take i gs ++ g ∷ drop (suc i) gs ≡ set gs i g
+set_there [] i g below = absurd (omega (arith, below))
+set_there (x ∷ gs) zero g below = refl
+set_there (x ∷ gs) (suc i) g below = ap (λ (gs : List Group). x ∷ gs) (set_there gs i g (omega (arith, below)))
+
+-- the user of an extension's handlers is looked for before its group and then after it
+pub user_is : (extension : ℕ) (gs : List Group) (i : ℕ) (g : Group) → IsGroupAt extension gs i → g ≡ get_or gs i g
+    → user_of extension gs ≡ option_or (find (calls_one g.codes.handlers) (checked_handlers (take i gs)))
+    (find (calls_one g.codes.handlers) (checked_handlers (drop (suc i) gs)))
+user_is extension gs i g at its =
+    let there : slice_get gs i ≡ Some g = slice_get_read gs (length gs) i g refl at.within its in
+    let own : handlers_of extension gs ≡ g.codes.handlers =
+    ap (λ o. option_map_or (λ (codes : CodesData). codes.handlers) o [])
+    (at.its ∙ ap (option_map (λ (g : Group). g.codes)) there) in
+    ap (λ hs. find (calls_one hs) (checked_handlers (without_group extension gs))) own
+    ∙ ap (λ gs. find (calls_one g.codes.handlers) (checked_handlers gs)) at.others
+    ∙ users_apart g.codes.handlers (take i gs) (drop (suc i) gs)
+
+-- an extension without a group has no user
+pub user_of_none : (extension : ℕ) (gs : List Group) → group_of extension gs ≡ None → None ≡ user_of extension gs
+user_of_none extension gs none =
+    sym (ap (λ o. find (calls_one (option_map_or (λ (codes : CodesData). codes.handlers) o []))
+    (checked_handlers (without_group extension gs))) none ∙ no_users (checked_handlers (without_group extension gs)))

@@ -1,4 +1,3 @@
-pub mod CheckedLemmas
 pub mod GroupLemmas
 pub mod Groups
 pub mod Apart

@@ -16,7 +16,7 @@ use Rattle.kb_handler_table.specs.Live.{is_reserved, is_taken, has_taken}
 use Rattle.kb_handler_table.specs.Names.{place_in}
 
 -- the handler at a place, and the later ones
-split : (hs : List HandlerData) (i : ℕ) (h : HandlerData) → i < length hs → h ≡ get_or hs i h
+pub split : (hs : List HandlerData) (i : ℕ) (h : HandlerData) → i < length hs → h ≡ get_or hs i h
     → drop i hs ≡ h ∷ drop (suc i) hs
 split [] i h below at = absurd (omega (arith, below))
 split (x ∷ hs) zero h below at = ap (λ (h : HandlerData). h ∷ hs) (sym at)
@@ -126,3 +126,36 @@ module _ (live hs : List HandlerData) (i : ℕ) (h : HandlerData) (below : i < l
                 let same : bytes_eq name other ≡ true =
                 (bytes_eq-Decides name other).1 (own ∙ sym ((bytes_eq-Decides other h.command).0 is)) in
                 absurd (true≢false (sym same ∙ differs))
+
+    -- a later handler of a name changes nothing
+    pub skipped_here : (names : Names) → FindsFirst names hs (take i hs)
+        → is_some (handler_named name (take i hs)) ≡ true → FindsFirst names hs (take (i + 1) hs)
+    skipped_here names found there other = found other ∙ sym (grows ∙ stays (bytes_eq other h.command) refl)
+      where
+        next : take (i + 1) hs ≡ take i hs ++ h ∷ []
+        next =
+            let next : i + 1 ≡ suc i = omega arith in
+            ap (λ n. take n hs) next ∙ take-suc hs i h below ∙ sym (ap (λ h. take i hs ++ h ∷ []) at)
+
+        grows : handler_named other (take (i + 1) hs)
+            ≡ option_or (handler_named other (take i hs)) (handler_named other (h ∷ []))
+        grows = ap (handler_named other) next ∙ find-append (λ g. bytes_eq other g.command) (take i hs) (h ∷ [])
+
+        first : (o : Option HandlerData) → is_some o ≡ true → (p : Option HandlerData) → option_or o p ≡ o
+        first None some p = absurd (true≢false (sym some))
+        first (Some x) some p = refl
+
+        nothing_more : (o : Option HandlerData) → option_or o None ≡ o
+        nothing_more None = refl
+        nothing_more (Some x) = refl
+
+        stays : (b : Bool) → bytes_eq other h.command ≡ b
+            → option_or (handler_named other (take i hs)) (handler_named other (h ∷ []))
+            ≡ handler_named other (take i hs)
+        stays true is =
+            let same : name ≡ other = own ∙ sym ((bytes_eq-Decides other h.command).0 is) in
+            first (handler_named other (take i hs))
+            (ap (λ n. is_some (handler_named n (take i hs))) (sym same) ∙ there) (handler_named other (h ∷ []))
+        stays false is =
+            ap (λ b. option_or (handler_named other (take i hs)) (cond b (Some h) None)) is
+            ∙ nothing_more (handler_named other (take i hs))

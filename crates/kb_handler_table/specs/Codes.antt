@@ -1,9 +1,8 @@
 -- The code of an extension, verified or not.
-use Rattle.std.specs.Prelude.{⊤, List, Option, Some, None, map}
-use Rattle.std.specs.List.{AllZip}
+use Rattle.std.specs.Prelude.{⊤, List, [], Option, Some, None, map, is_some, if◌then◌else◌}
 use Rattle.kb_code.specs.Handler.{HandlerData}
 use Rattle.kb_verify.specs.declared.callees.Callee.{Callee}
-use Rattle.kb_verify.specs.Accepted.{CheckedHandler, IsChecked}
+use Rattle.kb_verify.specs.Accepted.{CheckedHandler, EachChecked}
 
 -- the handlers in file order; if they were verified, also the callees of each, with their signatures at
 -- that time
@@ -20,17 +19,12 @@ checked verified = record {
   callees = Some (map (λ v. v.callees) verified);
 }
 
--- each handler was accepted against some commands, and `all` has its callees with the signatures that
--- those declare
-abbrev pub EachChecked : List HandlerData → List (List Callee) → Type 0
-EachChecked handlers all =
-    AllZip (λ h callees. IsChecked (record { handler = h; callees = callees })) handlers all
-
--- the same, if callees are present
+-- each handler was accepted against some commands and has its callees, if callees are present
 abbrev pub CalleesAreChecked : List HandlerData → Option (List (List Callee)) → Type 0
 CalleesAreChecked handlers None = ⊤
 CalleesAreChecked handlers (Some all) = EachChecked handlers all
 
+-- callees are present
 abbrev pub HaveCallees : List HandlerData → Option (List (List Callee)) → Type 0
 HaveCallees handlers None = ⊥
 HaveCallees handlers (Some all) = EachChecked handlers all
@@ -39,9 +33,6 @@ HaveCallees handlers (Some all) = EachChecked handlers all
 abbrev pub AreChecked : CodesData → Type 0
 AreChecked codes = HaveCallees codes.handlers codes.callees
 
--- ---- for private functions
-
--- verified handlers and their callees, in two lists
-pub record PartsData : Type 0 where
-  pub handlers : List HandlerData
-  pub callees : List (List Callee)
+-- the handlers of code that was verified; none of other code
+abbrev pub checked_in : CodesData → List HandlerData
+checked_in codes = if is_some codes.callees then codes.handlers else []

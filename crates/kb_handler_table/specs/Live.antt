@@ -1,14 +1,16 @@
 -- The live handlers, as contracts see them.
 use Rattle.std.specs.Prelude.{ℕ, Bool, false, List, [], ◌∷◌, ◌++◌, map, find, Option, Some, None, is_some}
 use Rattle.std.specs.Prelude.{if◌then◌else◌, nat_eq, nat_lt, bytes_eq, codes, ◌||◌, get_or, option_map}
+use Rattle.std.specs.Prelude.{slice_get}
 use Rattle.std.specs.List.{list_any, flat_map}
+use Rattle.std.specs.Option.{option_map_or}
 use Rattle.kb_core.specs.declared.native.Native.{Native}
 use Rattle.kb_core.specs.contracts.native.NativePartialEq.TheImpl as equality
 use Rattle.kb_core.specs.Native.{named}
 use Rattle.kb_code.specs.Handler.{HandlerData, handler_named}
 use Rattle.kb_code.specs.Callees.{callees_of}
 use Rattle.kb_code.specs.Target.{natives_of}
-use Rattle.kb_handler_table.specs.Codes.{CodesData}
+use Rattle.kb_handler_table.specs.Codes.{CodesData, checked_in}
 use Rattle.kb_handler_table.specs.declared.fault.CodesFault.{CodesFault}
 use Rattle.kb_handler_table.specs.declared.fault.CodesFault.TheVariants.{AlreadyExists}
 
@@ -43,6 +45,10 @@ codes_fault handlers groups =
 abbrev pub group_of : ℕ → List Group → Option CodesData
 group_of extension groups = option_map (λ g. g.codes) (find (λ g. nat_eq g.extension extension) groups)
 
+-- the handlers of an extension's group; none if it has no group
+abbrev pub handlers_of : ℕ → List Group → List HandlerData
+handlers_of extension groups = option_map_or (λ codes. codes.handlers) (group_of extension groups) []
+
 -- the groups with a new one, in load order
 abbrev pub with_group : Group → List Group → List Group
 with_group new [] = new ∷ []
@@ -56,6 +62,13 @@ with_codes extension codes groups = with_group (record { extension = extension; 
 abbrev pub without_group : ℕ → List Group → List Group
 without_group extension [] = []
 without_group extension (g ∷ gs) = if nat_eq g.extension extension then gs else g ∷ without_group extension gs
+
+-- the groups with other code for an extension, if it has a group
+abbrev pub exchanged : ℕ → CodesData → List Group → List Group
+exchanged extension codes [] = []
+exchanged extension codes (g ∷ gs) =
+    if nat_eq g.extension extension then record { extension = g.extension; codes = codes } ∷ gs
+    else g ∷ exchanged extension codes gs
 
 -- whether two natives are equal, as `==` decides it
 abbrev pub same_native : Native → Native → Bool
@@ -73,3 +86,21 @@ calls_native native h = list_any (λ n. is_it native (get_or (natives_of h) n No
 -- the first live handler, in load and file order, that calls the native
 abbrev pub caller_of : Native → List Group → Option HandlerData
 caller_of native groups = find (calls_native native) (handlers_in groups)
+
+-- whether a name is that of one of the handlers
+abbrev pub names_one : List HandlerData → Option (List ℕ) → Bool
+names_one own None = false
+names_one own (Some name) = is_some (handler_named name own)
+
+-- whether a reachable call of the handler names one of these
+abbrev pub calls_one : List HandlerData → HandlerData → Bool
+calls_one own h = list_any (λ n. names_one own (slice_get h.calls n)) (callees_of h)
+
+-- all live handlers of verified code, in load and file order
+abbrev pub checked_handlers : List Group → List HandlerData
+checked_handlers groups = flat_map (λ g. checked_in g.codes) groups
+
+-- the first verified handler of the other groups that calls a handler of the extension's
+abbrev pub user_of : ℕ → List Group → Option HandlerData
+user_of extension groups =
+    find (calls_one (handlers_of extension groups)) (checked_handlers (without_group extension groups))

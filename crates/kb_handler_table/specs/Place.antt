@@ -1,12 +1,24 @@
 -- The place of an extension's group.
 use Rattle.std.specs.Prelude.{◌≡◌, ℕ, ◌<◌, List, Option, None, MatchOption, length, option_map, remove}
-use Rattle.std.specs.Prelude.{slice_get}
-use Rattle.kb_handler_table.specs.Live.{Group, group_of, without_group}
+use Rattle.std.specs.Prelude.{slice_get, slice_set}
+use Rattle.kb_handler_table.specs.Codes.{CodesData}
+use Rattle.kb_handler_table.specs.Live.{Group, exchanged, group_of, without_group}
 
--- `place` is that of the extension's group, and removing it leaves the others; no place means no group
+-- `place` is that of the extension's group: removing it leaves the others, and other code for the
+-- extension stands there
+pub record IsGroupAt (extension : ℕ) (groups : List Group) (place : ℕ) : Type 0 where
+  pub within : place < length groups
+  pub its : group_of extension groups ≡ option_map (λ g. g.codes) (slice_get groups place)
+  pub others : without_group extension groups ≡ remove groups place
+  pub instead : (codes : CodesData) → exchanged extension codes groups
+      ≡ slice_set groups place (record { extension = extension; codes = codes })
+
+-- the extension has no group
+pub record IsNoGroup (extension : ℕ) (groups : List Group) : Type 0 where
+  pub none : group_of extension groups ≡ None
+  pub all : without_group extension groups ≡ groups
+
+-- the place of the extension's group, if it has one
 abbrev pub IsPlaceOf : ℕ → List Group → Option ℕ → Type 0
 IsPlaceOf extension groups place =
-    MatchOption place ((group_of extension groups ≡ None) × (without_group extension groups ≡ groups))
-    (λ i. (i < length groups)
-    × (group_of extension groups ≡ option_map (λ g. g.codes) (slice_get groups i))
-    × (without_group extension groups ≡ remove groups i))
+    MatchOption place (IsNoGroup extension groups) (λ place. IsGroupAt extension groups place)

@@ -1,12 +1,15 @@
 //! The table of live handlers, by extension and by name.
 ghost use Rattle.std.specs.Prelude.{◌≡◌, ◌≤◌, ◌||◌, ◌++◌, ◌∷◌, [], Some, None, OnOk, OnErr, IfOk};
-ghost use Rattle.std.specs.Prelude.{IfErr, IfSome, option_copied, is_some, length, take, drop};
+ghost use Rattle.std.specs.Prelude.{IfErr, IfSome, IsSome, option_copied, is_some, length, take, drop, find};
+ghost use Rattle.std.specs.Prelude.{true};
+ghost use Rattle.kb_code.specs.Face.{same_face};
 ghost use Rattle.std.specs.List.{AllZip};
 ghost use Rattle.kb_base.specs.Failure.{IsRefusal, IsRefusalOrMemory};
 ghost use Rattle.kb_handler_table.specs.Group.{IsGroup, FindsFirst, is_kept};
 ghost use Rattle.kb_handler_table.specs.Live.{handlers_in, is_reserved, codes_fault};
 ghost use Rattle.kb_code.specs.Handler.{handler_named};
-ghost use Rattle.kb_handler_table.specs.Live.{group_of, with_group, without_group, caller_of};
+ghost use Rattle.kb_handler_table.specs.Live.{group_of, with_group, without_group, caller_of, user_of};
+ghost use Rattle.kb_handler_table.specs.Live.{calls_one, checked_handlers, exchanged, handlers_of};
 ghost use Rattle.kb_handler_table.specs.Live.{Group as GroupData};
 ghost use Rattle.kb_handler_table.specs.Place.{IsPlaceOf};
 ghost use Rattle.kb_base.specs.declared.failure.Failure.TheVariants as failure;
@@ -21,6 +24,7 @@ use kb_code::{Handler, Linked, Spot};
 use kb_core::Native;
 use std::alloc::Global;
 use std::marker::Model;
+use std::mem;
 
 /// The live handlers, by extension and by name. Names are unique. Contracts see the groups of the
 /// extensions in load order, each with its handlers.
@@ -83,7 +87,8 @@ impl CodeTable {
         ensures { IfSome result (λ h. handler_named name.now (handlers_in self.now) ≡ Some h) }
     {
         let spot = spot?;
-        match self.groups.get(spot.extension as usize) {
+        let place = near(self.groups.as_slice(), spot.extension);
+        match self.groups.get(place) {
             Some(group) => group.named_at(spot.place, name),
             None => None,
         }
@@ -111,6 +116,22 @@ impl CodeTable {
             }
         }
         None
+    }
+
+    /// The first verified handler, in load and file order, of another extension that calls a handler of this
+    /// one, or `None`.
+    pub fn user_of(&self, extension: u32) -> Option<&Handler>
+        ensures { option_copied result ≡ user_of extension self.now }
+    {
+        let groups = self.groups.as_slice();
+        let Some(place) = place_of(groups, extension) else {
+            return None;
+        };
+        let own = &groups[place];
+        match user_among(own, &groups[..place]) {
+            Some(user) => Some(user),
+            None => user_among(own, &groups[place + 1..]),
+        }
     }
 
     /// Prepares the code of an extension for `put`. On an error the code is returned: `AlreadyExists`
@@ -151,6 +172,31 @@ impl CodeTable {
         }
     }
 
+    /// Prepares other code of an extension for `exchange`. On refused memory the code is returned.
+    pub fn prepare_exchange(&self, extension: u32, codes: Codes) -> Result<Group, Codes>
+        ensures ok { IfOk result (λ group. group ≡ record { extension = extension; codes = codes }) }
+        ensures back { IfErr result (λ back. back ≡ codes) }
+    {
+        match self.resolved_alone(extension, codes.handlers()) {
+            Ok((links, names)) => Ok(Group::new(extension, codes, links, names)),
+            Err(_) => Err(codes),
+        }
+    }
+
+    /// Puts a prepared group in the place of the extension's group, and returns the code that was there. Both
+    /// declare the same commands. It takes no memory.
+    pub fn exchange(&mut self, group: Group) -> Codes
+        requires held { IsSome (group_of group.extension self.old) }
+        requires face { same_face (handlers_of group.extension self.old) group.codes.handlers ≡ true }
+        ensures codes { group_of group.extension self.old ≡ Some result }
+        ensures table { self.new ≡ exchanged group.extension group.codes self.old }
+    {
+        match place_of(self.groups.as_slice(), group.extension()) {
+            Some(place) => mem::replace(&mut self.groups[place], group).into_codes(),
+            None => unreachable!(),
+        }
+    }
+
     /// The code of an extension, or `None` if it has no group in the table.
     pub fn codes(&self, extension: u32) -> Option<&Codes>
         ensures { option_copied result ≡ group_of extension self.now }
@@ -158,6 +204,16 @@ impl CodeTable {
         match place_of(self.groups.as_slice(), extension) {
             Some(place) => Some(self.groups[place].codes()),
             None => None,
+        }
+    }
+
+    /// The handlers of an extension, in file order. There are none if it has no group in the table.
+    pub fn handlers(&self, extension: u32) -> &[Handler]
+        ensures { result.now ≡ handlers_of extension self.now }
+    {
+        match self.codes(extension) {
+            Some(codes) => codes.handlers(),
+            None => &[],
         }
     }
 
@@ -200,6 +256,20 @@ impl CodeTable {
         Ok((links, names))
     }
 
+    /// The same for a group that takes the place of the extension's group, so its names are free.
+    fn resolved_alone(&self, extension: u32, handlers: &[Handler]) -> Result<(Seq<Links>, Names), NoMemory>
+        ensures { IfOk result (λ r. IsGroup r.1 r.0 handlers.now) }
+    {
+        let names = names_among(self.alloc, handlers)?;
+        let around = Around {
+            groups: self.groups.as_slice(),
+            extension,
+            names: &names,
+        };
+        let links = links_of(self.alloc, handlers, &around)?;
+        Ok((links, names))
+    }
+
     /// The places of handlers by name.
     fn names_of(&self, handlers: &[Handler]) -> Result<Names, Failure<CodesFault>>
         ensures found { IfOk result (λ names. FindsFirst names handlers.now handlers.now) }
@@ -231,6 +301,46 @@ impl CodeTable {
         }
         Failure::NoMemory
     }
+}
+
+/// The places of handlers by name. Of equal names the first counts.
+fn names_among(alloc: Global, handlers: &[Handler]) -> Result<Names, NoMemory>
+    ensures { IfOk result (λ names. FindsFirst names handlers.now handlers.now) }
+{
+    let mut names = Names::new(alloc);
+    for place in 0..handlers.len() {
+        let name = handlers[place].command();
+        if !is_kept(&names, handlers, name.as_str()) {
+            names.keep(name.copied()?, place)?;
+        }
+    }
+    Ok(names)
+}
+
+/// The first verified handler of the groups that calls a handler of `own`.
+#[tactic(auto, using(crate::proofs::Groups::user_passed, crate::proofs::Groups::user_met))]
+fn user_among<'a>(own: &Group, groups: &'a [Group]) -> Option<&'a Handler>
+    ensures { option_copied result ≡ find (calls_one own.now.codes.handlers) (checked_handlers groups.now) }
+{
+    for group in groups {
+        match group.user_of(own) {
+            Some(user) => return Some(user),
+            None => continue,
+        }
+    }
+    None
+}
+
+/// The last place up to `extension` whose group has at most this number, or 0. It is that of the extension's
+/// group, if it has one, since groups are in load order. It is only a hint: no contract depends on it.
+fn near(groups: &[Group], extension: u32) -> usize {
+    let end = groups.len().min(extension as usize + 1);
+    for place in (0..end).rev() {
+        if groups[place].extension() <= extension {
+            return place;
+        }
+    }
+    0
 }
 
 /// Whether one of the handlers has the name, by the places in `names`.

@@ -1,11 +1,10 @@
 //! The code of an extension.
-ghost use Rattle.std.specs.Prelude.{◌≡◌, ◌++◌, ◌∷◌, [], Some, IfOk, option_map};
+ghost use Rattle.std.specs.Prelude.{◌≡◌, option_map};
 ghost use Rattle.kb_handler_table.specs.Codes.{raw, checked, CalleesAreChecked};
 
-use kb_base::{NoMemory, Seq};
+use kb_base::Seq;
 use kb_code::Handler;
-use kb_verify::{Callee, Verified};
-use std::alloc::Global;
+use kb_verify::{Callee, VerifiedList};
 use std::marker::Model;
 
 /// The handlers of one extension, in file order. A registry takes them and returns them in this form.
@@ -38,15 +37,15 @@ impl Codes {
         }
     }
 
-    /// Code whose handlers were all verified.
-    pub fn checked(alloc: Global, verified: Seq<Verified>) -> Result<Codes, NoMemory>
-        ensures { IfOk result (λ codes. codes ≡ checked verified) }
+    /// Code whose handlers were all verified. It takes no memory.
+    pub fn checked(verified: VerifiedList) -> Codes
+        ensures { result ≡ checked verified }
     {
-        let mut parts = Parts::new(alloc);
-        for verified in verified.into_vec() {
-            parts = parts.with(verified)?;
+        let (handlers, callees) = verified.into_parts();
+        Codes {
+            handlers,
+            callees: Some(callees),
         }
-        Ok(parts.into_codes())
     }
 
     /// The handlers, in file order.
@@ -65,64 +64,6 @@ impl Codes {
         match &self.callees {
             Some(callees) => Some(callees.as_slice()),
             None => None,
-        }
-    }
-}
-
-/// Verified handlers with their callees, in two lists of equal length.
-#[derive(Drop)]
-struct Parts {
-    handlers: Seq<Handler>,
-    callees: Seq<Seq<Callee>>,
-}
-
-impl Model for Parts {
-    ghost use Rattle.kb_handler_table.specs.Codes.{EachChecked, PartsData};
-
-    ghost Value = { PartsData };
-
-    ghost view = { λ p. record { handlers = p.handlers; callees = p.callees } };
-
-    ghost invariant = { λ p. EachChecked p.handlers p.callees };
-}
-
-impl Parts {
-    /// No handlers.
-    fn new(alloc: Global) -> Parts
-        ensures { result ≡ record { handlers = []; callees = [] } }
-    {
-        Parts {
-            handlers: Seq::new(alloc),
-            callees: Seq::new(alloc),
-        }
-    }
-
-    /// Adds one handler with its callees.
-    #[tactic(auto, using(crate::proofs::CheckedLemmas::one_more))]
-    fn with(self, verified: Verified) -> Result<Parts, NoMemory>
-        ensures { IfOk result (λ parts. parts ≡ record {
-          handlers = self.handlers ++ verified.handler ∷ [];
-          callees = self.callees ++ verified.callees ∷ [];
-        }) }
-    {
-        let Parts {
-            mut handlers,
-            mut callees,
-        } = self;
-        let (handler, its) = verified.into_parts();
-        handlers.push(handler)?;
-        callees.push(its)?;
-        Ok(Parts { handlers, callees })
-    }
-
-    /// The code made of these handlers.
-    fn into_codes(self) -> Codes
-        ensures { result ≡ record { handlers = self.handlers; callees = Some self.callees } }
-    {
-        let Parts { handlers, callees } = self;
-        Codes {
-            handlers,
-            callees: Some(callees),
         }
     }
 }

@@ -1,9 +1,12 @@
 //! The code of an extension, with the data that is resolved once for it.
 ghost use Rattle.std.specs.Prelude.{◌≡◌, IfOk, IfSome, find, length, slice_get, option_copied, option_map};
-ghost use Rattle.std.specs.List.{AllZip};
+ghost use Rattle.std.specs.Prelude.{map};
+ghost use Rattle.std.specs.List.{AllZip, list_any};
 ghost use Rattle.kb_handler_table.specs.Group.{IsGroup, IsNamedAt};
 ghost use Rattle.kb_handler_table.specs.Links.{AreLinks};
-ghost use Rattle.kb_handler_table.specs.Live.{calls_native};
+ghost use Rattle.kb_handler_table.specs.Codes.{checked_in};
+ghost use Rattle.kb_handler_table.specs.Live.{calls_native, calls_one, names_one};
+ghost use Rattle.kb_verify.specs.Accepted.{EachChecked};
 ghost use Rattle.kb_code.specs.Handler.{handler_named};
 
 use crate::codes::Codes;
@@ -12,6 +15,7 @@ use crate::names::Names;
 use kb_base::{NoMemory, Seq};
 use kb_code::{Handler, Linked, Spot};
 use kb_core::{Native, Signature};
+use kb_verify::Callee;
 use std::alloc::Global;
 use std::marker::Model;
 
@@ -142,12 +146,61 @@ impl Group {
         }
     }
 
+    /// Whether one of the handlers has the name at an index of a handler's list of calls.
+    fn is_named_at(&self, handler: &Handler, index: u16) -> bool
+        ensures { result ≡ names_one self.now.codes.handlers (slice_get handler.now.calls index) }
+    {
+        match handler.calls().get(usize::from(index)) {
+            Some(name) => self.linked(name.as_str()).is_some(),
+            None => false,
+        }
+    }
+
+    /// The first handler that calls a handler of `own`, if the code was verified.
+    pub(crate) fn user_of(&self, own: &Group) -> Option<&Handler>
+        ensures { option_copied result
+            ≡ find (calls_one own.now.codes.handlers) (checked_in self.now.codes) }
+    {
+        match self.codes.callees() {
+            Some(callees) => user_in(own, self.codes.handlers(), callees),
+            None => None,
+        }
+    }
+
     /// The first handler that calls the native command.
     pub(crate) fn caller_of(&self, native: Native) -> Option<&Handler>
         ensures { option_copied result ≡ find (calls_native native) self.now.codes.handlers }
     {
         caller_in(self.codes.handlers(), self.links.as_slice(), native)
     }
+}
+
+/// Whether one of the handler's callees is a handler of `own`.
+fn calls_one(own: &Group, handler: &Handler, callees: &[Callee]) -> bool
+    ensures { result ≡ list_any (λ n. names_one own.now.codes.handlers (slice_get handler.now.calls n))
+        (map (λ c. c.index) callees.now) }
+{
+    for callee in callees {
+        if own.is_named_at(handler, callee.index) {
+            return true;
+        }
+    }
+    false
+}
+
+/// The first of the handlers that calls a handler of `own`, by the callees of each.
+#[tactic(auto, using(crate::proofs::GroupLemmas::many_callees))]
+fn user_in<'a>(own: &Group, handlers: &'a [Handler], callees: &[Seq<Callee>]) -> Option<&'a Handler>
+    requires { EachChecked handlers.now callees.now }
+    ensures { option_copied result ≡ find (calls_one own.now.codes.handlers) handlers.now }
+{
+    for place in 0..handlers.len() {
+        let handler = &handlers[place];
+        if calls_one(own, handler, callees[place].as_slice()) {
+            return Some(handler);
+        }
+    }
+    None
 }
 
 /// The first of the handlers that calls the native command.

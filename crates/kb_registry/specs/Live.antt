@@ -8,7 +8,7 @@ use Rattle.kb_code.specs.Commands.{Callee, Plain, Coded, Table}
 use Rattle.kb_handler_table.specs.Codes.{CodesData}
 use Rattle.kb_handler_table.specs.Live.{Group, handlers_in, caller_of, with_codes}
 use Rattle.kb_code.specs.Handler.{handler_named}
-use Rattle.kb_handler_table.specs.Live.{without_group, same_native}
+use Rattle.kb_handler_table.specs.Live.{without_group, exchanged, same_native}
 use Rattle.kb_registry.specs.declared.fault.RegistryFault.{RegistryFault}
 use Rattle.kb_registry.specs.declared.fault.RegistryFault.TheVariants.{AlreadyExists, Exhausted, StaleTicket}
 use Rattle.kb_registry.specs.declared.fault.RegistryFault.TheVariants.{InUse}
@@ -108,6 +108,10 @@ with_code extension codes live = record live { code = with_codes extension codes
 -- the registry without an extension's code
 abbrev pub without_code : ℕ → Live → Live
 without_code extension live = record live { code = without_group extension live.code }
+
+-- the registry with other code of an extension
+abbrev pub with_exchanged : ℕ → CodesData → Live → Live
+with_exchanged extension codes live = record live { code = exchanged extension codes live.code }
 
 -- the next result, unless there is a fault
 abbrev pub unless_fault : Option RegistryFault → Result Live RegistryFault → Result Live RegistryFault

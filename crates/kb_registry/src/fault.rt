@@ -17,13 +17,18 @@ pub enum RegistryFault {
     /// No registered closure has the ticket.
     #[error("no live closure has this ticket")]
     StaleTicket = 72,
-    /// A live handler calls the native command of the closure.
-    #[error("a live handler calls this native command")]
+    /// A live handler calls the native command of the closure, or a verified handler of another extension
+    /// calls a handler of the code.
+    #[error("a live handler calls this command")]
     InUse = 73,
     /// A callee of verified code is neither live nor one of the code's own handlers, with the signature
     /// that it had when the code was verified.
     #[error("a command that the code calls is not live as it was declared")]
     CalleeNotLive = 74,
+    /// The code doesn't have the same commands, with the same parameters, budgets and depths, as the code
+    /// that it replaces.
+    #[error("the code declares other commands than before")]
+    SignatureChanged = 95,
 }
 
 impl RegistryFault {

@@ -10,11 +10,11 @@ ghost use Rattle.kb_code.specs.Commands.{declared_by};
 ghost use Rattle.kb_code.specs.Found.{callee_of};
 ghost use Rattle.kb_handler_table.specs.Live.{handlers_in, caller_of, group_of, codes_fault};
 ghost use Rattle.kb_code.specs.Handler.{handler_named};
-ghost use Rattle.kb_handler_table.specs.Live.{same_native};
+ghost use Rattle.kb_handler_table.specs.Live.{handlers_of, same_native, user_of};
 ghost use Rattle.kb_registry.specs.Live.{fresh, is_live, live_native, registration_fault, registered};
 ghost use Rattle.kb_registry.specs.Live.{holder, disposed, disposal_fault, callee, callee_by, table_of};
-ghost use Rattle.kb_registry.specs.CodeFault.{callee_fault, code_fault};
-ghost use Rattle.kb_registry.specs.Live.{where_live, with_code, without_code};
+ghost use Rattle.kb_registry.specs.CodeFault.{callee_fault, code_fault, code_disposal_fault, exchange_fault};
+ghost use Rattle.kb_registry.specs.Live.{where_live, with_code, with_exchanged, without_code};
 ghost use Rattle.kb_registry.specs.Missing.{missing_callee};
 ghost use Rattle.kb_registry.specs.Place.{IsPlace};
 
@@ -23,7 +23,7 @@ use crate::fault::RegistryFault;
 use crate::missing::Among;
 use indexmap::IndexMap;
 use kb_base::{Failure, NoMemory};
-use kb_code::{Commands, Found, Handler, Linked, Target};
+use kb_code::{Commands, Found, Handler, Linked, Target, same_face};
 use kb_core::{Args, Core, Native, Ran, Signature};
 use kb_handler_table::{CodeTable, Codes, CodesFault, Group};
 use std::alloc::Global;
@@ -347,6 +347,13 @@ impl<C: HostCommand> Registry<C> {
         self.code.codes(extension)
     }
 
+    /// The live handlers of an extension, in file order. There are none if it has no live code.
+    pub fn handlers(&self, extension: u32) -> &[Handler]
+        ensures { result.now ≡ handlers_of extension self.now.code }
+    {
+        self.code.handlers(extension)
+    }
+
     /// The live handler with a name, with its call targets, or `None`.
     pub fn linked(&self, command: &str) -> Option<Linked<'_>>
         ensures { result ≡ handler_named command.now (handlers_in self.now.code) }
@@ -361,8 +368,8 @@ impl<C: HostCommand> Registry<C> {
         self.code.handler(command)
     }
 
-    /// Adds the code of an extension to the live handlers; extensions are numbered in load order. On an
-    /// error the code is returned and the registry is unchanged. 70 if a handler has the name of a
+    /// Adds the code of an extension to the live handlers; extensions are numbered in load order, and the
+    /// extension has no live code yet. On an error the code is returned and the registry is unchanged. 70 if a handler has the name of a
     /// native command, of `runCommands`, of a live handler or of another handler of the code; else 74
     /// if a callee of verified code is neither live nor one of the code's own handlers, with the
     /// signature that it had when the code was verified; or `NoMemory`.
@@ -371,6 +378,7 @@ impl<C: HostCommand> Registry<C> {
         extension: u32,
         codes: Codes,
     ) -> Result<(), (Codes, Failure<RegistryFault>)>
+        requires { group_of extension self.old.code ≡ None }
         ensures allowed { OnOk result (code_fault codes self.old ≡ None) }
         ensures ok { OnOk result (self.new ≡ with_code extension codes self.old) }
         ensures why { IfErr result (λ e. IsRefusalOrMemory (code_fault codes self.old) e.1) }
@@ -423,12 +431,61 @@ impl<C: HostCommand> Registry<C> {
         }
     }
 
-    /// Removes the live code of an extension and returns it, or `None` if it has none.
-    pub fn dispose_code(&mut self, extension: u32) -> Option<Codes>
-        ensures codes { result ≡ group_of extension self.old.code }
-        ensures table { self.new ≡ without_code extension self.old }
+    /// The first verified handler, in load and file order, of another extension that calls a handler of
+    /// this one, or `None`.
+    pub fn user_of_code(&self, extension: u32) -> Option<&Handler>
+        ensures { option_copied result ≡ user_of extension self.now.code }
     {
-        self.code.dispose(extension)
+        self.code.user_of(extension)
+    }
+
+    /// Removes the live code of an extension and returns it. 73 if a verified handler of another extension
+    /// calls one of its handlers (`user_of_code`); then the registry is unchanged.
+    pub fn dispose_code(&mut self, extension: u32) -> Result<Codes, RegistryFault>
+        requires { IsSome (group_of extension self.old.code) }
+        ensures codes { IfOk result (λ codes. group_of extension self.old.code ≡ Some codes) }
+        ensures allowed { OnOk result (code_disposal_fault extension self.old ≡ None) }
+        ensures ok { OnOk result (self.new ≡ without_code extension self.old) }
+        ensures why { IfErr result (λ fault. code_disposal_fault extension self.old ≡ Some fault) }
+        ensures err { OnErr result (self.new ≡ self.old) }
+    {
+        if self.code.user_of(extension).is_some() {
+            return Err(RegistryFault::InUse);
+        }
+        match self.code.dispose(extension) {
+            Some(codes) => Ok(codes),
+            None => unreachable!(),
+        }
+    }
+
+    /// Exchanges the live code of an extension, and returns the code that was live before. On an error the
+    /// new code is returned and the registry is unchanged. 95 if the new code doesn't have the same commands
+    /// with the same parameters, budgets and depths; else 74 if a callee of verified code is neither live
+    /// nor one of the code's own handlers, with the signature that it had when the code was verified; or
+    /// `NoMemory`.
+    pub fn replace_code(
+        &mut self,
+        extension: u32,
+        codes: Codes,
+    ) -> Result<Codes, (Codes, Failure<RegistryFault>)>
+        requires { IsSome (group_of extension self.old.code) }
+        ensures before { IfOk result (λ before. group_of extension self.old.code ≡ Some before) }
+        ensures allowed { OnOk result (exchange_fault extension codes self.old ≡ None) }
+        ensures ok { OnOk result (self.new ≡ with_exchanged extension codes self.old) }
+        ensures why { IfErr result (λ e. IsRefusalOrMemory (exchange_fault extension codes self.old) e.1) }
+        ensures back { IfErr result (λ e. e.0 ≡ codes) }
+        ensures err { OnErr result (self.new ≡ self.old) }
+    {
+        if !same_face(self.handlers(extension), codes.handlers()) {
+            return Err((codes, Failure::Fault(RegistryFault::SignatureChanged)));
+        }
+        if self.missing_callee(&codes).is_some() {
+            return Err((codes, Failure::Fault(RegistryFault::CalleeNotLive)));
+        }
+        match self.code.prepare_exchange(extension, codes) {
+            Ok(group) => Ok(self.code.exchange(group)),
+            Err(codes) => Err((codes, Failure::NoMemory)),
+        }
     }
 
     /// The entry of the native command with an identifier, or `None` if it has no registered closure.

@@ -7,7 +7,7 @@ use Rattle.kb_bindings.specs.Load.{Files}
 use Rattle.kb_files.specs.declared.fault.LoadFault.{LoadFault}
 use Rattle.kb_files.specs.declared.fault.LoadFile.TheVariants as file
 use Rattle.kb_code.specs.Handler.{HandlerData}
-use Rattle.kb_handler_table.specs.Codes.{EachChecked, checked}
+use Rattle.kb_handler_table.specs.Codes.{checked}
 use Rattle.kb_base.specs.Refusal.{numbered}
 use Rattle.kb_base.specs.declared.failure.Failure.{Failure}
 use Rattle.kb_core.specs.declared.native.Native.{Native}
@@ -22,7 +22,7 @@ use Rattle.kb_session.specs.Session.{IsOf, Loads, Seen}
 use Rattle.kb_soundness.specs.Stays.{IsSound}
 use Rattle.kb_soundness.proofs.Joins.{code_stays_sound}
 use Rattle.kb_soundness.proofs.Stays.{fresh_is_sound, registered_stays_sound}
-use Rattle.kb_verify.specs.Accepted.{CheckedHandler}
+use Rattle.kb_verify.specs.Accepted.{CheckedHandler, EachChecked}
 use Rattle.kb_verify.specs.Callable.{Commands}
 
 -- ---- closures

@@ -6,7 +6,7 @@ use Rattle.std.specs.List.{All}
 use Rattle.kb_core.specs.Declaration.{Declaration}
 use Rattle.kb_code.specs.Handler.{HandlerData, handler_named}
 use Rattle.kb_code.specs.Commands.{declared_by}
-use Rattle.kb_handler_table.specs.Codes.{EachChecked, HaveCallees}
+use Rattle.kb_handler_table.specs.Codes.{HaveCallees}
 use Rattle.kb_handler_table.specs.Live.{handlers_in, has_taken}
 use Rattle.kb_registry.specs.declared.fault.RegistryFault.TheVariants.{AlreadyExists}
 use Rattle.kb_registry.specs.CodeFault.{callee_fault}
@@ -16,7 +16,7 @@ use Rattle.kb_code.specs.Face.{declares, declared_among}
 use Rattle.kb_registry.specs.Missing.{missing_in, missing_from, missing_by, missing_callee}
 use Rattle.kb_verify.specs.declared.callees.Callee.{Callee}
 use Rattle.kb_verify.specs.Callable.{Commands}
-use Rattle.kb_verify.specs.Accepted.{IsChecked, IsCallee, AreCallees}
+use Rattle.kb_verify.specs.Accepted.{IsChecked, IsCallee, AreCallees, EachChecked}
 use Rattle.kb_verify.proofs.Listed as verifier
 use Rattle.kb_code.proofs.SameLemmas.{same_is_equal}
 use Rattle.kb_soundness.specs.Sound.{live_declaration_at}

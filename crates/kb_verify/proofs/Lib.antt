@@ -10,3 +10,4 @@ pub mod Passes
 pub mod ProviderLemmas
 pub mod Refutes
 pub mod Swapped
+pub mod VerifiedLemmas

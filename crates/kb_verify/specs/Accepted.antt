@@ -1,6 +1,7 @@
 -- Which handlers the verifier accepts with given callable commands, and what they call.
 use Rattle.std.specs.Prelude.{◌≡◌, ℕ, ◌+◌, ◌<◌, ◌≤◌, List, [], ◌∷◌, map, length, Some, slice_get}
 use Rattle.std.specs.FinMap as fin_map
+use Rattle.std.specs.List.{AllZip}
 use Rattle.kb_core.specs.Declaration.{Declaration}
 use Rattle.kb_code.specs.Handler.{HandlerData}
 use Rattle.kb_code.specs.Callees.{callees_of}
@@ -73,3 +74,14 @@ pub record CheckedHandler : Type 0 where
 -- them
 abbrev pub IsChecked : CheckedHandler → Type 0
 IsChecked v = (commands : Commands) × IsAccepted commands v.handler × AreCallees commands v.handler v.callees
+
+-- each handler was accepted against some commands, and `all` has its callees with the signatures that
+-- those declare
+abbrev pub EachChecked : List HandlerData → List (List Callee) → Type 0
+EachChecked handlers all = AllZip (λ h callees. IsChecked (record { handler = h; callees = callees })) handlers all
+
+-- handlers with the callees of each
+abbrev pub together : List HandlerData → List (List Callee) → List CheckedHandler
+together [] all = []
+together (h ∷ hs) [] = []
+together (h ∷ hs) (callees ∷ all) = record { handler = h; callees = callees } ∷ together hs all

@@ -13,6 +13,7 @@ pub mod laws;
 pub mod provider;
 mod shape;
 pub mod verified;
+pub mod verified_list;
 
 pub use backward::instr_cost;
 pub use callable::{Callable, SharedSignature};
@@ -21,3 +22,4 @@ pub use costing::dearest_cost;
 pub use fault::{Defect, Step, VerifyFault};
 pub use provider::{Provider, callable_of};
 pub use verified::{Verified, verify};
+pub use verified_list::VerifiedList;

@@ -1,6 +1,6 @@
 use Rattle.std.proofs.Common.{◌≡◌, ◌∙◌, ◌++◌, ap, sym, take}
 use Rattle.std.proofs.lemmas.Bool.Decides.{Decides-eqb}
-use Rattle.kb_handler_table.proofs.Groups.{stands_at}
+use Rattle.kb_handler_table.proofs.Groups.{set_there, stands_at}
 use Rattle.kb_handler_table.proofs.code_table.place_of.Goals as goal
 
 pub returns-then-extension : goal.returns-then-extension
@@ -10,8 +10,12 @@ returns-then-extension c =
     let g = c.index-groups-place.result in
     let same : g.extension ≡ c.args.extension = sym c.extension.ensures ∙ c.if-extension.true in
     let at = stands_at c.args.extension groups i g c.loop-place-test.true c.index-groups-place.is
-    ((Decides-eqb g.extension c.args.extension).1 same) in (
-      c.loop-place-test.true,
-      c.loop-place.invariant.0 ∙ at.0,
-      c.loop-place.invariant.1 ∙ ap (λ gs. take i groups ++ gs) at.1,
-    )
+    ((Decides-eqb g.extension c.args.extension).1 same) in
+    record {
+      within = c.loop-place-test.true;
+      its = c.loop-place.invariant.0 ∙ at.0;
+      others = c.loop-place.invariant.1 ∙ ap (λ gs. take i groups ++ gs) at.1;
+      instead = λ codes.
+          c.loop-place.invariant.2 codes ∙ ap (λ gs. take i groups ++ gs) (at.2 codes)
+          ∙ set_there groups i (record { extension = c.args.extension; codes = codes }) c.loop-place-test.true;
+    }

@@ -10,14 +10,14 @@ invariant_of-self c =
     let same = c.as_slice.ensures.value in
     without_stays c.args.extension c.self.inside.groups.items c.remove.new.self.items c.self.invariant
     (c.remove.ensures.items ∙ ap (λ (gs : List Group). remove gs c.in-Some.place) (sym same)
-    ∙ sym c.in-Some.ensures.2 ∙ ap (without_group c.args.extension) same)
+    ∙ sym c.in-Some.ensures.others ∙ ap (without_group c.args.extension) same)
 
 pub returns-in-Some-clause-codes : goal.returns-in-Some-clause-codes
 returns-in-Some-clause-codes c =
     let same = c.as_slice.ensures.value in
     let place = c.in-Some.place in
     let at = slice_get_read c.self.inside.groups.items _ place c.remove.result refl
-    (subst (λ (gs : List Group). place < length gs) same c.in-Some.ensures.0) c.remove.ensures.value in
+    (subst (λ (gs : List Group). place < length gs) same c.in-Some.ensures.within) c.remove.ensures.value in
     ap (λ codes. Some codes) c.into_codes.ensures
     ∙ sym (ap (option_map (λ (g : Group). g.codes)) (ap (λ (gs : List Group). slice_get gs place) same ∙ at))
-    ∙ sym c.in-Some.ensures.1 ∙ ap (group_of c.args.extension) (same ∙ c.self.view_is)
+    ∙ sym c.in-Some.ensures.its ∙ ap (group_of c.args.extension) (same ∙ c.self.view_is)

@@ -7,7 +7,7 @@ use Rattle.kb_handler_table.proofs.code_table.CodeTable.linked_at.Goals as goal
 
 pub returns-in-Some : goal.returns-in-Some
 returns-in-Some c =
-    let i = c.in_ok-spot.spot.extension in
+    let i = c.near-place.result in
     let g = c.in-Some.group.now in
     let lookup = c.in-Some.ensures.lookup in
     let at = ap (λ gs. slice_get gs i) (sym c.deref.ensures.value)
