@@ -1,6 +1,6 @@
 -- Names of live handlers are distinct: lemmas on groups that are added and removed.
 use Rattle.std.proofs.Common.{◌≡◌, ◌∙◌, ℕ, zero, suc, ◌<◌, Bool, true, false, ◌||◌, cond, List, [], ◌∷◌}
-use Rattle.std.proofs.Common.{◌++◌, ◌&&◌, find, not, option_map}
+use Rattle.std.proofs.Common.{◌++◌, ◌&&◌, ◌⊎◌, inl, inr, ⊎_elim, find, not, option_map}
 use Rattle.std.proofs.Common.{Option, Some, None, refl, sym, ap, is_some, bytes_eq, slice_get}
 use Rattle.std.proofs.Common.{true≢false, nat_lt, nat_eq, IfSome, subst}
 use Rattle.std.proofs.lemmas.List.Folds.{find-append}
@@ -234,10 +234,10 @@ face-parts old new same =
     let split = truths (are_distinct old && are_distinct new) (each_declared old new && each_declared new old) same in
     ((truths (are_distinct old) (are_distinct new) split.0).1, same_face_declares_the_same old new same)
 
-none-declared : (hs : List HandlerData) (name : List ℕ) → handler_named name hs ≡ None → declared_among hs name ≡ None
+pub none-declared : (hs : List HandlerData) (name : List ℕ) → handler_named name hs ≡ None → declared_among hs name ≡ None
 none-declared hs name e = ap (option_map (λ (h : HandlerData). h.signature)) e
 
-undeclared : (hs : List HandlerData) (name : List ℕ) → declared_among hs name ≡ None → handler_named name hs ≡ None
+pub undeclared : (hs : List HandlerData) (name : List ℕ) → declared_among hs name ≡ None → handler_named name hs ≡ None
 undeclared hs name e = by (handler_named name hs) refl
   where
     by : (o : Option HandlerData) → handler_named name hs ≡ o → handler_named name hs ≡ None
@@ -406,3 +406,165 @@ pub found_here : (name : List ℕ) (gs : List Group) (i : ℕ) (g : Group) (plac
     → IfSome r (λ h. handler_named name (handlers_in gs) ≡ Some h)
 found_here name gs i g place None a at is = tt
 found_here name gs i g place (Some h) a at is = found name gs i g place h a at is
+
+-- ---- searches by name before and after a change of the groups
+
+own-true : (extension : ℕ) (g : Group) (gs : List Group) → nat_eq g.extension extension ≡ true
+    → handlers_of extension (g ∷ gs) ≡ g.codes.handlers
+own-true extension g gs is =
+    ap (λ b. option_map_or (λ (codes : CodesData). codes.handlers) (option_map (λ (g : Group). g.codes)
+    (cond b (Some g) (find (λ (g : Group). nat_eq g.extension extension) gs))) []) is
+
+own-false : (extension : ℕ) (g : Group) (gs : List Group) → nat_eq g.extension extension ≡ false
+    → handlers_of extension (g ∷ gs) ≡ handlers_of extension gs
+own-false extension g gs is =
+    ap (λ b. option_map_or (λ (codes : CodesData). codes.handlers) (option_map (λ (g : Group). g.codes)
+    (cond b (Some g) (find (λ (g : Group). nat_eq g.extension extension) gs))) []) is
+
+-- what is found without an extension's group is found with it
+pub found_before : (extension : ℕ) (gs : List Group) (name : List ℕ) (h : HandlerData) → AreApart (handlers_in gs)
+    → handler_named name (handlers_in (without_group extension gs)) ≡ Some h
+    → handler_named name (handlers_in gs) ≡ Some h
+found_before extension [] name h a found = found
+found_before extension (g ∷ gs) name h a found =
+    by (nat_eq g.extension extension) refl (found_before extension gs name h split.behind)
+  where
+    split : Parts g.codes.handlers (handlers_in gs)
+    split = part g.codes.handlers (handlers_in gs) a
+
+    behind : handler_named name (handlers_in gs) ≡ Some h → handler_named name (handlers_in (g ∷ gs)) ≡ Some h
+    behind found =
+        both name g.codes.handlers (handlers_in gs)
+        ∙ ap (λ o. option_or o (handler_named name (handlers_in gs)))
+        (not-before name g.codes.handlers (handlers_in gs) h split.between found)
+        ∙ found
+
+    here : (o : Option HandlerData) → handler_named name g.codes.handlers ≡ o
+        → option_or o (handler_named name (handlers_in (without_group extension gs))) ≡ Some h
+        → (handler_named name (handlers_in (without_group extension gs)) ≡ Some h
+        → handler_named name (handlers_in gs) ≡ Some h) → handler_named name (handlers_in (g ∷ gs)) ≡ Some h
+    here (Some x) is e rest =
+        both name g.codes.handlers (handlers_in gs) ∙ ap (λ o. option_or o (handler_named name (handlers_in gs))) is ∙ e
+    here None is e rest = behind (rest e)
+
+    by : (b : Bool) → nat_eq g.extension extension ≡ b
+        → (handler_named name (handlers_in (without_group extension gs)) ≡ Some h
+        → handler_named name (handlers_in gs) ≡ Some h) → handler_named name (handlers_in (g ∷ gs)) ≡ Some h
+    by true is rest =
+        behind (sym (ap (λ b. handler_named name (handlers_in (cond b gs (g ∷ without_group extension gs)))) is) ∙ found)
+    by false is rest =
+        here (handler_named name g.codes.handlers) refl
+        (sym (both name g.codes.handlers (handlers_in (without_group extension gs)))
+        ∙ sym (ap (λ b. handler_named name (handlers_in (cond b gs (g ∷ without_group extension gs)))) is) ∙ found)
+        rest
+
+-- what is found is found without the group of an extension that doesn't have the name
+pub found_after : (extension : ℕ) (gs : List Group) (name : List ℕ) (h : HandlerData)
+    → handler_named name (handlers_of extension gs) ≡ None → handler_named name (handlers_in gs) ≡ Some h
+    → handler_named name (handlers_in (without_group extension gs)) ≡ Some h
+found_after extension [] name h none found = found
+found_after extension (g ∷ gs) name h none found =
+    by (nat_eq g.extension extension) refl (found_after extension gs name h)
+  where
+    parts : option_or (handler_named name g.codes.handlers) (handler_named name (handlers_in gs)) ≡ Some h
+    parts = sym (both name g.codes.handlers (handlers_in gs)) ∙ found
+
+    here : (o : Option HandlerData) → handler_named name g.codes.handlers ≡ o
+        → option_or o (handler_named name (handlers_in gs)) ≡ Some h
+        → (handler_named name (handlers_in gs) ≡ Some h
+        → handler_named name (handlers_in (without_group extension gs)) ≡ Some h)
+        → handler_named name (handlers_in (g ∷ without_group extension gs)) ≡ Some h
+    here (Some x) is e rest =
+        both name g.codes.handlers (handlers_in (without_group extension gs))
+        ∙ ap (λ o. option_or o (handler_named name (handlers_in (without_group extension gs)))) is ∙ e
+    here None is e rest =
+        both name g.codes.handlers (handlers_in (without_group extension gs))
+        ∙ ap (λ o. option_or o (handler_named name (handlers_in (without_group extension gs)))) is ∙ rest e
+
+    by : (b : Bool) → nat_eq g.extension extension ≡ b
+        → (handler_named name (handlers_of extension gs) ≡ None → handler_named name (handlers_in gs) ≡ Some h
+        → handler_named name (handlers_in (without_group extension gs)) ≡ Some h)
+        → handler_named name (handlers_in (without_group extension (g ∷ gs))) ≡ Some h
+    by true is rest =
+        ap (λ b. handler_named name (handlers_in (cond b gs (g ∷ without_group extension gs)))) is
+        ∙ sym (ap (λ o. option_or o (handler_named name (handlers_in gs)))
+        (ap (handler_named name) (sym (own-true extension g gs is)) ∙ none))
+        ∙ parts
+    by false is rest =
+        ap (λ b. handler_named name (handlers_in (cond b gs (g ∷ without_group extension gs)))) is
+        ∙ here (handler_named name g.codes.handlers) refl parts
+        (rest (ap (handler_named name) (sym (own-false extension g gs is)) ∙ none))
+
+-- a handler of an extension that its name finds there is found among all
+pub found_whole : (extension : ℕ) (gs : List Group) (name : List ℕ) (h : HandlerData) → AreApart (handlers_in gs)
+    → handler_named name (handlers_of extension gs) ≡ Some h → handler_named name (handlers_in gs) ≡ Some h
+found_whole extension [] name h a found = found
+found_whole extension (g ∷ gs) name h a found =
+    by (nat_eq g.extension extension) refl (found_whole extension gs name h split.behind)
+  where
+    split : Parts g.codes.handlers (handlers_in gs)
+    split = part g.codes.handlers (handlers_in gs) a
+
+    by : (b : Bool) → nat_eq g.extension extension ≡ b
+        → (handler_named name (handlers_of extension gs) ≡ Some h → handler_named name (handlers_in gs) ≡ Some h)
+        → handler_named name (handlers_in (g ∷ gs)) ≡ Some h
+    by true is rest =
+        both name g.codes.handlers (handlers_in gs)
+        ∙ ap (λ o. option_or o (handler_named name (handlers_in gs)))
+        (ap (handler_named name) (sym (own-true extension g gs is)) ∙ found)
+    by false is rest =
+        let later = rest (ap (handler_named name) (sym (own-false extension g gs is)) ∙ found) in
+        both name g.codes.handlers (handlers_in gs)
+        ∙ ap (λ o. option_or o (handler_named name (handlers_in gs)))
+        (not-before name g.codes.handlers (handlers_in gs) h split.between later)
+        ∙ later
+
+-- what is found after an exchange is one of the new handlers, or was found before
+pub found_exchanged : (extension : ℕ) (codes : CodesData) (gs : List Group)
+    → same_face (handlers_of extension gs) codes.handlers ≡ true → (name : List ℕ) (h : HandlerData)
+    → handler_named name (handlers_in (exchanged extension codes gs)) ≡ Some h
+    → (handler_named name codes.handlers ≡ Some h) ⊎ (handler_named name (handlers_in gs) ≡ Some h)
+found_exchanged extension codes [] same name h found = inr found
+found_exchanged extension codes (g ∷ gs) same name h found =
+    by (nat_eq g.extension extension) refl (λ alike. found_exchanged extension codes gs alike name h)
+  where
+    new : (o : Option HandlerData) → handler_named name codes.handlers ≡ o
+        → declared_among g.codes.handlers name ≡ declared_among codes.handlers name
+        → option_or o (handler_named name (handlers_in gs)) ≡ Some h
+        → (handler_named name codes.handlers ≡ Some h) ⊎ (handler_named name (handlers_in (g ∷ gs)) ≡ Some h)
+    new (Some x) is alike e = inl (is ∙ e)
+    new None is alike e =
+        let none = undeclared g.codes.handlers name (alike ∙ none-declared codes.handlers name is) in
+        inr (both name g.codes.handlers (handlers_in gs)
+        ∙ ap (λ o. option_or o (handler_named name (handlers_in gs))) none ∙ e)
+
+    old : (o : Option HandlerData) → handler_named name g.codes.handlers ≡ o
+        → option_or o (handler_named name (handlers_in (exchanged extension codes gs))) ≡ Some h
+        → (handler_named name (handlers_in (exchanged extension codes gs)) ≡ Some h
+        → (handler_named name codes.handlers ≡ Some h) ⊎ (handler_named name (handlers_in gs) ≡ Some h))
+        → (handler_named name codes.handlers ≡ Some h) ⊎ (handler_named name (handlers_in (g ∷ gs)) ≡ Some h)
+    old (Some x) is e rest =
+        inr (both name g.codes.handlers (handlers_in gs)
+        ∙ ap (λ o. option_or o (handler_named name (handlers_in gs))) is ∙ e)
+    old None is e rest = ⊎_elim (λ n. inl n)
+        (λ b. inr (both name g.codes.handlers (handlers_in gs)
+        ∙ ap (λ o. option_or o (handler_named name (handlers_in gs))) is ∙ b)) (rest e)
+
+    by : (b : Bool) → nat_eq g.extension extension ≡ b
+        → (same_face (handlers_of extension gs) codes.handlers ≡ true
+        → handler_named name (handlers_in (exchanged extension codes gs)) ≡ Some h
+        → (handler_named name codes.handlers ≡ Some h) ⊎ (handler_named name (handlers_in gs) ≡ Some h))
+        → (handler_named name codes.handlers ≡ Some h) ⊎ (handler_named name (handlers_in (g ∷ gs)) ≡ Some h)
+    by true is rest =
+        let alike = (face-parts g.codes.handlers codes.handlers
+        (ap (λ hs. same_face hs codes.handlers) (sym (own-true extension g gs is)) ∙ same)).1 name in
+        new (handler_named name codes.handlers) refl alike
+        (sym (both name codes.handlers (handlers_in gs))
+        ∙ sym (ap (λ b. handler_named name (handlers_in (cond b (record { extension = g.extension; codes = codes } ∷ gs)
+        (g ∷ exchanged extension codes gs)))) is) ∙ found)
+    by false is rest =
+        old (handler_named name g.codes.handlers) refl
+        (sym (both name g.codes.handlers (handlers_in (exchanged extension codes gs)))
+        ∙ sym (ap (λ b. handler_named name (handlers_in (cond b (record { extension = g.extension; codes = codes } ∷ gs)
+        (g ∷ exchanged extension codes gs)))) is) ∙ found)
+        (rest (ap (λ hs. same_face hs codes.handlers) (sym (own-false extension g gs is)) ∙ same))

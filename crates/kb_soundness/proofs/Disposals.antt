@@ -70,7 +70,7 @@ stays native t live held (Some n) name c other e =
 -- ---- handlers
 
 -- an element that passes one test fails another test that no element passes
-fails : (p q : HandlerData → Bool) (hs : List HandlerData) (h : HandlerData) → find p hs ≡ None →
+pub fails : (p q : HandlerData → Bool) (hs : List HandlerData) (h : HandlerData) → find p hs ≡ None →
     find q hs ≡ Some h → p h ≡ false
 fails p q [] h none found = absurd (cc)
 fails p q (x ∷ hs) h none found = by (p x) refl none (q x) found (fails p q hs h)
@@ -93,16 +93,21 @@ disposal_is None live e = absurd (cc)
 disposal_is (Some native) live e = (native, refl, no_caller (caller_of native live.code) e)
 
 pub disposed_stays_sound : DisposedStaysSound
-disposed_stays_sound t live free sound name h e =
-    let is = coded_by (named name) name (disposed t live) h e in
-    let v = sound name h (coded_live name live h is.0 is.1) in
-    let gone = disposal_is (holder t live) live free in
-    let none = fails (calls_native gone.0) (λ g. bytes_eq name g.command)
-    (handlers_in live.code) h gone.2 is.1 in
-    record {
-      commands = v.commands;
-      accepted = v.accepted;
-      callees = λ p n d c. declared_stays (table_of live) (table_of (disposed t live)) (slice_get h.calls n)
-          (λ called callee its. stays gone.0 t live gone.1 (named called) called callee
-          (not_called gone.0 h p n called none c.calls its)) d (v.callees p n d c);
-    }
+disposed_stays_sound t live free sound = record {
+  checked = sound.checked;
+  apart = sound.apart;
+  free = sound.free;
+  verified = λ name h e.
+      let is = coded_by (named name) name (disposed t live) h e in
+      let v = sound.verified name h (coded_live name live h is.0 is.1) in
+      let gone = disposal_is (holder t live) live free in
+      let none = fails (calls_native gone.0) (λ g. bytes_eq name g.command)
+      (handlers_in live.code) h gone.2 is.1 in
+      record {
+        commands = v.commands;
+        accepted = v.accepted;
+        callees = λ p n d c. declared_stays (table_of live) (table_of (disposed t live)) (slice_get h.calls n)
+            (λ called callee its. stays gone.0 t live gone.1 (named called) called callee
+            (not_called gone.0 h p n called none c.calls its)) d (v.callees p n d c);
+      };
+}

@@ -1,6 +1,6 @@
 -- Verified code without missing callees keeps live handlers verified when it is added.
 use Rattle.std.proofs.Common.{◌≡◌, ◌⊎◌, inl, inr, ⊎_elim, ℕ, zero, suc, Bool, true, false, List, [], ◌∷◌}
-use Rattle.std.proofs.Common.{Option, Some, None, refl, sym, ap, ◌∙◌, subst, if◌then◌else◌, arith}
+use Rattle.std.proofs.Common.{is_some, Option, Some, None, refl, sym, ap, ◌∙◌, subst, if◌then◌else◌, arith}
 use Rattle.std.specs.Prelude.{slice_get, option_map, option_and_then}
 use Rattle.std.specs.List.{All}
 use Rattle.kb_core.specs.Declaration.{Declaration}
@@ -110,15 +110,21 @@ module _ (handlers : List HandlerData) (live : Live) where
       k d (omega (arith, lt))
 
   -- so may all of verified code
-  all_join : (callees : Option (List (List Callee))) → HaveCallees handlers callees →
+  pub all_join : (callees : Option (List (List Callee))) → HaveCallees handlers callees →
       missing_by callees handlers live ≡ None → All (MayJoin live handlers) handlers
   all_join None checked none = absurd checked
   all_join (Some all) checked none = each_joins handlers all checked none
+
+-- the handlers of verified code
+pub checked_whole : (callees : Option (List (List Callee))) (hs : List HandlerData) → HaveCallees hs callees →
+    (if is_some callees then hs else []) ≡ hs
+checked_whole None hs checked = absurd checked
+checked_whole (Some all) hs checked = refl
 
 -- code that isn't refused has free names, and all its handlers may join
 pub code_stays_sound : CodeStaysSound
 code_stays_sound extension codes live fault checked =
     let each = not_refused (has_taken (handlers_in live.code) codes.handlers) (missing_callee codes live)
     fault in
-    joined_stays_sound extension codes live each.0
+    joined_stays_sound extension codes live each.0 (checked_whole codes.callees codes.handlers checked)
     (all_join codes.handlers live codes.callees checked each.1)

@@ -11,3 +11,5 @@ pub mod Disposals
 pub mod Loads
 pub mod Joins
 pub mod SoundRows
+pub mod Removals
+pub mod Exchanges

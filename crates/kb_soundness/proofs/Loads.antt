@@ -12,14 +12,16 @@ use Rattle.kb_core.specs.Declaration.{Declaration}
 use Rattle.kb_core.specs.Native.{named}
 use Rattle.kb_code.specs.Handler.{HandlerData, handler_named}
 use Rattle.kb_code.specs.Commands.{Callee, Coded, declared_by}
-use Rattle.kb_handler_table.specs.Codes.{CodesData}
+use Rattle.kb_handler_table.specs.Codes.{CodesData, checked_in}
 use Rattle.kb_handler_table.specs.Live.{Group, handlers_in, is_reserved, is_taken, has_taken}
 use Rattle.kb_handler_table.specs.Live.{with_group}
 use Rattle.kb_registry.specs.Live.{Live, callee_by, table_of, with_code}
 use Rattle.kb_verify.specs.Callable.{Commands}
 use Rattle.kb_verify.specs.Accepted.{IsAccepted, IsCallee}
 use Rattle.kb_soundness.specs.Sound.{IsVerified, live_declaration_at}
-use Rattle.kb_soundness.specs.Stays.{IsSound, NoCodeStaysSound}
+use Rattle.kb_soundness.specs.Stays.{AllChecked, AreFree, IsSound, NoCodeStaysSound}
+use Rattle.kb_handler_table.specs.declared.fault.CodesFault.TheVariants.{AlreadyExists}
+use Rattle.kb_handler_table.proofs.Apart.{put_stays}
 use Rattle.kb_soundness.proofs.Tests.{or_false}
 use Rattle.kb_soundness.proofs.Found.{found_all}
 use Rattle.kb_soundness.proofs.Stays.{Stays, declared_stays, verified_stays, coded_by, coded_live}
@@ -208,25 +210,64 @@ module _ (extension : ℕ) (codes : CodesData) (live : Live)
       (o : Option HandlerData) → handler_named name codes.handlers ≡ o → IsVerified (table_of then_live) h
   verified_then all sound name h none is None before =
       verified_stays (table_of live) (table_of then_live) stays h
-      (sound name h (coded_live name live h none
+      (sound.verified name h (coded_live name live h none
       (sym (old_found (λ g. bytes_eq name g.command) group live.code before) ∙ is)))
   verified_then all sound name h none is (Some g) before =
       let same : g ≡ h = cc (comes name g before, is) in
       joins h (found_all (MayJoin live codes.handlers) (λ g. bytes_eq name g.command) codes.handlers h
       all (before ∙ ap Some same))
 
--- handlers that may join, with free names, keep each live handler verified
+-- ---- a registry with more code
+
+-- all code is verified
+checked_more : (new : Group) (gs : List Group) → checked_in new.codes ≡ new.codes.handlers → AllChecked gs →
+    AllChecked (with_group new gs)
+checked_more new [] own checked = (own, tt)
+checked_more new (g ∷ gs) own checked = by (nat_lt new.extension g.extension) (checked_more new gs own checked.1)
+  where
+    by : (b : Bool) → AllChecked (with_group new gs) →
+        AllChecked (if b then new ∷ g ∷ gs else g ∷ with_group new gs)
+    by true rest = (own, checked)
+    by false rest = (checked.0, rest)
+
+-- no native's name finds a handler
+free_more : (extension : ℕ) (codes : CodesData) (live : Live) → has_taken (handlers_in live.code) codes.handlers ≡ false →
+    AreFree live.code → AreFree (with_code extension codes live).code
+free_more extension codes live untaken all name native is =
+    by (handler_named name codes.handlers) refl
+  where
+    group : Group
+    group = record { extension = extension; codes = codes }
+
+    by : (o : Option HandlerData) → handler_named name codes.handlers ≡ o →
+        handler_named name (handlers_in (with_group (record { extension = extension; codes = codes }) live.code)) ≡ None
+    by None none = old_found (λ g. bytes_eq name g.command) group live.code none ∙ all name native is
+    by (Some h) found =
+        let plain = unreserved (handlers_in live.code) codes.handlers untaken name h found in absurd (cc)
+
+-- handlers that may join, with free names, keep a registry sound
 pub joined_stays_sound : (extension : ℕ) (codes : CodesData) (live : Live) →
-    has_taken (handlers_in live.code) codes.handlers ≡ false →
+    has_taken (handlers_in live.code) codes.handlers ≡ false → checked_in codes ≡ codes.handlers →
     All (MayJoin live codes.handlers) codes.handlers → IsSound live →
     IsSound (with_code extension codes live)
-joined_stays_sound extension codes live untaken all sound name h e =
-    let is = coded_by (named name) name (with_code extension codes live) h e in
-    verified_then extension codes live untaken all sound name h is.0 is.1
-    (handler_named name codes.handlers) refl
+joined_stays_sound extension codes live untaken own all sound = record {
+  checked = checked_more (record { extension = extension; codes = codes }) live.code own sound.checked;
+  apart = put_stays (record { extension = extension; codes = codes }) live.code (with_code extension codes live).code
+      (ap (λ b. if b then Some AlreadyExists else None) untaken) sound.apart refl;
+  free = free_more extension codes live untaken sound.free;
+  verified = λ name h e.
+      let is = coded_by (named name) name (with_code extension codes live) h e in
+      verified_then extension codes live untaken all sound name h is.0 is.1
+      (handler_named name codes.handlers) refl;
+}
+
+none_checked : (b : Bool) (hs : List HandlerData) → hs ≡ [] → (if b then hs else []) ≡ hs
+none_checked true hs none = refl
+none_checked false hs none = sym none
 
 -- code without a handler may join
 pub no_code_stays_sound : NoCodeStaysSound
 no_code_stays_sound extension codes live none =
     joined_stays_sound extension codes live (ap (has_taken (handlers_in live.code)) none)
+    (none_checked (is_some codes.callees) codes.handlers none)
     (subst (λ hs. All (MayJoin live hs) hs) (sym none) (λ k d lt. absurd (omega (arith, lt))))

@@ -1,6 +1,6 @@
 -- Live commands stay live, so verified handlers stay verified; registrations keep commands live.
 use Rattle.std.proofs.Common.{◌≡◌, ℕ, ◌+◌, Bool, true, false, List, [], ◌∷◌, ◌++◌, Option, Some, None, refl}
-use Rattle.std.proofs.Common.{ap, ◌∙◌, if◌then◌else◌}
+use Rattle.std.proofs.Common.{ap, sym, subst, ◌∙◌, if◌then◌else◌}
 use Rattle.std.specs.Prelude.{slice_get, option_map, option_and_then}
 use Rattle.std.specs.List.{list_any}
 use Rattle.kb_core.specs.declared.native.Native.{Native}
@@ -12,7 +12,8 @@ use Rattle.kb_handler_table.specs.Live.{handlers_in, same_native}
 use Rattle.kb_registry.specs.Live.{Live, Registered, natives_of, is_live, callee_by, table_of, fresh}
 use Rattle.kb_registry.specs.Live.{registered}
 use Rattle.kb_soundness.specs.Sound.{IsVerified}
-use Rattle.kb_soundness.specs.Stays.{FreshIsSound, RegisteredStaysSound}
+use Rattle.kb_handler_table.specs.Apart.{AreApart}
+use Rattle.kb_soundness.specs.Stays.{AllChecked, AreFree, IsSound, FreshIsSound, RegisteredStaysSound}
 use Rattle.kb_soundness.proofs.Tests.{or_stays}
 
 -- ---- from one table to another
@@ -93,12 +94,29 @@ registered_stays native live (Some n) name c e =
     plain_stays n (is_live n live) (is_live n (registered native live)) c
     (live_more n live.commands (record { native = native; ticket = live.made + 1 })) e
 
+-- a change of closures alone that keeps live commands live keeps a registry sound
+pub same_code_sound : (old new : Live) → new.code ≡ old.code → Stays (table_of old) (table_of new) →
+    IsSound old → IsSound new
+same_code_sound old new same stays sound = record {
+  checked = subst AllChecked (sym same) sound.checked;
+  apart = subst (λ gs. AreApart (handlers_in gs)) (sym same) sound.apart;
+  free = subst AreFree (sym same) sound.free;
+  verified = λ name h e.
+      let is = coded_by (named name) name new h e in
+      verified_stays (table_of old) (table_of new) stays h
+      (sound.verified name h (coded_live name old h is.0
+      (ap (λ gs. handler_named name (handlers_in gs)) (sym same) ∙ is.1)));
+}
+
 pub registered_stays_sound : RegisteredStaysSound
-registered_stays_sound native live sound name h e =
-    let is = coded_by (named name) name (registered native live) h e in
-    verified_stays (table_of live) (table_of (registered native live))
-    (λ name c e. registered_stays native live (named name) name c e) h
-    (sound name h (coded_live name live h is.0 is.1))
+registered_stays_sound native live sound =
+    same_code_sound live (registered native live) refl
+    (λ name c e. registered_stays native live (named name) name c e) sound
 
 pub fresh_is_sound : FreshIsSound
-fresh_is_sound limit name h e = let is = coded_by (named name) name (fresh limit) h e in absurd (cc is.1)
+fresh_is_sound limit = record {
+  checked = tt;
+  apart = tt;
+  free = λ name native e. refl;
+  verified = λ name h e. let is = coded_by (named name) name (fresh limit) h e in absurd (cc is.1);
+}

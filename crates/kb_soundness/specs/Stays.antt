@@ -1,14 +1,32 @@
 -- Changes of the live commands keep each live handler verified.
-use Rattle.std.specs.Prelude.{◌≡◌, ℕ, [], None}
+use Rattle.std.specs.Prelude.{◌≡◌, ℕ, List, [], ◌∷◌, Some, None}
 use Rattle.kb_core.specs.declared.native.Native.{Native}
-use Rattle.kb_handler_table.specs.Codes.{CodesData, AreChecked}
+use Rattle.kb_core.specs.Native.{named}
+use Rattle.kb_code.specs.Handler.{handler_named}
+use Rattle.kb_handler_table.specs.Apart.{AreApart}
+use Rattle.kb_handler_table.specs.Codes.{CodesData, AreChecked, checked_in}
+use Rattle.kb_handler_table.specs.Live.{Group, handlers_in}
 use Rattle.kb_registry.specs.Live.{Live, table_of, fresh, registered, disposed, disposal_fault, with_code}
-use Rattle.kb_registry.specs.CodeFault.{code_fault}
+use Rattle.kb_registry.specs.Live.{with_exchanged, without_code}
+use Rattle.kb_registry.specs.CodeFault.{code_fault, code_disposal_fault, exchange_fault}
 use Rattle.kb_soundness.specs.Sound.{AllVerified}
 
--- each live handler of a registry is verified
-abbrev pub IsSound : Live → Type 0
-IsSound live = AllVerified (table_of live)
+-- all handlers of the groups are of verified code
+abbrev pub AllChecked : List Group → Type 0
+AllChecked [] = Unit {0}
+AllChecked (g ∷ gs) = (checked_in g.codes ≡ g.codes.handlers) × AllChecked gs
+
+-- no native's name finds a live handler
+abbrev pub AreFree : List Group → Type 0
+AreFree groups = (name : List ℕ) (native : Native) → named name ≡ Some native →
+    handler_named name (handlers_in groups) ≡ None
+
+-- each live handler is verified, and is the only live command of its name
+pub record IsSound (live : Live) : Type 0 where
+  pub checked : AllChecked live.code
+  pub apart : AreApart (handlers_in live.code)
+  pub free : AreFree live.code
+  pub verified : AllVerified (table_of live)
 
 -- an empty registry has no live handlers
 abbrev pub FreshIsSound : Type 0
@@ -32,3 +50,14 @@ CodeStaysSound = (extension : ℕ) (codes : CodesData) (live : Live) →
 abbrev pub NoCodeStaysSound : Type 0
 NoCodeStaysSound = (extension : ℕ) (codes : CodesData) (live : Live) → codes.handlers ≡ [] → IsSound live →
     IsSound (with_code extension codes live)
+
+-- so does the removal of code that isn't refused: no other live handler calls one of its handlers
+abbrev pub CodeDisposedStaysSound : Type 0
+CodeDisposedStaysSound = (extension : ℕ) (live : Live) → code_disposal_fault extension live ≡ None →
+    IsSound live → IsSound (without_code extension live)
+
+-- so does an exchange of verified code that isn't refused
+abbrev pub CodeExchangedStaysSound : Type 0
+CodeExchangedStaysSound = (extension : ℕ) (codes : CodesData) (live : Live) →
+    exchange_fault extension codes live ≡ None → AreChecked codes → IsSound live →
+    IsSound (with_exchanged extension codes live)

@@ -3,6 +3,7 @@ ghost use Rattle.kb_soundness.specs.Sound.{NeverStuck, StartsNeverStuck};
 ghost use Rattle.kb_soundness.specs.Callees.{VerifiedByCallees};
 ghost use Rattle.kb_soundness.specs.Stays.{FreshIsSound, RegisteredStaysSound, DisposedStaysSound};
 ghost use Rattle.kb_soundness.specs.Stays.{CodeStaysSound, NoCodeStaysSound};
+ghost use Rattle.kb_soundness.specs.Stays.{CodeDisposedStaysSound, CodeExchangedStaysSound};
 
 /// The run of a verified handler with fitting arguments ends without a trap, in each state of the core.
 pub fn never_stuck()
@@ -47,4 +48,16 @@ pub fn code_stays_sound()
 /// or not.
 pub fn no_code_stays_sound()
     ensures { NoCodeStaysSound }
+{}
+
+/// If each live handler is verified, this still holds after the code of an extension is removed, unless
+/// the registry refuses it.
+pub fn code_disposed_stays_sound()
+    ensures { CodeDisposedStaysSound }
+{}
+
+/// If each live handler is verified, this still holds after the code of an extension is exchanged for
+/// verified code, unless the registry refuses it.
+pub fn code_exchanged_stays_sound()
+    ensures { CodeExchangedStaysSound }
 {}
