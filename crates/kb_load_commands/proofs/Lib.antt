@@ -6,3 +6,4 @@ pub mod NativesLemmas
 pub mod RawLemmas
 pub mod VerifiedLemmas
 pub mod CheckedLemmas
+pub mod Numbers

@@ -1,7 +1,8 @@
 //! The live commands of a new session whose handlers are verified.
-ghost use Rattle.std.specs.Prelude.{◌≡◌, ◌≤◌, ℕ, length, map};
+ghost use Rattle.std.specs.Prelude.{◌≡◌, ◌≤◌, ℕ, [], None, length, map};
 ghost use Rattle.kb_files.specs.Fault.{failure_of};
 ghost use Rattle.kb_files.specs.declared.fault.LoadFile.TheVariants as LoadFile;
+ghost use Rattle.kb_handler_table.specs.Live.{group_of};
 ghost use Rattle.kb_load_commands.specs.Checked.{IsAdmitted, IsCode, JoinAll, Joins, LiveChecked};
 
 use crate::callable::callable_of;
@@ -43,7 +44,8 @@ fn join_all<C: HostCommand>(
     extensions: &[Extension],
     handlers: Seq<Seq<Handler>>,
 ) -> Result<Registry<C>, Failure<LoadFault>>
-    requires { length handlers ≤ 100 }
+    requires few { length handlers ≤ 100 }
+    requires alone { registry.code ≡ [] }
     ensures { JoinAll extensions.now 0 handlers registry result }
 {
     let mut registry = registry;
@@ -67,6 +69,7 @@ fn join<C: HostCommand>(
     number: u32,
     handlers: Seq<Handler>,
 ) -> Result<Registry<C>, Failure<LoadFault>>
+    requires { group_of number registry.code ≡ None }
     ensures { Joins extensions.now number handlers registry result }
 {
     match checked_codes(alloc, &registry, extensions, number, handlers) {
@@ -92,7 +95,7 @@ fn checked_codes<C: HostCommand>(
 {
     let callable = callable_of(alloc, registry, extensions, number, handlers.as_slice())?;
     match verify_all(alloc, handlers, &callable) {
-        Ok(verified) => Ok(Codes::checked(alloc, verified)?),
+        Ok(verified) => Ok(Codes::checked(verified)),
         Err(failure) => Err(failure_at(number, failure)),
     }
 }
@@ -103,6 +106,7 @@ fn admit<C: HostCommand>(
     number: u32,
     codes: Codes,
 ) -> Result<Registry<C>, Failure<LoadFault>>
+    requires { group_of number registry.code ≡ None }
     ensures { IsAdmitted number codes registry result }
 {
     let mut registry = registry;

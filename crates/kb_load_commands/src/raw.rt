@@ -1,5 +1,5 @@
 //! The live commands of a new session whose handlers are not verified.
-ghost use Rattle.std.specs.Prelude.{◌≡◌, ◌≤◌, ℕ, length, map};
+ghost use Rattle.std.specs.Prelude.{◌≡◌, ◌≤◌, ℕ, [], length, map};
 ghost use Rattle.kb_base.specs.Failure.{Gives};
 ghost use Rattle.kb_load_commands.specs.Raw.{codes_held, raw_held};
 
@@ -30,12 +30,13 @@ pub fn raw_commands<C: HostCommand>(
 
 /// Adds the handlers of extensions to a registry, in load order. If some are refused, all commands are
 /// dropped.
-#[tactic(auto, using(crate::proofs::RawLemmas::registering))]
+#[tactic(auto, using(crate::proofs::RawLemmas::registering, crate::proofs::Numbers::numbering))]
 fn register_codes<C: HostCommand>(
     registry: Registry<C>,
     handlers: Seq<Seq<Handler>>,
 ) -> Result<Registry<C>, Failure<LoadFault>>
-    requires { length handlers ≤ 100 }
+    requires few { length handlers ≤ 100 }
+    requires alone { registry.code ≡ [] }
     ensures { Gives (λ live. live) result (codes_held 0 handlers registry) }
 {
     let mut registry = registry;

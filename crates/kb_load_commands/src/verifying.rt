@@ -4,7 +4,7 @@ ghost use Rattle.kb_load_commands.specs.Verified.{IsFailureOf, Verifies, refused
 
 use kb_base::{Failure, NoMemory, Refusal, Seq, Text};
 use kb_code::Handler;
-use kb_verify::{Callable, Verified, VerifyFault, verify};
+use kb_verify::{Callable, VerifiedList, VerifyFault, verify};
 use std::alloc::Global;
 
 /// The handlers of a file, verified in order, or the refusal of the first that isn't accepted. On an
@@ -14,13 +14,13 @@ pub(crate) fn verify_all(
     alloc: Global,
     handlers: Seq<Handler>,
     callable: &Callable,
-) -> Result<Seq<Verified>, Failure<Refusal>>
+) -> Result<VerifiedList, Failure<Refusal>>
     ensures { Verifies callable.now handlers result }
 {
-    let mut verified = Seq::new(alloc);
+    let mut verified = VerifiedList::new(alloc);
     for handler in handlers.into_vec() {
         match verify(alloc, handler, callable) {
-            Ok(one) => verified.push(one)?,
+            Ok(one) => verified = verified.with(one)?,
             Err((handler, failure)) => return Err(failure_of(alloc, &handler, failure)),
         }
     }

@@ -5,6 +5,7 @@ use Rattle.kb_files.specs.declared.fault.LoadFault.{LoadFault}
 use Rattle.kb_base.specs.declared.failure.Failure.{Failure}
 use Rattle.kb_registry.specs.Live.{Live}
 use Rattle.kb_load_commands.specs.Checked.{JoinAll}
+use Rattle.kb_load_commands.proofs.Numbers.{AreBelow}
 use Rattle.kb_load_commands.proofs.checked.join_all.Given as goal
 
 -- the result for the remaining extensions is the result for all
@@ -14,3 +15,4 @@ invariant-loop-group g l =
     → JoinAll l.extensions l.number (into_iter_items l.group-iterator) l.registry result
     → JoinAll l.extensions 0 l.fn.handlers l.fn.registry result)
     × (l.number + length (into_iter_items l.group-iterator) ≤ 100)
+    × AreBelow l.number l.registry.code

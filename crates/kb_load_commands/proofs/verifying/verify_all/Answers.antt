@@ -18,8 +18,8 @@ loop-handler-preserved c =
     let callees : AreCallees commands v.handler v.callees =
     subst (λ h. AreCallees commands h v.callees) (sym c.in-Ok.ensures.handler) c.in-Ok.ensures.callees in
     let own : IsVerified commands v = record { accepted = accepted; callees = callees } in
-    let pushed = c.in_ok-push-in-Ok.ensures.ok in (
-      handlers_more commands vs c.push.new.self v left rest c.args.handlers c.loop-handler.invariant.0 is pushed,
-      verified_more commands vs c.push.new.self v c.loop-handler.invariant.1 own pushed,
+    let pushed = c.in_ok-verified-in-Ok.ensures in (
+      handlers_more commands vs c.in_ok-verified-in-Ok.verified v left rest c.args.handlers c.loop-handler.invariant.0 is pushed,
+      verified_more commands vs c.in_ok-verified-in-Ok.verified v c.loop-handler.invariant.1 own pushed,
       hands_on commands v.handler left rest c.args.handlers c.loop-handler.invariant.2 is accepted,
     )
