@@ -12,8 +12,7 @@ use kb_core::Signature;
 pub fn same_face(old: &[Handler], new: &[Handler]) -> bool
     ensures { result ≡ same_face old.now new.now }
 {
-    (are_distinct(old) && are_distinct(new))
-        && (each_declared(old, new) && each_declared(new, old))
+    (are_distinct(old) && are_distinct(new)) && (each_declared(old, new) && each_declared(new, old))
 }
 
 /// Whether no two handlers have the same name.

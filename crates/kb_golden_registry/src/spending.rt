@@ -45,7 +45,7 @@ fn spent_in<C: HostCommand>(
     if registry.register(command).is_err() {
         return String::from_str(alloc, "no closure");
     }
-    if registry.register_code(0, Codes::raw(handlers)).is_err() {
+    if registry.codes(0).is_some() || registry.register_code(0, Codes::raw(handlers)).is_err() {
         return String::from_str(alloc, "no handlers");
     }
     let mut core = window(alloc)?;

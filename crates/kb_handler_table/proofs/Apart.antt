@@ -223,9 +223,10 @@ untrue true e = absurd (true≢false (sym e))
 distinct-apart : (hs : List HandlerData) → are_distinct hs ≡ true → AreApart hs
 distinct-apart [] e = tt
 distinct-apart (h ∷ hs) e =
-    let split = truths (not (is_some (handler_named h.command hs))) (are_distinct hs) e in
-    (nothing (handler_named h.command hs) (untrue (is_some (handler_named h.command hs)) split.0),
-    distinct-apart hs split.1)
+    let split = truths (not (is_some (handler_named h.command hs))) (are_distinct hs) e in (
+      nothing (handler_named h.command hs) (untrue (is_some (handler_named h.command hs)) split.0),
+      distinct-apart hs split.1,
+    )
 
 -- the parts of the same face
 pub face-parts : (old new : List HandlerData) → same_face old new ≡ true

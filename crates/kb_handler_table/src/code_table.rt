@@ -257,7 +257,11 @@ impl CodeTable {
     }
 
     /// The same for a group that takes the place of the extension's group, so its names are free.
-    fn resolved_alone(&self, extension: u32, handlers: &[Handler]) -> Result<(Seq<Links>, Names), NoMemory>
+    fn resolved_alone(
+        &self,
+        extension: u32,
+        handlers: &[Handler],
+    ) -> Result<(Seq<Links>, Names), NoMemory>
         ensures { IfOk result (λ r. IsGroup r.1 r.0 handlers.now) }
     {
         let names = names_among(self.alloc, handlers)?;

@@ -33,6 +33,7 @@ use Rattle.kb_verify.specs.declared.fault.VerifyFault.TheVariants.{Wrong, OverBu
 use Rattle.kb_load_commands.specs.Callable.{callable_of}
 use Rattle.kb_load_commands.specs.Checked.{Admits, Bars, JoinAll, Joins, Refuses}
 use Rattle.kb_load_commands.specs.Lacking.{NeverLacksCallees}
+use Rattle.kb_load_commands.proofs.NativesLemmas.{held_alone}
 use Rattle.kb_load_commands.specs.Natives.{natives_held}
 use Rattle.kb_load_commands.specs.Verified.{FirstIsRefused, IsVerified}
 use Rattle.kb_load_commands.proofs.BackedLemmas.{lacks_nothing}
@@ -65,17 +66,6 @@ natives_number (native ∷ ns) live fault e number =
         let its : other ≡ fault = cc in native_number native live fault (is ∙ ap Some its) number
 
 -- and none adds a handler
-natives_alone : (ns : List Native) (old live : Live) → all_registered ns old ≡ Ok live → live.code ≡ old.code
-natives_alone [] old live e = let its : old ≡ live = cc in ap (λ (l : Live). l.code) (sym its)
-natives_alone (native ∷ ns) old live e =
-    by (registration_fault native old) (λ e. natives_alone ns (registered native old) live e) e
-  where
-    by : (o : Option RegistryFault)
-        → (all_registered ns (registered native old) ≡ Ok live → live.code ≡ old.code)
-        → unless_fault o (all_registered ns (registered native old)) ≡ Ok live → live.code ≡ old.code
-    by None later e = later e
-    by (Some fault) later e = absurd (cc)
-
 held_number : (r : Result Live RegistryFault) (fault : LoadFault)
     → ((f : RegistryFault) → r ≡ Err f → registry.number_of f ≡ 74 → ⊥)
     → refused_by file.Natives (numbered registry.number_of r) ≡ Err fault → fault.refusal.number ≡ 74 → ⊥
@@ -87,14 +77,9 @@ held_number (Err f) fault never e number =
     number_in (Ok live) = 0
     number_in (Err fault) = fault.refusal.number
 
-held_live : (r : Result Live RegistryFault) (live : Live)
-    → refused_by file.Natives (numbered registry.number_of r) ≡ Ok live → r ≡ Ok live
-held_live (Ok other) live e = let its : other ≡ live = cc in ap Ok its
-held_live (Err f) live e = absurd (cc)
-
 first_found : (ns : List Native) (live : Live) → natives_held ns ≡ Ok live → AreFound live
 first_found ns live held =
-    let none = natives_alone ns (fresh 1000000) live (held_live (all_registered ns (fresh 1000000)) live held) in
+    let none = held_alone ns live held in
     subst (λ gs. All (λ h. callee h.command live ≡ Some (Coded h)) (handlers_in gs)) (sym none)
     (All-nil (λ h. callee h.command live ≡ Some (Coded h)))
 

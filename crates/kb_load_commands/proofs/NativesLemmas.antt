@@ -1,7 +1,8 @@
 -- Closures are registered in order.
-use Rattle.std.proofs.Common.{◌≡◌, List, ◌∷◌, Some, None, ap, ◌∙◌, sym}
+use Rattle.std.proofs.Common.{◌≡◌, List, [], ◌∷◌, Option, Some, None, ap, ◌∙◌, sym}
 use Rattle.std.specs.Prelude.{Result, Ok, Err}
 use Rattle.kb_files.specs.Fault.{refused_by}
+use Rattle.kb_files.specs.declared.fault.LoadFault.{LoadFault}
 use Rattle.kb_files.specs.declared.fault.LoadFile.TheVariants as file
 use Rattle.kb_base.specs.Failure.{Fails, IsRefusalOrMemory}
 use Rattle.kb_base.specs.Refusal.{numbered}
@@ -44,3 +45,26 @@ all_held natives live is =
     ap (λ (r : Result Live RegistryFault). refused_by file.Natives (numbered registry.number_of r)) (sym is)
 
 pub ruleset registering = (one_registered, refused_fails, all_held)
+
+-- ---- no handlers yet
+
+natives_alone : (ns : List Native) (old live : Live) → all_registered ns old ≡ Ok live → live.code ≡ old.code
+natives_alone [] old live e = let its : old ≡ live = cc in ap (λ (l : Live). l.code) (sym its)
+natives_alone (native ∷ ns) old live e =
+    by (registration_fault native old) (λ e. natives_alone ns (registered native old) live e) e
+  where
+    by : (o : Option RegistryFault)
+        → (all_registered ns (registered native old) ≡ Ok live → live.code ≡ old.code)
+        → unless_fault o (all_registered ns (registered native old)) ≡ Ok live → live.code ≡ old.code
+    by None later e = later e
+    by (Some fault) later e = absurd (cc)
+
+held_live : (r : Result Live RegistryFault) (live : Live)
+    → refused_by file.Natives (numbered registry.number_of r) ≡ Ok live → r ≡ Ok live
+held_live (Ok other) live e = let its : other ≡ live = cc in ap Ok its
+held_live (Err f) live e = absurd (cc)
+
+-- after the registration of closures there is no code
+pub held_alone : (ns : List Native) (live : Live) → natives_held ns ≡ Ok live → live.code ≡ []
+held_alone ns live held =
+    natives_alone ns (fresh 1000000) live (held_live (all_registered ns (fresh 1000000)) live held)

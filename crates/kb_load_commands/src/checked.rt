@@ -23,6 +23,7 @@ use std::alloc::Global;
 /// Errors: two closures for one native command (70); then, in load order, the first handler of an
 /// extension that isn't accepted (60 to 69, with its command and place), or an extension with a handler
 /// whose name is taken (70); or refused memory. On an error all closures and handlers are dropped.
+#[tactic(auto, using(crate::proofs::NativesLemmas::held_alone))]
 pub fn checked_commands<C: HostCommand>(
     alloc: Global,
     natives: Vec<C>,

@@ -16,6 +16,7 @@ use std::alloc::Global;
 ///
 /// Errors: two closures for one native command (70); then, in load order, an extension with a handler
 /// whose name is taken (70); or refused memory. On an error all closures and handlers are dropped.
+#[tactic(auto, using(crate::proofs::NativesLemmas::held_alone))]
 pub fn raw_commands<C: HostCommand>(
     alloc: Global,
     natives: Vec<C>,

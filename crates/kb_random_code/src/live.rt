@@ -1,10 +1,10 @@
 //! The registry in which accepted handlers are started.
 use crate::finding::Finding;
-use kb_base::{Failure, NoMemory, Seq};
+use kb_base::{Failure, NoMemory};
 use kb_core::{Args, Core, NATIVES, Native, Ran, at_budget};
 use kb_handler_table::Codes;
 use kb_registry::{HostCommand, Registry, RegistryFault};
-use kb_verify::Verified;
+use kb_verify::{Verified, VerifiedList};
 use std::alloc::{AllocError, Global};
 
 /// A closure that costs its native's whole budget, so that a start spends as much as it can.
@@ -36,17 +36,23 @@ pub(crate) fn natives(alloc: Global) -> Result<Registry<FullBudget>, NoMemory> {
     Ok(registry)
 }
 
-/// Removes the handlers of a file, each of which is registered as an extension of its own.
+/// Removes the handlers of a file, each of which is registered as an extension of its own. A handler may call
+/// those before it, so the last goes first.
 pub(crate) fn clear(registry: &mut Registry<FullBudget>, handlers: u32) {
-    for extension in 0..handlers {
+    for extension in (0..handlers).rev() {
+        remove(registry, extension);
+    }
+}
+
+/// Removes the handlers of an extension, if it has some that no other handler calls.
+fn remove(registry: &mut Registry<FullBudget>, extension: u32) {
+    if registry.codes(extension).is_some() {
         drop(registry.dispose_code(extension));
     }
 }
 
 fn codes_of(alloc: Global, verified: Verified) -> Result<Codes, NoMemory> {
-    let mut list = Seq::new(alloc);
-    list.push(verified)?;
-    Codes::checked(alloc, list)
+    Ok(Codes::checked(VerifiedList::new(alloc).with(verified)?))
 }
 
 fn not_live(failure: &Failure<RegistryFault>) -> Failure<Finding> {
@@ -65,7 +71,11 @@ pub(crate) fn replace(
     extension: u32,
     verified: Verified,
 ) -> Result<(), Failure<Finding>> {
-    drop(registry.dispose_code(extension));
+    remove(registry, extension);
+    if registry.codes(extension).is_some() {
+        let number = RegistryFault::InUse.number();
+        return Err(Failure::Fault(Finding::NotLive { number }));
+    }
     match registry.register_code(extension, codes_of(alloc, verified)?) {
         Ok(()) => Ok(()),
         Err((_codes, failure)) => Err(not_live(&failure)),
