@@ -1,12 +1,11 @@
 -- Handlers with the same face declare the same.
 use Rattle.std.proofs.Common.{◌≡◌, ◌∙◌, ℕ, Bool, true, false, ◌&&◌, cond, List, [], ◌∷◌, Option, Some, None}
-use Rattle.std.proofs.Common.{refl, sym, ap, find, bytes_eq, option_map, true≢false}
+use Rattle.std.proofs.Common.{refl, sym, ap, bytes_eq, option_map, true≢false}
 use Rattle.std.proofs.lemmas.Slice.Eq.{bytes_eq-Decides}
 use Rattle.kb_core.specs.Declaration.{Declaration}
 use Rattle.kb_code.specs.Handler.{HandlerData, handler_named}
-use Rattle.kb_code.specs.Face.{declared_among, declares, are_distinct, each_declared, same_face}
+use Rattle.kb_code.specs.Face.{declared_among, declares, are_distinct, each_declared}
 use Rattle.kb_code.specs.Face.{SameFaceDeclaresTheSame}
-use Rattle.kb_code.specs.Same.{same_declaration}
 use Rattle.kb_code.proofs.SameLemmas.{same_is_equal}
 
 both : (a b : Bool) → a && b ≡ true → (a ≡ true) × (b ≡ true)

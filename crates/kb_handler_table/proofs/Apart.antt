@@ -1,5 +1,5 @@
 -- Names of live handlers are distinct: lemmas on groups that are added and removed.
-use Rattle.std.proofs.Common.{◌≡◌, ◌∙◌, ℕ, zero, suc, ◌<◌, Bool, true, false, ◌||◌, cond, List, [], ◌∷◌}
+use Rattle.std.proofs.Common.{◌≡◌, ◌∙◌, ℕ, zero, suc, Bool, true, false, ◌||◌, cond, List, [], ◌∷◌}
 use Rattle.std.proofs.Common.{◌++◌, ◌&&◌, ◌⊎◌, inl, inr, ⊎_elim, find, not, option_map}
 use Rattle.std.proofs.Common.{Option, Some, None, refl, sym, ap, is_some, bytes_eq, slice_get}
 use Rattle.std.proofs.Common.{true≢false, nat_lt, nat_eq, IfSome, subst}

@@ -1,6 +1,6 @@
 -- Lemmas on handlers and their links, place by place.
 use Rattle.std.proofs.Common.{◌≡◌, ◌∙◌, ℕ, zero, suc, ◌+◌, ◌<◌, Bool, true, false, cond, List, [], ◌∷◌}
-use Rattle.std.proofs.Common.{◌++◌, Some, None, refl}
+use Rattle.std.proofs.Common.{◌++◌, Some, refl}
 use Rattle.std.proofs.Common.{sym, ap, drop, find, length, map, get_or, arith, take, subst}
 use Rattle.std.proofs.Math.Seq.{take-suc}
 use Rattle.std.specs.List.{AllZip, list_any}

@@ -1,16 +1,15 @@
 -- An exchange of an extension's code keeps live handlers verified.
-use Rattle.std.proofs.Common.{◌≡◌, ◌∙◌, ◌⊎◌, ⊎_elim, ℕ, Bool, true, false, cond, List, [], ◌∷◌, Option, Some}
+use Rattle.std.proofs.Common.{◌≡◌, ◌∙◌, ⊎_elim, ℕ, Bool, true, false, cond, List, [], ◌∷◌, Option, Some}
 use Rattle.std.proofs.Common.{None, refl, sym, ap, nat_eq, bytes_eq, if◌then◌else◌}
 use Rattle.std.specs.Prelude.{slice_get, option_map, option_and_then}
-use Rattle.std.specs.List.{All}
 use Rattle.kb_core.specs.declared.native.Native.{Native}
 use Rattle.kb_core.specs.Declaration.{Declaration}
 use Rattle.kb_core.specs.Native.{named}
-use Rattle.kb_code.specs.Commands.{Callee, Coded, declared_by}
+use Rattle.kb_code.specs.Commands.{Coded, declared_by}
 use Rattle.kb_code.specs.Face.{declared_among, same_face}
 use Rattle.kb_code.specs.Handler.{HandlerData, handler_named}
 use Rattle.kb_code.proofs.FaceLemmas.{same_face_declares_the_same}
-use Rattle.kb_handler_table.specs.Codes.{CodesData, AreChecked, checked_in}
+use Rattle.kb_handler_table.specs.Codes.{CodesData, checked_in}
 use Rattle.kb_handler_table.specs.Live.{Group, exchanged, handlers_in, handlers_of}
 use Rattle.kb_handler_table.proofs.Apart.{exchange_declares, exchange_stays, found_exchanged, found_whole}
 use Rattle.kb_handler_table.proofs.Apart.{none-declared, undeclared}

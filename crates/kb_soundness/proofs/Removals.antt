@@ -1,6 +1,6 @@
 -- The removal of an extension's code keeps each callee of another live handler live.
 use Rattle.std.proofs.Common.{◌≡◌, ◌∙◌, ℕ, Bool, true, false, cond, List, [], ◌∷◌, ◌++◌, length, Option, Some}
-use Rattle.std.proofs.Common.{None, refl, sym, ap, find, is_some, bytes_eq, nat_eq}
+use Rattle.std.proofs.Common.{None, refl, sym, ap, is_some, bytes_eq, nat_eq}
 use Rattle.std.specs.Prelude.{slice_get, option_map}
 use Rattle.std.proofs.lemmas.Bool.{false≢true}
 use Rattle.kb_core.specs.declared.native.Native.{Native}
@@ -10,11 +10,9 @@ use Rattle.kb_code.specs.Commands.{Callee, Coded}
 use Rattle.kb_code.specs.Handler.{HandlerData, handler_named}
 use Rattle.kb_code.specs.Reachable.{Calls}
 use Rattle.kb_code.proofs.ReachableLemmas.{all_called}
-use Rattle.kb_handler_table.specs.Codes.{checked_in}
 use Rattle.kb_handler_table.specs.Live.{Group, calls_one, checked_handlers, handlers_in, handlers_of, names_one}
 use Rattle.kb_handler_table.specs.Live.{user_of, without_group}
 use Rattle.kb_handler_table.proofs.Apart.{found_after, found_before, without_stays}
-use Rattle.kb_registry.specs.declared.fault.RegistryFault.{RegistryFault}
 use Rattle.kb_registry.specs.declared.fault.RegistryFault.TheVariants.{InUse}
 use Rattle.kb_registry.specs.Live.{Live, callee_by, table_of, without_code}
 use Rattle.kb_soundness.specs.Stays.{AllChecked, AreFree, CodeDisposedStaysSound}

@@ -1,4 +1,4 @@
-use Rattle.std.proofs.Common.{◌≡◌, ◌∙◌, ◌<◌, List, Some, refl, sym, ap, subst, length, option_map, slice_get}
+use Rattle.std.proofs.Common.{◌∙◌, ◌<◌, List, Some, refl, sym, ap, subst, length, option_map, slice_get}
 use Rattle.std.proofs.Common.{set}
 use Rattle.std.proofs.lemmas.Option.{slice_get_read}
 use Rattle.std.specs.Vec.{with_item}
