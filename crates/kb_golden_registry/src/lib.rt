@@ -2,6 +2,7 @@
 #![tactic(auto)]
 
 mod boxed;
+mod codes;
 mod registries;
 mod spending;
 

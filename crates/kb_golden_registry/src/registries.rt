@@ -1,4 +1,5 @@
 //! Calls of a registry in order, and what each returns.
+use crate::codes;
 use kb_base::{Failure, NoMemory};
 use kb_core::{Args, Core, Native, Ran, plain};
 use kb_golden_code::signature_text;
@@ -124,6 +125,9 @@ fn call(alloc: Global, registry: &mut Registry<Command>, text: &str) -> Result<S
             format!(in alloc; "{is_live}")
         }
         "signature" => signature(alloc, registry, rest),
+        "code" | "raw" | "replace" | "replace-raw" | "remove" => {
+            codes::call(alloc, registry, word, rest)
+        }
         _ => match Native::named(rest) {
             Some(native) => call_for(alloc, registry, word, native),
             None => String::from_str(alloc, "no native"),
