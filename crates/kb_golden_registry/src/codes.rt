@@ -7,14 +7,14 @@ use kb_golden_code::handlers_in;
 use kb_golden_text::fault_text;
 use kb_handler_table::Codes;
 use kb_registry::{Registry, RegistryFault};
-use kb_verify::{Callable, Provider, VerifiedList, callable_of, verify};
+use kb_verify::{Callable, Provider, VerifiedList, VerifyFault, callable_of, verify};
 use std::alloc::{AllocError, Global};
 
 // Code of these extensions may call each other's handlers.
 const EXTENSIONS: u32 = 4;
 
-// One handler, written NAME, NAME>CALLEE, NAME@BUDGET^DEPTH or NAME@BUDGET^DEPTH>CALLEE. The budget is 100 and the
-// depth 1 where they are absent. It calls its callee, if it has one, and returns.
+// One handler, written NAME, NAME>CALLEE, NAME@BUDGET^DEPTH or NAME@BUDGET^DEPTH>CALLEE. The budget is 100 and
+// the depth 1 where they are absent. It calls its callee, if it has one, and returns.
 fn add_handler(output: &mut String, text: &str) -> Result<(), NoMemory> {
     let (head, callee) = text.split_once('>').unwrap_or((text, ""));
     let (name, limits) = head.split_once('@').unwrap_or((head, "100^1"));
@@ -94,6 +94,16 @@ fn callable(
     )
 }
 
+fn fault_in(alloc: Global, failure: Failure<VerifyFault>) -> Failure<String> {
+    match failure {
+        Failure::NoMemory => Failure::NoMemory,
+        Failure::Fault(fault) => match fault_text(alloc, fault.number()) {
+            Ok(text) => Failure::Fault(text),
+            Err(_) => Failure::NoMemory,
+        },
+    }
+}
+
 // The verified handlers, or the text of the first fault.
 fn verify_all(
     alloc: Global,
@@ -104,10 +114,7 @@ fn verify_all(
     for handler in handlers.into_vec() {
         match verify(alloc, handler, callable) {
             Ok(one) => verified = verified.with(one)?,
-            Err((_, Failure::NoMemory)) => return Err(Failure::NoMemory),
-            Err((_, Failure::Fault(fault))) => {
-                return Err(Failure::Fault(fault_text(alloc, fault.number())?));
-            }
+            Err((_, failure)) => return Err(fault_in(alloc, failure)),
         }
     }
     Ok(Codes::checked(verified))
@@ -226,8 +233,8 @@ fn with_codes(
     add(alloc, registry, extension, codes)
 }
 
-/// `code E HANDLERS` and `replace E HANDLERS` verify handlers, and add them as the code of extension E or exchange its
-/// code; `raw` and `replace-raw` do so without verification; `remove E` removes it.
+/// `code E HANDLERS` and `replace E HANDLERS` verify handlers, and add them as the code of extension E or
+/// exchange its code; `raw` and `replace-raw` do so without verification; `remove E` removes it.
 pub(crate) fn call(
     alloc: Global,
     registry: &mut Registry<Command>,

@@ -73,7 +73,7 @@ module _ (live : Live) (sound : IsSound live) where
       let a = run_callee (run (table_of live)) c args (first_world core) in
       let same : start_callee (table_of live) id c args (first_world core) ≡ a =
       ap (λ b. if b then a else answer.Stuck WrongArgument id 0 (first_world core)) fit in
-      ran_on a (starts_never_stuck (table_of live) sound id c is args fit core a
+      ran_on a (starts_never_stuck (table_of live) sound.verified id c is args fit core a
       (ap (option_map (λ c. start_callee (table_of live) id c args (first_world core))) is ∙ ap Some same))
 
   as_starts : (id : List ℕ) (o : Option Callee) (given : Option Data) (core : Core) → table_of live id ≡ o
