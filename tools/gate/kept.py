@@ -1,13 +1,13 @@
 """What earlier runs of the gate on this machine found of wrong bodies.
 
-rt ci keeps what it passed, by a sum of all that it read, so that a later run on this machine does only what
-has changed. So does this: an edit that was refused is refused again where the edit, its crate, those below
-it, the kit and this tool are the same. So are the tool's own tests. Nothing else is kept: an edit that
-passed, or that says little, is tried again. The files are in a folder beside what rt ci keeps, an edit a
-file, so that a run that is stopped keeps what it has done.
+An edit that was refused is refused again where the edit, its crate, those below it, the kit and this tool are
+the same. So are the tool's own tests. Nothing else is kept: an edit that passed, or that says little, is tried
+again. The files are in a folder beside what rt ci keeps, or in the user's cache with a kit whose rt ci keeps
+nothing. Each edit is a file, so that a run that is stopped keeps what it has done.
 """
 
 import contextlib
+import functools
 import hashlib
 import json
 import os
@@ -21,8 +21,28 @@ OWN_TESTS = "self_test.py"
 
 def folder():
     """The folder for what is kept, or nothing where none can be."""
-    store = rt.Kept([]).at
-    return store and os.path.join(store, "wrong-bodies")
+    if hasattr(rt, "Kept"):
+        store = rt.Kept([]).at
+        return store and os.path.join(store, "wrong-bodies")
+    cache = os.environ.get("XDG_CACHE_HOME") or os.path.join(os.path.expanduser("~"), ".cache")
+    return os.path.join(cache, "pafjirn", "wrong-bodies")
+
+
+@functools.cache
+def kit_sum():
+    """A sum of the kit: of its own making, or of its version and its prover."""
+    if hasattr(rt, "kit_sum"):
+        return rt.kit_sum()
+    made = hashlib.sha256()
+    for part in ("KIT-ID", "WHAT", "bin/rattle", "bin/rt", "bin/rtlib.py"):
+        with open(os.path.join(rt.KIT, part), "rb") as file:
+            made.update(repr(part).encode() + hashlib.file_digest(file, "sha256").digest())
+    return made.hexdigest()
+
+
+def stamp_of(crate):
+    """A sum of the kit, of the crate and of those below it."""
+    return rt.stamp_of(crate, {}) if hasattr(rt, "stamp_of") else kit_sum() + crate.stamp()
 
 
 def sum_of(files, total=""):
@@ -42,12 +62,12 @@ def files_of_tool():
 
 def sum_of_tool():
     """A sum of the whole tool and of the kit."""
-    return sum_of([*files_of_tool(), os.path.join(TOP, "tools", "wrong-bodies")], rt.kit_sum())
+    return sum_of([*files_of_tool(), os.path.join(TOP, "tools", "wrong-bodies")], kit_sum())
 
 
 def sums_of(crate, edits):
     """For each edit the sum of all that its trial reads."""
-    judging = sum_of([it for it in files_of_tool() if not it.endswith(OWN_TESTS)], rt.stamp_of(crate, {}))
+    judging = sum_of([it for it in files_of_tool() if not it.endswith(OWN_TESTS)], stamp_of(crate))
     sum_with = lambda it: hashlib.sha256(repr((judging, it.name, sum_of([it.file]))).encode()).hexdigest()
     return {it: sum_with(it) for it in edits}
 
