@@ -1,8 +1,7 @@
 -- Commands that are put into a table one by one.
-use Rattle.std.proofs.Common.{◌≡◌, ℕ, List, [], ◌∷◌, ◌++◌, Bool, true, false, ◌||◌, Option, Some, None, cond}
+use Rattle.std.proofs.Common.{◌≡◌, ℕ, List, [], ◌∷◌, ◌++◌, Bool, true, false, ◌||◌, Option, Some, cond}
 use Rattle.std.proofs.Common.{refl, sym, ap, ◌∙◌, true≢false, is_some, option_map, bytes_eq, String}
 use Rattle.std.proofs.Common.{string_bytes}
-use Rattle.std.proofs.lemmas.List.{append_assoc}
 use Rattle.std.specs.declared.alloc.Global.{Global}
 use Rattle.std.specs.List.{find}
 use Rattle.std.specs.Map.{lookup}
@@ -10,9 +9,7 @@ use Rattle.std.specs.String.{string_eq}
 use Rattle.indexmap.specs.IndexMap.{insert_entry}
 use Rattle.kb_manifest.specs.declared.command.Command.{Command}
 use Rattle.kb_manifest.specs.declared.command_table.Named.{Named}
-use Rattle.kb_manifest.specs.CommandTable.{by_name, command_named, is_there, with_first, with_kept}
-use Rattle.kb_manifest.specs.CommandTable.{firsts_behind}
-use Rattle.kb_manifest.specs.Judged.{kept_in}
+use Rattle.kb_manifest.specs.CommandTable.{by_name, command_named, is_there, with_first}
 
 abbrev Entry : Type 0
 Entry = String Global × Command
@@ -83,22 +80,3 @@ added named k es same h =
     put_behind k named.command es (ap (λ name. is_there name (by_name es)) same ∙ h)
     ∙ ap (λ name. by_name es ++ record { name = name; command = named.command } ∷ []) same
     ∙ sym (ap (λ b. cond b (by_name es) (by_name es ++ named ∷ [])) h)
-
--- ---- the entries of a manifest in turn
-
-one_more : (e : Named) (above es : List Named) (found : Bool)
-    → cond found above (above ++ e ∷ []) ++ firsts_behind (cond found above (above ++ e ∷ [])) es
-    ≡ above ++ cond found (firsts_behind above es) (e ∷ firsts_behind (above ++ e ∷ []) es)
-one_more e above es true = refl
-one_more e above es false = append_assoc above (e ∷ []) (firsts_behind (above ++ e ∷ []) es)
-
--- one that was kept, and then those that are left
-pub kept_put : (kept : Option Named) (above es : List Named)
-    → with_kept kept above ++ firsts_behind (with_kept kept above) es
-    ≡ above ++ firsts_behind above (kept_in kept ++ es)
-kept_put None above es = refl
-kept_put (Some e) above es = one_more e above es (is_there e.name above)
-
--- commands, and then the first ones of their identifiers behind these
-abbrev pub then_firsts : List Named → List Named → List Named
-then_firsts commands es = commands ++ firsts_behind commands es

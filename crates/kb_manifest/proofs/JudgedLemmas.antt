@@ -12,7 +12,7 @@ use Rattle.kb_when.proofs.PlacedLemmas.{marks_at-append, marks_at-placed, marks_
 use Rattle.kb_when.proofs.PlacedLemmas.{all_of-append, all_of-placed}
 use Rattle.kb_manifest.specs.declared.judged.Judged.{Judged}
 use Rattle.kb_manifest.specs.declared.notes.Notes.{Notes}
-use Rattle.kb_manifest.specs.Judged.{kept_in, kept_from, warnings_from, unread_from, notes_of, AllRight}
+use Rattle.kb_manifest.specs.Judged.{kept_in, kept_from, warnings_from, unread_from, each_by, AllRight}
 use Rattle.kb_manifest.specs.Notes.{with_warning, with_unread, warning_in}
 
 -- the unread patterns of notes are of their part
@@ -63,83 +63,86 @@ module _ (origin : Origin) (part : Part) where
   found_above told place unread ps found =
       λ p h. found p (omega arith) ∙ elsewhere unread place p ps (λ e. omega (arith))
 
-module _ (Right : List ClausePattern → Data → Type 0) (origin : Origin) (part : Part) where
-  -- where the patterns of the entries that are left are right, all are
-  abbrev pub StaysRight : List Data → ℕ → List Data → List UnreadPattern → Type 0
-  StaysRight all place left unread =
-      (told : ℕ → List ClausePattern) → IsFound origin part told place unread → AllRight Right told place left
-      → AllRight Right told 0 all
+-- ---- the entries in turn
 
-  pub right_on : (all ds : List Data) (place : ℕ) (d : Data) (unread : List UnreadPattern)
-      (ps : List ClausePattern) → NoneFrom origin part place unread → Right ps d → StaysRight all place (d ∷ ds) unread
-      → StaysRight all (place + 1) ds (unread ++ placed origin part place ps)
-  right_on all ds place d unread ps none right stays =
-      λ told found rest.
-      stays told (found_above origin part told place unread ps found)
-      (subst (λ us. Right us d) (sym (found_here origin part told place unread ps none found)) right, rest)
+module _ {X : Type 0} (judged_at : List ClausePattern → ℕ → Data → Judged X)
+    (Right : List ClausePattern → Data → Type 0) (origin : Origin) (part : Part) (all : List Data) where
+  -- what there is, and then what the entries that are left give, is what all give. Where the patterns of
+  -- those that are left are right, all are
+  pub record Gives (told : ℕ → List ClausePattern) (place : ℕ) (left : List Data) (kept : List X)
+      (notes : Notes) : Type 0 where
+    pub kept_are : kept ++ kept_from judged_at told place left ≡ kept_from judged_at told 0 all
+    pub warnings_are : notes.warnings ++ warnings_from judged_at told origin part place left
+        ≡ warnings_from judged_at told origin part 0 all
+    pub unread_are : notes.unread ++ unread_from judged_at told origin part place left
+        ≡ unread_from judged_at told origin part 0 all
+    pub right : AllRight Right told place left → AllRight Right told 0 all
 
-  pub right_ends : (all : List Data) (place : ℕ) (unread : List UnreadPattern) → StaysRight all place [] unread
-      → AllRight Right (marks_at origin part unread) 0 all
-  right_ends all place unread stays = stays (marks_at origin part unread) (λ p h. refl) tt
+  -- this holds for any patterns of the entries that are left
+  pub record Goes (place : ℕ) (left : List Data) (kept : List X) (notes : Notes) : Type 0 where
+    pub none : NoneFrom origin part place notes.unread
+    pub gives : (told : ℕ → List ClausePattern) → IsFound origin part told place notes.unread
+        → Gives told place left kept notes
 
-module _ {X : Type 0} (judged_at : List ClausePattern → ℕ → Data → Judged X) (origin : Origin)
-    (part : Part) (rest : List X → List X → List X) where
-  -- what there is, and then what the entries that are left give, for any patterns of these
-  abbrev IsSame : List Data → ℕ → List Data → List X → Notes → (ℕ → List ClausePattern) → Type 0
-  IsSame all place left kept notes told =
-      (rest kept (kept_from judged_at told place left) ≡ rest [] (kept_from judged_at told 0 all))
-      × (notes.warnings ++ warnings_from judged_at told origin part place left
-      ≡ warnings_from judged_at told origin part 0 all)
-      × (notes.unread ++ unread_from judged_at told origin part place left ≡ unread_from judged_at told origin part 0 all)
+  -- the notes of one entry more
+  abbrev noted : ℕ → Judged X → Notes → Notes
+  noted place j notes =
+      with_unread origin part place j.unread (with_warning origin part place j.number notes)
 
-  abbrev pub Goes : List Data → ℕ → List Data → List X → Notes → Type 0
-  Goes all place left kept notes =
-      NoneFrom origin part place notes.unread
-      × ((told : ℕ → List ClausePattern) → IsFound origin part told place notes.unread
-      → IsSame all place left kept notes told)
-
-  same_on : (all ds : List Data) (place : ℕ) (d : Data) (kept new : List X) (notes : Notes) (j : Judged X)
-      → (told : ℕ → List ClausePattern) → judged_at (told place) place d ≡ j
-      → ((xs : List X) → rest new xs ≡ rest kept (kept_in j.kept ++ xs))
-      → IsSame all place (d ∷ ds) kept notes told
-      → IsSame all (place + 1) ds new
-      (with_unread origin part place j.unread (with_warning origin part place j.number notes)) told
-  same_on all ds place d kept new notes j told is put same =
+  gives_on : (told : ℕ → List ClausePattern) (place : ℕ) (d : Data) (ds : List Data) (kept : List X)
+      (notes : Notes) (j : Judged X) → judged_at (told place) place d ≡ j → Right (told place) d
+      → Gives told place (d ∷ ds) kept notes
+      → Gives told (place + 1) ds (kept ++ kept_in j.kept) (noted place j notes)
+  gives_on told place d ds kept notes j is right gives =
       let items = kept_from judged_at told (place + 1) ds in
       let warnings = warnings_from judged_at told origin part (place + 1) ds in
-      let unread = unread_from judged_at told origin part (place + 1) ds in (
-        put items ∙ ap (λ (i : Judged X). rest kept (kept_in i.kept ++ items)) (sym is) ∙ same.0,
-        append_assoc notes.warnings (warning_in origin part place j.number) warnings
-            ∙ ap (λ (i : Judged X). notes.warnings ++ (warning_in origin part place i.number ++ warnings)) (sym is)
-            ∙ same.1,
-        append_assoc notes.unread (placed origin part place j.unread) unread
+      let unread = unread_from judged_at told origin part (place + 1) ds in
+      record {
+        kept_are = append_assoc kept (kept_in j.kept) items
+            ∙ ap (λ (i : Judged X). kept ++ (kept_in i.kept ++ items)) (sym is)
+            ∙ gives.kept_are;
+        warnings_are = append_assoc notes.warnings (warning_in origin part place j.number) warnings
+            ∙ ap (λ (i : Judged X). notes.warnings ++ (warning_in origin part place i.number ++ warnings))
+            (sym is)
+            ∙ gives.warnings_are;
+        unread_are = append_assoc notes.unread (placed origin part place j.unread) unread
             ∙ ap (λ (i : Judged X). notes.unread ++ (placed origin part place i.unread ++ unread)) (sym is)
-            ∙ same.2,
-      )
+            ∙ gives.unread_are;
+        right = λ rest. gives.right (right, rest);
+      }
 
-  pub goes_on : (all ds : List Data) (place : ℕ) (d : Data) (kept new : List X) (notes : Notes) (j : Judged X)
-      → j ≡ judged_at j.unread place d
-      → ((xs : List X) → rest new xs ≡ rest kept (kept_in j.kept ++ xs))
-      → Goes all place (d ∷ ds) kept notes
-      → Goes all (place + 1) ds new (with_unread origin part place j.unread (with_warning origin part place j.number notes))
-  goes_on all ds place d kept new notes j is put goes = (
-    (λ p h. elsewhere origin part notes.unread place p j.unread (λ e. omega (arith)) ∙ goes.0 p (omega arith)),
-    λ told found.
-        same_on all ds place d kept new notes j told
-        (ap (λ u. judged_at u place d)
-        (found_here origin part told place notes.unread j.unread goes.0 found) ∙ sym is) put
-        (goes.1 told (found_above origin part told place notes.unread j.unread found)),
-  )
+  -- one entry is taken
+  pub goes_on : {place : ℕ} {d : Data} {left ds : List Data} {kept new : List X} {notes more : Notes}
+      {j : Judged X} → j ≡ judged_at j.unread place d → Right j.unread d → new ≡ kept ++ kept_in j.kept
+      → more ≡ noted place j notes → left ≡ d ∷ ds → Goes place left kept notes
+      → Goes (place + 1) ds new more
+  goes_on {place} {d} {left} {ds} {kept} {new} {notes} {more} {j} is right put told_of first before =
+      let goes : Goes place (d ∷ ds) kept notes = subst (λ l. Goes place l kept notes) first before in
+      rw (put, told_of) (record {
+        none = λ p h. elsewhere origin part notes.unread place p j.unread (λ e. omega (arith))
+            ∙ goes.none p (omega arith);
+        gives = λ told found.
+            let here : told place ≡ j.unread =
+            found_here origin part told place notes.unread j.unread goes.none found in
+            gives_on told place d ds kept notes j (ap (λ us. judged_at us place d) here ∙ sym is)
+            (subst (λ us. Right us d) (sym here) right)
+            (goes.gives told (found_above origin part told place notes.unread j.unread found));
+      })
 
-  pub ends : (all : List Data) (place : ℕ) (kept : List X) (notes : Notes) → rest kept [] ≡ kept
-      → Goes all place [] kept notes
-      → (kept ≡ rest [] (kept_from judged_at (marks_at origin part notes.unread) 0 all))
-      × (notes ≡ notes_of judged_at (marks_at origin part notes.unread) origin part all)
-  ends all place kept notes whole goes =
-      let same = goes.1 (marks_at origin part notes.unread) (λ p h. refl) in (
-        sym whole ∙ same.0,
-        λ i. record {
-          warnings = (sym (append-nil notes.warnings) ∙ same.1) i;
-          unread = (sym (append-nil notes.unread) ∙ same.2) i;
-        },
+  -- no entry is left
+  pub ends : {place : ℕ} {left : List Data} {kept : List X} {notes : Notes} → left ≡ []
+      → Goes place left kept notes
+      → ((kept, notes) ≡ each_by judged_at (marks_at origin part notes.unread) origin part all)
+      × AllRight Right (marks_at origin part notes.unread) 0 all
+  ends {place} {left} {kept} {notes} none before =
+      let goes : Goes place [] kept notes = subst (λ l. Goes place l kept notes) none before in
+      let gives = goes.gives (marks_at origin part notes.unread) (λ p h. refl) in (
+        (λ i. (
+          (sym (append-nil kept) ∙ gives.kept_are) i,
+          record {
+            warnings = (sym (append-nil notes.warnings) ∙ gives.warnings_are) i;
+            unread = (sym (append-nil notes.unread) ∙ gives.unread_are) i;
+          },
+        )),
+        gives.right tt,
       )

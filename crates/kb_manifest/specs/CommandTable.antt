@@ -1,5 +1,5 @@
 -- Contributed commands by their identifiers, each of which counts once.
-use Rattle.std.specs.Prelude.{ℕ, List, [], ◌∷◌, ◌++◌, map, Bool, Option, Some, None, if◌then◌else◌, bytes_eq}
+use Rattle.std.specs.Prelude.{ℕ, List, [], ◌∷◌, ◌++◌, map, Bool, Option, if◌then◌else◌, bytes_eq}
 use Rattle.std.specs.Prelude.{option_map, String, string_bytes}
 use Rattle.std.specs.declared.alloc.Global.{Global}
 use Rattle.std.specs.List.{list_any, find}
@@ -21,11 +21,6 @@ command_named name commands = option_map (λ e. e.command) (find (λ e. bytes_eq
 -- the same with one more at the end, unless its identifier is there
 abbrev pub with_first : Named → List Named → List Named
 with_first e commands = if is_there e.name commands then commands else commands ++ e ∷ []
-
--- the same of one that may have been kept
-abbrev pub with_kept : Option Named → List Named → List Named
-with_kept None commands = commands
-with_kept (Some e) commands = with_first e commands
 
 -- the first ones of their identifiers, behind those that stand above
 abbrev pub firsts_behind : List Named → List Named → List Named

@@ -38,6 +38,10 @@ module _ {X : Type 0} (judged_at : List ClausePattern → ℕ → Data → Judge
   notes_of origin part ds =
       record { warnings = warnings_from origin part 0 ds; unread = unread_from origin part 0 ds }
 
+  -- what is kept of the entries, and their notes
+  abbrev pub each_by : Origin → Part → List Data → List X × Notes
+  each_by origin part ds = (kept_from 0 ds, notes_of origin part ds)
+
 -- the unread patterns of each entry are right
 abbrev pub AllRight : (List ClausePattern → Data → Type 0) → (ℕ → List ClausePattern) → ℕ → List Data → Type 0
 AllRight Right told place [] = Unit {0}

@@ -12,7 +12,7 @@ use Rattle.kb_manifest.specs.declared.judged.Judged.{Judged}
 use Rattle.kb_manifest.specs.declared.notes.Notes.{Notes}
 use Rattle.kb_base.specs.declared.note.Origin.{Origin}
 use Rattle.kb_base.specs.declared.note.Part.TheVariants.{Palette}
-use Rattle.kb_manifest.specs.Judged.{kept_from, notes_of}
+use Rattle.kb_manifest.specs.Judged.{each_by}
 use Rattle.kb_when.specs.declared.unread.ClausePattern.{ClausePattern}
 use Rattle.kb_manifest.specs.declared.palette_item.PaletteItem.{PaletteItem}
 use Rattle.kb_manifest.specs.declared.palette_item.ItemTexts.{ItemTexts}
@@ -57,7 +57,7 @@ judged_at told place d = judged_by told place (texts_of d)
 
 -- the items of entries, and the notes of the entries
 abbrev pub items_by : Origin → (ℕ → List ClausePattern) → List Data → List PaletteItem × Notes
-items_by origin told entries = (kept_from judged_at told 0 entries, notes_of judged_at told origin Palette entries)
+items_by origin told entries = each_by judged_at told origin Palette entries
 
 -- the unread patterns of an entry are right
 abbrev pub IsRightBy : List ClausePattern → Result ItemTexts FileFault → Type 0

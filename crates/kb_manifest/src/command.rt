@@ -1,18 +1,18 @@
 //! The commands that a manifest contributes.
-ghost use Rattle.std.specs.Prelude.{◌≡◌, ◌++◌, [], IfOk, OnOk, codes};
+ghost use Rattle.std.specs.Prelude.{◌≡◌, IfOk, codes};
 ghost use Rattle.serde_json.specs.Find.{get_member};
 ghost use Rattle.serde_json.specs.View.{view, items_view, members_view};
 ghost use Rattle.kb_json.specs.Parts.{listed};
-ghost use Rattle.kb_manifest.specs.Command.{texts_of, texts_in, extras_of, command_of, judged_at};
+ghost use Rattle.kb_manifest.specs.Command.{texts_of, texts_in, extras_of, command_of};
 ghost use Rattle.kb_manifest.specs.Command.{commands_by, IsRightAt};
 ghost use Rattle.kb_manifest.specs.Condition.{IsOptionalRight};
 ghost use Rattle.kb_manifest.specs.Judged.{AllRight};
 ghost use Rattle.kb_base.specs.declared.note.Part.TheVariants.{Commands};
-ghost use Rattle.kb_manifest.specs.Notes.{no_notes};
 ghost use Rattle.kb_when.specs.Placed.{marks_at};
 
 use crate::command_table::{CommandTable, Named};
 use crate::condition::optional_condition;
+use crate::entries::{Entry, read_each};
 use crate::judged::Judged;
 use crate::notes::Notes;
 use kb_base::{NoMemory, Origin, Part, Seq, Text};
@@ -105,18 +105,22 @@ fn command_of(alloc: Global, texts: Texts, place: usize) -> Result<Judged<Named>
     })
 }
 
-/// Reads the entry at a place.
-fn read_command(alloc: Global, entry: Value, place: usize) -> Result<Judged<Named>, NoMemory>
-    ensures read { IfOk result (λ judged. judged ≡ judged_at judged.unread place (view entry)) }
-    ensures right { IfOk result (λ judged. IsRightAt judged.unread (view entry)) }
-{
-    match texts_of(entry) {
-        Ok(texts) => command_of(alloc, texts, place),
-        Err(fault) => Ok(Judged {
-            kept: None,
-            number: Some(fault.number()),
-            unread: Seq::new(alloc),
-        }),
+impl Entry for Named {
+    ghost use Rattle.kb_manifest.specs.Command.{judged_at, IsRightAt};
+
+    ghost judged = { judged_at };
+
+    ghost is_right = { IsRightAt };
+
+    fn read(alloc: Global, entry: Value, place: usize) -> Result<Judged<Named>, NoMemory> {
+        match texts_of(entry) {
+            Ok(texts) => command_of(alloc, texts, place),
+            Err(fault) => Ok(Judged {
+                kept: None,
+                number: Some(fault.number()),
+                unread: Seq::new(alloc),
+            }),
+        }
     }
 }
 
@@ -131,33 +135,6 @@ pub(crate) fn read_commands(
     ensures right { IfOk result (λ r.
         AllRight IsRightAt (marks_at origin Commands r.1.unread) 0 (listed (items_view entries.items))) }
 {
-    let mut commands = CommandTable::new(alloc);
-    let mut notes = Notes::new(alloc);
-    read_each(alloc, entries, origin, &mut commands, &mut notes)?;
-    Ok((commands, notes))
-}
-
-/// Reads all entries into the empty table `commands` and the empty `notes`.
-fn read_each(
-    alloc: Global,
-    entries: Vec<Value>,
-    origin: Origin,
-    commands: &mut CommandTable,
-    notes: &mut Notes,
-) -> Result<(), NoMemory>
-    requires commands { commands.old ≡ [] }
-    requires notes { notes.old ≡ no_notes }
-    ensures read { OnOk result ((commands.new, notes.new)
-        ≡ commands_by origin (marks_at origin Commands notes.new.unread) (listed (items_view entries.items))) }
-    ensures right { OnOk result
-        (AllRight IsRightAt (marks_at origin Commands notes.new.unread) 0 (listed (items_view entries.items))) }
-{
-    let mut place = 0;
-    for entry in entries {
-        let judged = read_command(alloc, entry, place)?;
-        commands.keep(judged.kept)?;
-        notes.add(origin, Part::Commands, place, judged.number, judged.unread)?;
-        place += 1;
-    }
-    Ok(())
+    let (kept, notes) = read_each(alloc, entries, origin, Part::Commands)?;
+    Ok((CommandTable::from_entries(alloc, kept)?, notes))
 }

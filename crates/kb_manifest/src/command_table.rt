@@ -1,10 +1,10 @@
 //! Contributed commands by their identifiers.
-ghost use Rattle.std.specs.Prelude.{◌≡◌, [], OnOk, length, slice_get, option_map, option_copied};
-ghost use Rattle.kb_manifest.specs.CommandTable.{command_named, with_first, with_kept};
+ghost use Rattle.std.specs.Prelude.{◌≡◌, [], IfOk, OnOk, length, slice_get, option_map, option_copied};
+ghost use Rattle.kb_manifest.specs.CommandTable.{command_named, firsts_behind, with_first};
 
 use crate::command::Command;
 use indexmap::IndexMap;
-use kb_base::{NoMemory, Text};
+use kb_base::{NoMemory, Seq, Text};
 use std::alloc::Global;
 use std::marker::Model;
 
@@ -40,12 +40,23 @@ impl Model for CommandTable {
 
 impl CommandTable {
     /// The table without commands.
-    pub(crate) fn new(alloc: Global) -> CommandTable
+    fn new(alloc: Global) -> CommandTable
         ensures { result ≡ [] }
     {
         CommandTable {
             table: IndexMap::new(alloc),
         }
+    }
+
+    /// The table of these entries.
+    pub(crate) fn from_entries(alloc: Global, entries: Seq<Named>) -> Result<CommandTable, NoMemory>
+        ensures { IfOk result (λ table. table ≡ firsts_behind [] entries) }
+    {
+        let mut table = CommandTable::new(alloc);
+        for named in entries.into_vec() {
+            table.add(named)?;
+        }
+        Ok(table)
     }
 
     /// How many commands there are.
@@ -84,15 +95,5 @@ impl CommandTable {
         let Named { name, command } = named;
         self.table.insert(name.into_string(), command)?;
         Ok(())
-    }
-
-    /// The same of a command that was kept, if one was.
-    pub(crate) fn keep(&mut self, kept: Option<Named>) -> Result<(), NoMemory>
-        ensures { OnOk result (self.new ≡ with_kept kept self.old) }
-    {
-        match kept {
-            Some(named) => self.add(named),
-            None => Ok(()),
-        }
     }
 }

@@ -6,6 +6,7 @@ pub mod command;
 pub mod command_table;
 mod condition;
 pub mod context;
+mod entries;
 mod judged;
 pub mod layout;
 pub mod manifest;

@@ -1,16 +1,16 @@
 //! The entries of a manifest that control where the palette shows a command.
-ghost use Rattle.std.specs.Prelude.{◌≡◌, ◌++◌, [], IfOk, OnOk};
+ghost use Rattle.std.specs.Prelude.{◌≡◌, IfOk};
 ghost use Rattle.serde_json.specs.View.{view, items_view, members_view};
-ghost use Rattle.kb_manifest.specs.Judged.{kept_in, AllRight};
+ghost use Rattle.kb_manifest.specs.Judged.{AllRight};
 ghost use Rattle.kb_json.specs.Parts.{listed};
-ghost use Rattle.kb_manifest.specs.PaletteItem.{texts_of, texts_in, said, item_of, judged_at, items_by};
+ghost use Rattle.kb_manifest.specs.PaletteItem.{texts_of, texts_in, said, item_of, items_by};
 ghost use Rattle.kb_manifest.specs.PaletteItem.{IsRightAt};
 ghost use Rattle.kb_manifest.specs.Condition.{IsOptionalRight};
 ghost use Rattle.kb_base.specs.declared.note.Part.TheVariants.{Palette};
-ghost use Rattle.kb_manifest.specs.Notes.{no_notes};
 ghost use Rattle.kb_when.specs.Placed.{marks_at};
 
 use crate::condition::optional_condition;
+use crate::entries::{Entry, read_each};
 use crate::judged::Judged;
 use crate::notes::Notes;
 use kb_base::{NoMemory, Origin, Part, Seq, Text, is_blank_text};
@@ -94,28 +94,22 @@ fn item_of(alloc: Global, texts: ItemTexts, place: usize) -> Result<Judged<Palet
     })
 }
 
-/// Reads the entry at a place.
-fn read_item(alloc: Global, entry: Value, place: usize) -> Result<Judged<PaletteItem>, NoMemory>
-    ensures read { IfOk result (λ judged. judged ≡ judged_at judged.unread place (view entry)) }
-    ensures right { IfOk result (λ judged. IsRightAt judged.unread (view entry)) }
-{
-    match texts_of(entry) {
-        Ok(texts) => item_of(alloc, texts, place),
-        Err(fault) => Ok(Judged {
-            kept: None,
-            number: Some(fault.number()),
-            unread: Seq::new(alloc),
-        }),
-    }
-}
+impl Entry for PaletteItem {
+    ghost use Rattle.kb_manifest.specs.PaletteItem.{judged_at, IsRightAt};
 
-/// Adds an item, if one was kept.
-fn keep(items: &mut Seq<PaletteItem>, kept: Option<PaletteItem>) -> Result<(), NoMemory>
-    ensures { OnOk result (items.new ≡ items.old ++ kept_in kept) }
-{
-    match kept {
-        Some(item) => items.push(item),
-        None => Ok(()),
+    ghost judged = { judged_at };
+
+    ghost is_right = { IsRightAt };
+
+    fn read(alloc: Global, entry: Value, place: usize) -> Result<Judged<PaletteItem>, NoMemory> {
+        match texts_of(entry) {
+            Ok(texts) => item_of(alloc, texts, place),
+            Err(fault) => Ok(Judged {
+                kept: None,
+                number: Some(fault.number()),
+                unread: Seq::new(alloc),
+            }),
+        }
     }
 }
 
@@ -130,33 +124,5 @@ pub(crate) fn read_items(
     ensures right { IfOk result (λ r.
         AllRight IsRightAt (marks_at origin Palette r.1.unread) 0 (listed (items_view entries.items))) }
 {
-    let mut items = Seq::new(alloc);
-    let mut notes = Notes::new(alloc);
-    read_each(alloc, entries, origin, &mut items, &mut notes)?;
-    Ok((items, notes))
-}
-
-/// Reads all entries into the empty list `items` and the empty `notes`.
-fn read_each(
-    alloc: Global,
-    entries: Vec<Value>,
-    origin: Origin,
-    items: &mut Seq<PaletteItem>,
-    notes: &mut Notes,
-) -> Result<(), NoMemory>
-    requires items { items.old ≡ [] }
-    requires notes { notes.old ≡ no_notes }
-    ensures read { OnOk result ((items.new, notes.new)
-        ≡ items_by origin (marks_at origin Palette notes.new.unread) (listed (items_view entries.items))) }
-    ensures right { OnOk result
-        (AllRight IsRightAt (marks_at origin Palette notes.new.unread) 0 (listed (items_view entries.items))) }
-{
-    let mut place = 0;
-    for entry in entries {
-        let judged = read_item(alloc, entry, place)?;
-        keep(items, judged.kept)?;
-        notes.add(origin, Part::Palette, place, judged.number, judged.unread)?;
-        place += 1;
-    }
-    Ok(())
+    read_each(alloc, entries, origin, Part::Palette)
 }
