@@ -6,6 +6,7 @@ use Rattle.std.proofs.Common.{true≢false, nat_lt, nat_eq, IfSome, subst}
 use Rattle.std.proofs.lemmas.List.Folds.{find-append}
 use Rattle.std.proofs.lemmas.Slice.Eq.{bytes_eq-Decides}
 use Rattle.std.specs.Bool.{⊤}
+use Rattle.std.specs.List.{flat_map}
 use Rattle.std.specs.Option.{option_or, option_map_or}
 use Rattle.kb_code.specs.Handler.{HandlerData, handler_named}
 use Rattle.kb_handler_table.specs.declared.fault.CodesFault.TheVariants.{AlreadyExists}
@@ -13,7 +14,8 @@ use Rattle.kb_handler_table.specs.Apart.{IsApart, AreApart}
 use Rattle.kb_handler_table.specs.Group.{IsNamedAt}
 use Rattle.kb_handler_table.specs.Live.{Group, handlers_in, is_reserved, is_taken}
 use Rattle.kb_handler_table.specs.Live.{has_taken, codes_fault}
-use Rattle.kb_handler_table.specs.Live.{with_group, without_group, exchanged, handlers_of}
+use Rattle.kb_handler_table.specs.Live.{with_group, without_group, exchanged, found_group, handlers_of, is_on}
+use Rattle.kb_handler_table.specs.Live.{live_in, live_of, switched}
 use Rattle.kb_handler_table.specs.Codes.{CodesData}
 use Rattle.kb_code.specs.Face.{are_distinct, declared_among, each_declared, same_face}
 use Rattle.kb_code.proofs.FaceLemmas.{same_face_declares_the_same}
@@ -257,40 +259,93 @@ declared-both name xs ys =
     by None = refl
     by (Some h) = refl
 
+-- ---- the handlers of those groups that count: all groups, or the live ones
+
+abbrev pub counted : (Group → Bool) → Group → List HandlerData
+counted counts g = cond (counts g) g.codes.handlers []
+
+abbrev pub counted_in : (Group → Bool) → List Group → List HandlerData
+counted_in counts gs = flat_map (counted counts) gs
+
+abbrev pub is_all : Group → Bool
+is_all g = true
+
+abbrev pub is_live : Group → Bool
+is_live g = g.live
+
+-- the handlers of an extension are those of its group, or of one behind
+own-true : (extension : ℕ) (g : Group) (gs : List Group) → nat_eq g.extension extension ≡ true
+    → handlers_of extension (g ∷ gs) ≡ g.codes.handlers
+own-true extension g gs is =
+    ap (λ b. option_map_or (λ (codes : CodesData). codes.handlers) (option_map (λ (g : Group). g.codes)
+    (cond b (Some g) (find (λ (g : Group). nat_eq g.extension extension) gs))) []) is
+
+own-false : (extension : ℕ) (g : Group) (gs : List Group) → nat_eq g.extension extension ≡ false
+    → handlers_of extension (g ∷ gs) ≡ handlers_of extension gs
+own-false extension g gs is =
+    ap (λ b. option_map_or (λ (codes : CodesData). codes.handlers) (option_map (λ (g : Group). g.codes)
+    (cond b (Some g) (find (λ (g : Group). nat_eq g.extension extension) gs))) []) is
+
+-- whether a group counts doesn't depend on its code
+abbrev KeepsCount : (Group → Bool) → Type 0
+KeepsCount counts = (g : Group) (codes : CodesData) → counts (record g { codes = codes }) ≡ counts g
+
+-- other code of a group declares the same, if both have the same face
+counted-declares : (counts : Group → Bool) → KeepsCount counts → (codes : CodesData) (g : Group)
+    → same_face g.codes.handlers codes.handlers ≡ true → (name : List ℕ)
+    → declared_among (counted counts (record g { codes = codes })) name ≡ declared_among (counted counts g) name
+counted-declares counts keeps codes g same name = by (counts g) (keeps g codes)
+  where
+    by : (b : Bool) → counts (record g { codes = codes }) ≡ b
+        → declared_among (counted counts (record g { codes = codes })) name
+        ≡ declared_among (cond b g.codes.handlers []) name
+    by true is =
+        ap (λ b. declared_among (cond b codes.handlers []) name) is
+        ∙ sym ((face-parts g.codes.handlers codes.handlers same).1 name)
+    by false is = ap (λ b. declared_among (cond b codes.handlers []) name) is
+
 -- each name declares the same after an exchange of code with the same face
-pub exchange_declares : (extension : ℕ) (codes : CodesData) (gs : List Group)
-    → same_face (handlers_of extension gs) codes.handlers ≡ true → (name : List ℕ)
-    → declared_among (handlers_in (exchanged extension codes gs)) name ≡ declared_among (handlers_in gs) name
-exchange_declares extension codes [] same name = refl
-exchange_declares extension codes (g ∷ gs) same name =
-    by (nat_eq g.extension extension) refl (exchange_declares extension codes gs)
+counted-exchange : (counts : Group → Bool) → KeepsCount counts → (extension : ℕ) (codes : CodesData)
+    (gs : List Group) → same_face (handlers_of extension gs) codes.handlers ≡ true → (name : List ℕ)
+    → declared_among (counted_in counts (exchanged extension codes gs)) name ≡ declared_among (counted_in counts gs) name
+counted-exchange counts keeps extension codes [] same name = refl
+counted-exchange counts keeps extension codes (g ∷ gs) same name =
+    by (nat_eq g.extension extension) refl (counted-exchange counts keeps extension codes gs)
   where
     by : (b : Bool) → nat_eq g.extension extension ≡ b
         → (same_face (handlers_of extension gs) codes.handlers ≡ true → (name : List ℕ)
-        → declared_among (handlers_in (exchanged extension codes gs)) name ≡ declared_among (handlers_in gs) name)
-        → declared_among (handlers_in (exchanged extension codes (g ∷ gs))) name
-        ≡ declared_among (handlers_in (g ∷ gs)) name
+        → declared_among (counted_in counts (exchanged extension codes gs)) name
+        ≡ declared_among (counted_in counts gs) name)
+        → declared_among (counted_in counts (exchanged extension codes (g ∷ gs))) name
+        ≡ declared_among (counted_in counts (g ∷ gs)) name
     by true is rest =
-        let own : handlers_of extension (g ∷ gs) ≡ g.codes.handlers =
-        ap (λ b. option_map_or (λ (codes : CodesData). codes.handlers) (option_map (λ (g : Group). g.codes)
-        (cond b (Some g) (find (λ (g : Group). nat_eq g.extension extension) gs))) []) is in
-        let new = (face-parts g.codes.handlers codes.handlers
-        (ap (λ hs. same_face hs codes.handlers) (sym own) ∙ same)).1 name in
-        ap (λ b. declared_among (handlers_in (cond b (record { extension = g.extension; codes = codes } ∷ gs)
+        let new = counted-declares counts keeps codes g
+        (ap (λ hs. same_face hs codes.handlers) (sym (own-true extension g gs is)) ∙ same) name in
+        ap (λ b. declared_among (counted_in counts (cond b (record g { codes = codes } ∷ gs)
         (g ∷ exchanged extension codes gs))) name) is
-        ∙ declared-both name codes.handlers (handlers_in gs)
-        ∙ ap (λ o. option_or o (declared_among (handlers_in gs) name)) (sym new)
-        ∙ sym (declared-both name g.codes.handlers (handlers_in gs))
+        ∙ declared-both name (counted counts (record g { codes = codes })) (counted_in counts gs)
+        ∙ ap (λ o. option_or o (declared_among (counted_in counts gs) name)) new
+        ∙ sym (declared-both name (counted counts g) (counted_in counts gs))
     by false is rest =
-        let other : handlers_of extension (g ∷ gs) ≡ handlers_of extension gs =
-        ap (λ b. option_map_or (λ (codes : CodesData). codes.handlers) (option_map (λ (g : Group). g.codes)
-        (cond b (Some g) (find (λ (g : Group). nat_eq g.extension extension) gs))) []) is in
-        ap (λ b. declared_among (handlers_in (cond b (record { extension = g.extension; codes = codes } ∷ gs)
+        ap (λ b. declared_among (counted_in counts (cond b (record g { codes = codes } ∷ gs)
         (g ∷ exchanged extension codes gs))) name) is
-        ∙ declared-both name g.codes.handlers (handlers_in (exchanged extension codes gs))
-        ∙ ap (option_or (declared_among g.codes.handlers name))
-        (rest (ap (λ hs. same_face hs codes.handlers) (sym other) ∙ same) name)
-        ∙ sym (declared-both name g.codes.handlers (handlers_in gs))
+        ∙ declared-both name (counted counts g) (counted_in counts (exchanged extension codes gs))
+        ∙ ap (option_or (declared_among (counted counts g) name))
+        (rest (ap (λ hs. same_face hs codes.handlers) (sym (own-false extension g gs is)) ∙ same) name)
+        ∙ sym (declared-both name (counted counts g) (counted_in counts gs))
+
+-- each name declares the same, among all handlers and among the live ones
+pub exchange_declares : (extension : ℕ) (codes : CodesData) (gs : List Group)
+    → same_face (handlers_of extension gs) codes.handlers ≡ true → (name : List ℕ)
+    → declared_among (handlers_in (exchanged extension codes gs)) name ≡ declared_among (handlers_in gs) name
+exchange_declares extension codes gs same name =
+    counted-exchange is_all (λ g codes. refl) extension codes gs same name
+
+pub live_exchange_declares : (extension : ℕ) (codes : CodesData) (gs : List Group)
+    → same_face (handlers_of extension gs) codes.handlers ≡ true → (name : List ℕ)
+    → declared_among (live_in (exchanged extension codes gs)) name ≡ declared_among (live_in gs) name
+live_exchange_declares extension codes gs same name =
+    counted-exchange is_live (λ g codes. refl) extension codes gs same name
 
 -- a handler that is distinct from some is distinct from others that declare the same names
 same-apart : (h : HandlerData) (xs ys : List HandlerData)
@@ -318,23 +373,17 @@ exchange-apart extension codes (g ∷ gs) same a =
         → AreApart (handlers_in (exchanged extension codes gs)))
         → AreApart (handlers_in (exchanged extension codes (g ∷ gs)))
     by true is rest =
-        let own : handlers_of extension (g ∷ gs) ≡ g.codes.handlers =
-        ap (λ b. option_map_or (λ (codes : CodesData). codes.handlers) (option_map (λ (g : Group). g.codes)
-        (cond b (Some g) (find (λ (g : Group). nat_eq g.extension extension) gs))) []) is in
         let new = face-parts g.codes.handlers codes.handlers
-        (ap (λ hs. same_face hs codes.handlers) (sym own) ∙ same) in
-        subst (λ b. AreApart (handlers_in (cond b (record { extension = g.extension; codes = codes } ∷ gs)
+        (ap (λ hs. same_face hs codes.handlers) (sym (own-true extension g gs is)) ∙ same) in
+        subst (λ b. AreApart (handlers_in (cond b (record g { codes = codes } ∷ gs)
         (g ∷ exchanged extension codes gs)))) (sym is)
         (join codes.handlers (handlers_in gs) (distinct-apart codes.handlers new.0) split.behind
         (flip (handlers_in gs) codes.handlers
         (each-same (handlers_in gs) g.codes.handlers codes.handlers (λ name. sym (new.1 name))
         (flip g.codes.handlers (handlers_in gs) split.between))))
     by false is rest =
-        let other : handlers_of extension (g ∷ gs) ≡ handlers_of extension gs =
-        ap (λ b. option_map_or (λ (codes : CodesData). codes.handlers) (option_map (λ (g : Group). g.codes)
-        (cond b (Some g) (find (λ (g : Group). nat_eq g.extension extension) gs))) []) is in
-        let alike = ap (λ hs. same_face hs codes.handlers) (sym other) ∙ same in
-        subst (λ b. AreApart (handlers_in (cond b (record { extension = g.extension; codes = codes } ∷ gs)
+        let alike = ap (λ hs. same_face hs codes.handlers) (sym (own-false extension g gs is)) ∙ same in
+        subst (λ b. AreApart (handlers_in (cond b (record g { codes = codes } ∷ gs)
         (g ∷ exchanged extension codes gs)))) (sym is)
         (join g.codes.handlers (handlers_in (exchanged extension codes gs)) split.front (rest alike split.behind)
         (each-same g.codes.handlers (handlers_in gs) (handlers_in (exchanged extension codes gs))
@@ -382,190 +431,324 @@ not-before name [] ys h e found = refl
 not-before name (x ∷ xs) ys h e found =
     by-head name x xs false (past-head name x xs ys h e.0 found) ∙ not-before name xs ys h e.1 found
 
-found : (name : List ℕ) (gs : List Group) (i : ℕ) (g : Group) (place : ℕ) (h : HandlerData)
-    → AreApart (handlers_in gs) → slice_get gs i ≡ Some g → IsNamedAt name g.codes.handlers place h
-    → handler_named name (handlers_in gs) ≡ Some h
-found name [] i g place h a at is = absurd (true≢false (sym (ap is_some at)))
-found name (x ∷ gs) zero g place h a at is =
-    let e : x ≡ g = cc in
-    let there = ap (λ (g : Group). slice_get g.codes.handlers place) e ∙ is.there in
-    let split = part x.codes.handlers (handlers_in gs) a in
-    both name x.codes.handlers (handlers_in gs)
-    ∙ ap (λ o. option_or o (handler_named name (handlers_in gs)))
-    (itself name x.codes.handlers place h split.front there is.its)
-found name (x ∷ gs) (suc i) g place h a at is =
-    let split = part x.codes.handlers (handlers_in gs) a in
-    let rest = found name gs i g place h split.behind at is in
-    both name x.codes.handlers (handlers_in gs)
-    ∙ ap (λ o. option_or o (handler_named name (handlers_in gs)))
-    (not-before name x.codes.handlers (handlers_in gs) h split.between rest)
-    ∙ rest
+-- ---- switched groups
+
+-- a switch changes no handler
+switched-all : (extension : ℕ) (on : Bool) (gs : List Group) → handlers_in (switched extension on gs) ≡ handlers_in gs
+switched-all extension on [] = refl
+switched-all extension on (g ∷ gs) = by (nat_eq g.extension extension) (switched-all extension on gs)
+  where
+    by : (b : Bool) → handlers_in (switched extension on gs) ≡ handlers_in gs
+        → handlers_in (cond b (record g { live = on } ∷ gs) (g ∷ switched extension on gs)) ≡ handlers_in (g ∷ gs)
+    by true rest = refl
+    by false rest = ap (λ hs. g.codes.handlers ++ hs) rest
+
+pub switched_all : (extension : ℕ) (on : Bool) (gs : List Group)
+    → handlers_in (switched extension on gs) ≡ handlers_in gs
+switched_all = switched-all
+
+pub switch_stays : (extension : ℕ) (on : Bool) (gs left : List Group) → AreApart (handlers_in gs)
+    → left ≡ switched extension on gs → AreApart (handlers_in left)
+switch_stays extension on gs left a is =
+    subst AreApart (sym (switched-all extension on gs) ∙ ap handlers_in (sym is)) a
+
+-- ---- handlers that count are distinct
+
+-- no handler has the name of one that counts
+fewer-counted : (counts : Group → Bool) (h : HandlerData) (gs : List Group) → IsApart h (handlers_in gs)
+    → IsApart h (counted_in counts gs)
+fewer-counted counts h [] e = e
+fewer-counted counts h (g ∷ gs) e =
+    let split = sides h g.codes.handlers (handlers_in gs) e in
+    joined h (counted counts g) (counted_in counts gs) (by (counts g) split.0) (fewer-counted counts h gs split.1)
+  where
+    by : (b : Bool) → IsApart h g.codes.handlers → IsApart h (cond b g.codes.handlers [])
+    by true own = own
+    by false own = refl
+
+each-counted : (counts : Group → Bool) (xs : List HandlerData) (gs : List Group) → EachApart xs (handlers_in gs)
+    → EachApart xs (counted_in counts gs)
+each-counted counts [] gs e = tt
+each-counted counts (x ∷ xs) gs e = (fewer-counted counts x gs e.0, each-counted counts xs gs e.1)
+
+counted-apart : (counts : Group → Bool) (gs : List Group) → AreApart (handlers_in gs)
+    → AreApart (counted_in counts gs)
+counted-apart counts [] a = a
+counted-apart counts (g ∷ gs) a =
+    let split = part g.codes.handlers (handlers_in gs) a in
+    by (counts g) split.front (counted-apart counts gs split.behind)
+    (each-counted counts g.codes.handlers gs split.between)
+  where
+    by : (b : Bool) → AreApart g.codes.handlers → AreApart (counted_in counts gs)
+        → EachApart g.codes.handlers (counted_in counts gs)
+        → AreApart (cond b g.codes.handlers [] ++ counted_in counts gs)
+    by true own rest between = join g.codes.handlers (counted_in counts gs) own rest between
+    by false own rest between = rest
+
+pub live_apart : (gs : List Group) → AreApart (handlers_in gs) → AreApart (live_in gs)
+live_apart gs a = counted-apart is_live gs a
+
+-- ---- searches by name
+
+module _ (counts : Group → Bool) where
+  found : (name : List ℕ) (gs : List Group) (i : ℕ) (g : Group) (place : ℕ) (h : HandlerData)
+      → AreApart (counted_in counts gs) → slice_get gs i ≡ Some g → IsNamedAt name (counted counts g) place h
+      → handler_named name (counted_in counts gs) ≡ Some h
+  found name [] i g place h a at is = absurd (true≢false (sym (ap is_some at)))
+  found name (x ∷ gs) zero g place h a at is =
+      let e : x ≡ g = cc in
+      let there = ap (λ (g : Group). slice_get (counted counts g) place) e ∙ is.there in
+      let split = part (counted counts x) (counted_in counts gs) a in
+      both name (counted counts x) (counted_in counts gs)
+      ∙ ap (λ o. option_or o (handler_named name (counted_in counts gs)))
+      (itself name (counted counts x) place h split.front there is.its)
+  found name (x ∷ gs) (suc i) g place h a at is =
+      let split = part (counted counts x) (counted_in counts gs) a in
+      let rest = found name gs i g place h split.behind at is in
+      both name (counted counts x) (counted_in counts gs)
+      ∙ ap (λ o. option_or o (handler_named name (counted_in counts gs)))
+      (not-before name (counted counts x) (counted_in counts gs) h split.between rest)
+      ∙ rest
+
+  -- what is found without an extension's group is found with it
+  before : (extension : ℕ) (gs : List Group) (name : List ℕ) (h : HandlerData) → AreApart (counted_in counts gs)
+      → handler_named name (counted_in counts (without_group extension gs)) ≡ Some h
+      → handler_named name (counted_in counts gs) ≡ Some h
+  before extension [] name h a found = found
+  before extension (g ∷ gs) name h a found =
+      by (nat_eq g.extension extension) refl (before extension gs name h split.behind)
+    where
+      split : Parts (counted counts g) (counted_in counts gs)
+      split = part (counted counts g) (counted_in counts gs) a
+
+      behind : handler_named name (counted_in counts gs) ≡ Some h
+          → handler_named name (counted_in counts (g ∷ gs)) ≡ Some h
+      behind found =
+          both name (counted counts g) (counted_in counts gs)
+          ∙ ap (λ o. option_or o (handler_named name (counted_in counts gs)))
+          (not-before name (counted counts g) (counted_in counts gs) h split.between found)
+          ∙ found
+
+      here : (o : Option HandlerData) → handler_named name (counted counts g) ≡ o
+          → option_or o (handler_named name (counted_in counts (without_group extension gs))) ≡ Some h
+          → (handler_named name (counted_in counts (without_group extension gs)) ≡ Some h
+          → handler_named name (counted_in counts gs) ≡ Some h)
+          → handler_named name (counted_in counts (g ∷ gs)) ≡ Some h
+      here (Some x) is e rest =
+          both name (counted counts g) (counted_in counts gs)
+          ∙ ap (λ o. option_or o (handler_named name (counted_in counts gs))) is ∙ e
+      here None is e rest = behind (rest e)
+
+      by : (b : Bool) → nat_eq g.extension extension ≡ b
+          → (handler_named name (counted_in counts (without_group extension gs)) ≡ Some h
+          → handler_named name (counted_in counts gs) ≡ Some h)
+          → handler_named name (counted_in counts (g ∷ gs)) ≡ Some h
+      by true is rest =
+          behind (sym (ap (λ b. handler_named name (counted_in counts (cond b gs (g ∷ without_group extension gs)))) is)
+          ∙ found)
+      by false is rest =
+          here (handler_named name (counted counts g)) refl
+          (sym (both name (counted counts g) (counted_in counts (without_group extension gs)))
+          ∙ sym (ap (λ b. handler_named name (counted_in counts (cond b gs (g ∷ without_group extension gs)))) is)
+          ∙ found)
+          rest
+
+  -- an extension's group has the name only if one of the extension's handlers has it
+  unnamed : (name : List ℕ) (g : Group) → handler_named name g.codes.handlers ≡ None
+      → handler_named name (counted counts g) ≡ None
+  unnamed name g none = by (counts g)
+    where
+      by : (b : Bool) → handler_named name (cond b g.codes.handlers []) ≡ None
+      by true = none
+      by false = refl
+
+  -- what is found is found without the group of an extension that doesn't have the name
+  after : (extension : ℕ) (gs : List Group) (name : List ℕ) (h : HandlerData)
+      → handler_named name (handlers_of extension gs) ≡ None → handler_named name (counted_in counts gs) ≡ Some h
+      → handler_named name (counted_in counts (without_group extension gs)) ≡ Some h
+  after extension [] name h none found = found
+  after extension (g ∷ gs) name h none found =
+      by (nat_eq g.extension extension) refl (after extension gs name h)
+    where
+      parts : option_or (handler_named name (counted counts g)) (handler_named name (counted_in counts gs)) ≡ Some h
+      parts = sym (both name (counted counts g) (counted_in counts gs)) ∙ found
+
+      here : (o : Option HandlerData) → handler_named name (counted counts g) ≡ o
+          → option_or o (handler_named name (counted_in counts gs)) ≡ Some h
+          → (handler_named name (counted_in counts gs) ≡ Some h
+          → handler_named name (counted_in counts (without_group extension gs)) ≡ Some h)
+          → handler_named name (counted_in counts (g ∷ without_group extension gs)) ≡ Some h
+      here (Some x) is e rest =
+          both name (counted counts g) (counted_in counts (without_group extension gs))
+          ∙ ap (λ o. option_or o (handler_named name (counted_in counts (without_group extension gs)))) is ∙ e
+      here None is e rest =
+          both name (counted counts g) (counted_in counts (without_group extension gs))
+          ∙ ap (λ o. option_or o (handler_named name (counted_in counts (without_group extension gs)))) is ∙ rest e
+
+      by : (b : Bool) → nat_eq g.extension extension ≡ b
+          → (handler_named name (handlers_of extension gs) ≡ None
+          → handler_named name (counted_in counts gs) ≡ Some h
+          → handler_named name (counted_in counts (without_group extension gs)) ≡ Some h)
+          → handler_named name (counted_in counts (without_group extension (g ∷ gs))) ≡ Some h
+      by true is rest =
+          ap (λ b. handler_named name (counted_in counts (cond b gs (g ∷ without_group extension gs)))) is
+          ∙ sym (ap (λ o. option_or o (handler_named name (counted_in counts gs)))
+          (unnamed name g (ap (handler_named name) (sym (own-true extension g gs is)) ∙ none)))
+          ∙ parts
+      by false is rest =
+          ap (λ b. handler_named name (counted_in counts (cond b gs (g ∷ without_group extension gs)))) is
+          ∙ here (handler_named name (counted counts g)) refl parts
+          (rest (ap (handler_named name) (sym (own-false extension g gs is)) ∙ none))
+
+  -- a handler of an extension whose group counts, and which its name finds there, is found
+  whole : (extension : ℕ) (gs : List Group) (name : List ℕ) (h : HandlerData) → AreApart (counted_in counts gs)
+      → option_map_or counts (found_group extension gs) false ≡ true
+      → handler_named name (handlers_of extension gs) ≡ Some h → handler_named name (counted_in counts gs) ≡ Some h
+  whole extension [] name h a on found = found
+  whole extension (g ∷ gs) name h a on found =
+      by (nat_eq g.extension extension) refl on (whole extension gs name h split.behind)
+    where
+      split : Parts (counted counts g) (counted_in counts gs)
+      split = part (counted counts g) (counted_in counts gs) a
+
+      by : (b : Bool) → nat_eq g.extension extension ≡ b
+          → option_map_or counts (cond b (Some g) (found_group extension gs)) false ≡ true
+          → (option_map_or counts (found_group extension gs) false ≡ true
+          → handler_named name (handlers_of extension gs) ≡ Some h → handler_named name (counted_in counts gs) ≡ Some h)
+          → handler_named name (counted_in counts (g ∷ gs)) ≡ Some h
+      by true is on rest =
+          both name (counted counts g) (counted_in counts gs)
+          ∙ ap (λ o. option_or o (handler_named name (counted_in counts gs)))
+          (ap (λ b. handler_named name (cond b g.codes.handlers [])) on
+          ∙ ap (handler_named name) (sym (own-true extension g gs is)) ∙ found)
+      by false is on rest =
+          let later = rest on (ap (handler_named name) (sym (own-false extension g gs is)) ∙ found) in
+          both name (counted counts g) (counted_in counts gs)
+          ∙ ap (λ o. option_or o (handler_named name (counted_in counts gs)))
+          (not-before name (counted counts g) (counted_in counts gs) h split.between later)
+          ∙ later
 
 pub found_here : (name : List ℕ) (gs : List Group) (i : ℕ) (g : Group) (place : ℕ) (r : Option HandlerData)
     → AreApart (handlers_in gs) → slice_get gs i ≡ Some g
-    → IfSome r (λ h. IsNamedAt name g.codes.handlers place h)
-    → IfSome r (λ h. handler_named name (handlers_in gs) ≡ Some h)
+    → IfSome r (λ h. IsNamedAt name (live_of g) place h)
+    → IfSome r (λ h. handler_named name (live_in gs) ≡ Some h)
 found_here name gs i g place None a at is = tt
-found_here name gs i g place (Some h) a at is = found name gs i g place h a at is
+found_here name gs i g place (Some h) a at is = found is_live name gs i g place h (live_apart gs a) at is
 
--- ---- searches by name before and after a change of the groups
-
-own-true : (extension : ℕ) (g : Group) (gs : List Group) → nat_eq g.extension extension ≡ true
-    → handlers_of extension (g ∷ gs) ≡ g.codes.handlers
-own-true extension g gs is =
-    ap (λ b. option_map_or (λ (codes : CodesData). codes.handlers) (option_map (λ (g : Group). g.codes)
-    (cond b (Some g) (find (λ (g : Group). nat_eq g.extension extension) gs))) []) is
-
-own-false : (extension : ℕ) (g : Group) (gs : List Group) → nat_eq g.extension extension ≡ false
-    → handlers_of extension (g ∷ gs) ≡ handlers_of extension gs
-own-false extension g gs is =
-    ap (λ b. option_map_or (λ (codes : CodesData). codes.handlers) (option_map (λ (g : Group). g.codes)
-    (cond b (Some g) (find (λ (g : Group). nat_eq g.extension extension) gs))) []) is
-
--- what is found without an extension's group is found with it
+-- what is found without an extension's group is found with it, among all handlers and among the live ones
 pub found_before : (extension : ℕ) (gs : List Group) (name : List ℕ) (h : HandlerData) → AreApart (handlers_in gs)
     → handler_named name (handlers_in (without_group extension gs)) ≡ Some h
     → handler_named name (handlers_in gs) ≡ Some h
-found_before extension [] name h a found = found
-found_before extension (g ∷ gs) name h a found =
-    by (nat_eq g.extension extension) refl (found_before extension gs name h split.behind)
+found_before extension gs name h a found = before is_all extension gs name h a found
+
+pub live_before : (extension : ℕ) (gs : List Group) (name : List ℕ) (h : HandlerData) → AreApart (handlers_in gs)
+    → handler_named name (live_in (without_group extension gs)) ≡ Some h → handler_named name (live_in gs) ≡ Some h
+live_before extension gs name h a found = before is_live extension gs name h (live_apart gs a) found
+
+-- a live handler is found without the group of an extension that doesn't have its name
+pub live_after : (extension : ℕ) (gs : List Group) (name : List ℕ) (h : HandlerData)
+    → handler_named name (handlers_of extension gs) ≡ None → handler_named name (live_in gs) ≡ Some h
+    → handler_named name (live_in (without_group extension gs)) ≡ Some h
+live_after extension gs name h none found = after is_live extension gs name h none found
+
+-- a handler of an extension that is switched on is found among the live ones
+pub live_whole : (extension : ℕ) (gs : List Group) (name : List ℕ) (h : HandlerData) → AreApart (handlers_in gs)
+    → is_on extension gs ≡ true → handler_named name (handlers_of extension gs) ≡ Some h
+    → handler_named name (live_in gs) ≡ Some h
+live_whole extension gs name h a on found = whole is_live extension gs name h (live_apart gs a) on found
+
+-- a live handler is found among all
+pub live_found : (gs : List Group) (name : List ℕ) (h : HandlerData) → AreApart (handlers_in gs)
+    → handler_named name (live_in gs) ≡ Some h → handler_named name (handlers_in gs) ≡ Some h
+live_found [] name h a found = found
+live_found (g ∷ gs) name h a found =
+    by (handler_named name (live_of g)) refl (sym (both name (live_of g) (live_in gs)) ∙ found)
+    (live_found gs name h split.behind)
   where
     split : Parts g.codes.handlers (handlers_in gs)
     split = part g.codes.handlers (handlers_in gs) a
 
-    behind : handler_named name (handlers_in gs) ≡ Some h → handler_named name (handlers_in (g ∷ gs)) ≡ Some h
-    behind found =
-        both name g.codes.handlers (handlers_in gs)
-        ∙ ap (λ o. option_or o (handler_named name (handlers_in gs)))
-        (not-before name g.codes.handlers (handlers_in gs) h split.between found)
-        ∙ found
+    own : (x : HandlerData) (b : Bool) → handler_named name (cond b g.codes.handlers []) ≡ Some x
+        → handler_named name g.codes.handlers ≡ Some x
+    own x true e = e
+    own x false e = absurd (true≢false (sym (ap is_some e)))
 
-    here : (o : Option HandlerData) → handler_named name g.codes.handlers ≡ o
-        → option_or o (handler_named name (handlers_in (without_group extension gs))) ≡ Some h
-        → (handler_named name (handlers_in (without_group extension gs)) ≡ Some h
-        → handler_named name (handlers_in gs) ≡ Some h) → handler_named name (handlers_in (g ∷ gs)) ≡ Some h
-    here (Some x) is e rest =
-        both name g.codes.handlers (handlers_in gs) ∙ ap (λ o. option_or o (handler_named name (handlers_in gs))) is ∙ e
-    here None is e rest = behind (rest e)
-
-    by : (b : Bool) → nat_eq g.extension extension ≡ b
-        → (handler_named name (handlers_in (without_group extension gs)) ≡ Some h
-        → handler_named name (handlers_in gs) ≡ Some h) → handler_named name (handlers_in (g ∷ gs)) ≡ Some h
-    by true is rest =
-        behind (sym (ap (λ b. handler_named name (handlers_in (cond b gs (g ∷ without_group extension gs)))) is) ∙ found)
-    by false is rest =
-        here (handler_named name g.codes.handlers) refl
-        (sym (both name g.codes.handlers (handlers_in (without_group extension gs)))
-        ∙ sym (ap (λ b. handler_named name (handlers_in (cond b gs (g ∷ without_group extension gs)))) is) ∙ found)
-        rest
-
--- what is found is found without the group of an extension that doesn't have the name
-pub found_after : (extension : ℕ) (gs : List Group) (name : List ℕ) (h : HandlerData)
-    → handler_named name (handlers_of extension gs) ≡ None → handler_named name (handlers_in gs) ≡ Some h
-    → handler_named name (handlers_in (without_group extension gs)) ≡ Some h
-found_after extension [] name h none found = found
-found_after extension (g ∷ gs) name h none found =
-    by (nat_eq g.extension extension) refl (found_after extension gs name h)
-  where
-    parts : option_or (handler_named name g.codes.handlers) (handler_named name (handlers_in gs)) ≡ Some h
-    parts = sym (both name g.codes.handlers (handlers_in gs)) ∙ found
-
-    here : (o : Option HandlerData) → handler_named name g.codes.handlers ≡ o
-        → option_or o (handler_named name (handlers_in gs)) ≡ Some h
-        → (handler_named name (handlers_in gs) ≡ Some h
-        → handler_named name (handlers_in (without_group extension gs)) ≡ Some h)
-        → handler_named name (handlers_in (g ∷ without_group extension gs)) ≡ Some h
-    here (Some x) is e rest =
-        both name g.codes.handlers (handlers_in (without_group extension gs))
-        ∙ ap (λ o. option_or o (handler_named name (handlers_in (without_group extension gs)))) is ∙ e
-    here None is e rest =
-        both name g.codes.handlers (handlers_in (without_group extension gs))
-        ∙ ap (λ o. option_or o (handler_named name (handlers_in (without_group extension gs)))) is ∙ rest e
-
-    by : (b : Bool) → nat_eq g.extension extension ≡ b
-        → (handler_named name (handlers_of extension gs) ≡ None → handler_named name (handlers_in gs) ≡ Some h
-        → handler_named name (handlers_in (without_group extension gs)) ≡ Some h)
-        → handler_named name (handlers_in (without_group extension (g ∷ gs))) ≡ Some h
-    by true is rest =
-        ap (λ b. handler_named name (handlers_in (cond b gs (g ∷ without_group extension gs)))) is
-        ∙ sym (ap (λ o. option_or o (handler_named name (handlers_in gs)))
-        (ap (handler_named name) (sym (own-true extension g gs is)) ∙ none))
-        ∙ parts
-    by false is rest =
-        ap (λ b. handler_named name (handlers_in (cond b gs (g ∷ without_group extension gs)))) is
-        ∙ here (handler_named name g.codes.handlers) refl parts
-        (rest (ap (handler_named name) (sym (own-false extension g gs is)) ∙ none))
-
--- a handler of an extension that its name finds there is found among all
-pub found_whole : (extension : ℕ) (gs : List Group) (name : List ℕ) (h : HandlerData) → AreApart (handlers_in gs)
-    → handler_named name (handlers_of extension gs) ≡ Some h → handler_named name (handlers_in gs) ≡ Some h
-found_whole extension [] name h a found = found
-found_whole extension (g ∷ gs) name h a found =
-    by (nat_eq g.extension extension) refl (found_whole extension gs name h split.behind)
-  where
-    split : Parts g.codes.handlers (handlers_in gs)
-    split = part g.codes.handlers (handlers_in gs) a
-
-    by : (b : Bool) → nat_eq g.extension extension ≡ b
-        → (handler_named name (handlers_of extension gs) ≡ Some h → handler_named name (handlers_in gs) ≡ Some h)
+    by : (o : Option HandlerData) → handler_named name (live_of g) ≡ o
+        → option_or o (handler_named name (live_in gs)) ≡ Some h
+        → (handler_named name (live_in gs) ≡ Some h → handler_named name (handlers_in gs) ≡ Some h)
         → handler_named name (handlers_in (g ∷ gs)) ≡ Some h
-    by true is rest =
+    by (Some x) is e rest =
         both name g.codes.handlers (handlers_in gs)
-        ∙ ap (λ o. option_or o (handler_named name (handlers_in gs)))
-        (ap (handler_named name) (sym (own-true extension g gs is)) ∙ found)
-    by false is rest =
-        let later = rest (ap (handler_named name) (sym (own-false extension g gs is)) ∙ found) in
+        ∙ ap (λ o. option_or o (handler_named name (handlers_in gs))) (own x g.live is) ∙ e
+    by None is e rest =
+        let later = rest e in
         both name g.codes.handlers (handlers_in gs)
         ∙ ap (λ o. option_or o (handler_named name (handlers_in gs)))
         (not-before name g.codes.handlers (handlers_in gs) h split.between later)
         ∙ later
 
--- what is found after an exchange is one of the new handlers, or was found before
+-- what is found after an exchange is one of the new handlers, of an extension that is switched on, or was
+-- found before
 pub found_exchanged : (extension : ℕ) (codes : CodesData) (gs : List Group)
     → same_face (handlers_of extension gs) codes.handlers ≡ true → (name : List ℕ) (h : HandlerData)
-    → handler_named name (handlers_in (exchanged extension codes gs)) ≡ Some h
-    → (handler_named name codes.handlers ≡ Some h) ⊎ (handler_named name (handlers_in gs) ≡ Some h)
+    → handler_named name (live_in (exchanged extension codes gs)) ≡ Some h
+    → ((is_on extension gs ≡ true) × (handler_named name codes.handlers ≡ Some h))
+    ⊎ (handler_named name (live_in gs) ≡ Some h)
 found_exchanged extension codes [] same name h found = inr found
 found_exchanged extension codes (g ∷ gs) same name h found =
     by (nat_eq g.extension extension) refl (λ alike. found_exchanged extension codes gs alike name h)
   where
-    new : (o : Option HandlerData) → handler_named name codes.handlers ≡ o
-        → declared_among g.codes.handlers name ≡ declared_among codes.handlers name
-        → option_or o (handler_named name (handlers_in gs)) ≡ Some h
-        → (handler_named name codes.handlers ≡ Some h) ⊎ (handler_named name (handlers_in (g ∷ gs)) ≡ Some h)
-    new (Some x) is alike e = inl (is ∙ e)
-    new None is alike e =
-        let none = undeclared g.codes.handlers name (alike ∙ none-declared codes.handlers name is) in
-        inr (both name g.codes.handlers (handlers_in gs)
-        ∙ ap (λ o. option_or o (handler_named name (handlers_in gs))) none ∙ e)
+    switch : (b : Bool) → nat_eq g.extension extension ≡ b
+        → is_on extension (g ∷ gs) ≡ option_map_or (λ (g : Group). g.live) (cond b (Some g) (found_group extension gs)) false
+    switch b is = ap (λ b. option_map_or (λ (g : Group). g.live) (cond b (Some g) (found_group extension gs)) false) is
 
-    old : (o : Option HandlerData) → handler_named name g.codes.handlers ≡ o
-        → option_or o (handler_named name (handlers_in (exchanged extension codes gs))) ≡ Some h
-        → (handler_named name (handlers_in (exchanged extension codes gs)) ≡ Some h
-        → (handler_named name codes.handlers ≡ Some h) ⊎ (handler_named name (handlers_in gs) ≡ Some h))
-        → (handler_named name codes.handlers ≡ Some h) ⊎ (handler_named name (handlers_in (g ∷ gs)) ≡ Some h)
-    old (Some x) is e rest =
-        inr (both name g.codes.handlers (handlers_in gs)
-        ∙ ap (λ o. option_or o (handler_named name (handlers_in gs))) is ∙ e)
-    old None is e rest = ⊎_elim (λ n. inl n)
-        (λ b. inr (both name g.codes.handlers (handlers_in gs)
-        ∙ ap (λ o. option_or o (handler_named name (handlers_in gs))) is ∙ b)) (rest e)
+    behind : handler_named name (live_of g) ≡ None → handler_named name (live_in gs) ≡ Some h
+        → handler_named name (live_in (g ∷ gs)) ≡ Some h
+    behind none e =
+        both name (live_of g) (live_in gs) ∙ ap (λ o. option_or o (handler_named name (live_in gs))) none ∙ e
+
+    new : (on : Bool) → g.live ≡ on → (o : Option HandlerData) → handler_named name (cond on codes.handlers []) ≡ o
+        → nat_eq g.extension extension ≡ true
+        → declared_among g.codes.handlers name ≡ declared_among codes.handlers name
+        → option_or o (handler_named name (live_in gs)) ≡ Some h
+        → ((is_on extension (g ∷ gs) ≡ true) × (handler_named name codes.handlers ≡ Some h))
+        ⊎ (handler_named name (live_in (g ∷ gs)) ≡ Some h)
+    new true on (Some x) is same alike e = inl (switch true same ∙ on, is ∙ e)
+    new true on None is same alike e =
+        let none = undeclared g.codes.handlers name (alike ∙ none-declared codes.handlers name is) in
+        inr (behind (unnamed is_live name g none) e)
+    new false off (Some x) is same alike e = absurd (true≢false (sym (ap is_some is)))
+    new false off None is same alike e =
+        inr (behind (ap (λ b. handler_named name (cond b g.codes.handlers [])) off) e)
+
+    old : (o : Option HandlerData) → handler_named name (live_of g) ≡ o → nat_eq g.extension extension ≡ false
+        → option_or o (handler_named name (live_in (exchanged extension codes gs))) ≡ Some h
+        → (handler_named name (live_in (exchanged extension codes gs)) ≡ Some h
+        → ((is_on extension gs ≡ true) × (handler_named name codes.handlers ≡ Some h))
+        ⊎ (handler_named name (live_in gs) ≡ Some h))
+        → ((is_on extension (g ∷ gs) ≡ true) × (handler_named name codes.handlers ≡ Some h))
+        ⊎ (handler_named name (live_in (g ∷ gs)) ≡ Some h)
+    old (Some x) is other e rest =
+        inr (both name (live_of g) (live_in gs) ∙ ap (λ o. option_or o (handler_named name (live_in gs))) is ∙ e)
+    old None is other e rest = ⊎_elim (λ n. inl (switch false other ∙ n.0, n.1)) (λ b. inr (behind is b)) (rest e)
 
     by : (b : Bool) → nat_eq g.extension extension ≡ b
         → (same_face (handlers_of extension gs) codes.handlers ≡ true
-        → handler_named name (handlers_in (exchanged extension codes gs)) ≡ Some h
-        → (handler_named name codes.handlers ≡ Some h) ⊎ (handler_named name (handlers_in gs) ≡ Some h))
-        → (handler_named name codes.handlers ≡ Some h) ⊎ (handler_named name (handlers_in (g ∷ gs)) ≡ Some h)
+        → handler_named name (live_in (exchanged extension codes gs)) ≡ Some h
+        → ((is_on extension gs ≡ true) × (handler_named name codes.handlers ≡ Some h))
+        ⊎ (handler_named name (live_in gs) ≡ Some h))
+        → ((is_on extension (g ∷ gs) ≡ true) × (handler_named name codes.handlers ≡ Some h))
+        ⊎ (handler_named name (live_in (g ∷ gs)) ≡ Some h)
     by true is rest =
         let alike = (face-parts g.codes.handlers codes.handlers
         (ap (λ hs. same_face hs codes.handlers) (sym (own-true extension g gs is)) ∙ same)).1 name in
-        new (handler_named name codes.handlers) refl alike
-        (sym (both name codes.handlers (handlers_in gs))
-        ∙ sym (ap (λ b. handler_named name (handlers_in (cond b (record { extension = g.extension; codes = codes } ∷ gs)
+        new g.live refl (handler_named name (cond g.live codes.handlers [])) refl is alike
+        (sym (both name (cond g.live codes.handlers []) (live_in gs))
+        ∙ sym (ap (λ b. handler_named name (live_in (cond b (record g { codes = codes } ∷ gs)
         (g ∷ exchanged extension codes gs)))) is) ∙ found)
     by false is rest =
-        old (handler_named name g.codes.handlers) refl
-        (sym (both name g.codes.handlers (handlers_in (exchanged extension codes gs)))
-        ∙ sym (ap (λ b. handler_named name (handlers_in (cond b (record { extension = g.extension; codes = codes } ∷ gs)
+        old (handler_named name (live_of g)) refl is
+        (sym (both name (live_of g) (live_in (exchanged extension codes gs)))
+        ∙ sym (ap (λ b. handler_named name (live_in (cond b (record g { codes = codes } ∷ gs)
         (g ∷ exchanged extension codes gs)))) is) ∙ found)
         (rest (ap (λ hs. same_face hs codes.handlers) (sym (own-false extension g gs is)) ∙ same))

@@ -1,5 +1,5 @@
 -- The live handlers, as contracts see them.
-use Rattle.std.specs.Prelude.{ℕ, Bool, false, List, [], ◌∷◌, ◌++◌, find, Option, Some, None, is_some}
+use Rattle.std.specs.Prelude.{ℕ, Bool, true, false, List, [], ◌∷◌, ◌++◌, find, Option, Some, None, is_some}
 use Rattle.std.specs.Prelude.{if◌then◌else◌, nat_eq, nat_lt, bytes_eq, codes, ◌||◌, get_or, option_map}
 use Rattle.std.specs.Prelude.{slice_get}
 use Rattle.std.specs.List.{list_any, flat_map}
@@ -14,14 +14,27 @@ use Rattle.kb_handler_table.specs.Codes.{CodesData, checked_in}
 use Rattle.kb_handler_table.specs.declared.fault.CodesFault.{CodesFault}
 use Rattle.kb_handler_table.specs.declared.fault.CodesFault.TheVariants.{AlreadyExists}
 
--- the live code of an extension; extensions are numbered in load order, from 0
+-- the code of an extension, and whether its handlers are live; extensions are numbered in load order, from 0
 pub record Group : Type 0 where
   pub extension : ℕ
   pub codes : CodesData
+  pub live : Bool
 
--- all live handlers, in load and file order
+-- the code of an extension, with live handlers
+abbrev pub live_group : ℕ → CodesData → Group
+live_group extension codes = record { extension = extension; codes = codes; live = true }
+
+-- all handlers, live or not, in load and file order
 abbrev pub handlers_in : List Group → List HandlerData
 handlers_in groups = flat_map (λ g. g.codes.handlers) groups
+
+-- the live handlers of a group: all, or none
+abbrev pub live_of : Group → List HandlerData
+live_of g = if g.live then g.codes.handlers else []
+
+-- all live handlers, in load and file order
+abbrev pub live_in : List Group → List HandlerData
+live_in groups = flat_map live_of groups
 
 -- names that no handler may have: those of the native commands, and `runCommands`
 abbrev pub is_reserved : List ℕ → Bool
@@ -36,14 +49,22 @@ abbrev pub has_taken : List HandlerData → List HandlerData → Bool
 has_taken above [] = false
 has_taken above (h ∷ hs) = is_taken above h || has_taken (above ++ h ∷ []) hs
 
--- the fault of adding handlers beside the groups, if there is one
+-- the fault of adding handlers beside the groups, if there is one; handlers that aren't live keep their names
 abbrev pub codes_fault : List HandlerData → List Group → Option CodesFault
 codes_fault handlers groups =
     if has_taken (handlers_in groups) handlers then Some AlreadyExists else None
 
--- the code of an extension, if it has a group
+-- the group of an extension, if it has one
+abbrev pub found_group : ℕ → List Group → Option Group
+found_group extension groups = find (λ g. nat_eq g.extension extension) groups
+
+-- the code of an extension, live or not, if it has a group
 abbrev pub group_of : ℕ → List Group → Option CodesData
-group_of extension groups = option_map (λ g. g.codes) (find (λ g. nat_eq g.extension extension) groups)
+group_of extension groups = option_map (λ g. g.codes) (found_group extension groups)
+
+-- whether the handlers of an extension are live
+abbrev pub is_on : ℕ → List Group → Bool
+is_on extension groups = option_map_or (λ g. g.live) (found_group extension groups) false
 
 -- the handlers of an extension's group; none if it has no group
 abbrev pub handlers_of : ℕ → List Group → List HandlerData
@@ -54,21 +75,28 @@ abbrev pub with_group : Group → List Group → List Group
 with_group new [] = new ∷ []
 with_group new (g ∷ gs) = if nat_lt new.extension g.extension then new ∷ g ∷ gs else g ∷ with_group new gs
 
--- the groups with the code of an extension
+-- the groups with the code of an extension, whose handlers are live
 abbrev pub with_codes : ℕ → CodesData → List Group → List Group
-with_codes extension codes groups = with_group (record { extension = extension; codes = codes }) groups
+with_codes extension codes groups = with_group (live_group extension codes) groups
 
 -- the groups without that of an extension
 abbrev pub without_group : ℕ → List Group → List Group
 without_group extension [] = []
 without_group extension (g ∷ gs) = if nat_eq g.extension extension then gs else g ∷ without_group extension gs
 
--- the groups with other code for an extension, if it has a group
+-- the groups with a change of that of an extension, if it has one
+abbrev pub changed : (Group → Group) → ℕ → List Group → List Group
+changed change extension [] = []
+changed change extension (g ∷ gs) =
+    if nat_eq g.extension extension then change g ∷ gs else g ∷ changed change extension gs
+
+-- other code for an extension; its handlers are live if those before were
 abbrev pub exchanged : ℕ → CodesData → List Group → List Group
-exchanged extension codes [] = []
-exchanged extension codes (g ∷ gs) =
-    if nat_eq g.extension extension then record { extension = g.extension; codes = codes } ∷ gs
-    else g ∷ exchanged extension codes gs
+exchanged extension codes groups = changed (λ g. record g { codes = codes }) extension groups
+
+-- the handlers of an extension are live from now on, or aren't
+abbrev pub switched : ℕ → Bool → List Group → List Group
+switched extension live groups = changed (λ g. record g { live = live }) extension groups
 
 -- whether two natives are equal, as `==` decides it
 abbrev pub same_native : Native → Native → Bool
@@ -85,7 +113,7 @@ calls_native native h = list_any (λ n. is_it native (get_or (natives_of h) n No
 
 -- the first live handler, in load and file order, that calls the native
 abbrev pub caller_of : Native → List Group → Option HandlerData
-caller_of native groups = find (calls_native native) (handlers_in groups)
+caller_of native groups = find (calls_native native) (live_in groups)
 
 -- whether a name is that of one of the handlers
 abbrev pub names_one : List HandlerData → Option (List ℕ) → Bool
@@ -97,10 +125,13 @@ abbrev pub calls_one : List HandlerData → HandlerData → Bool
 calls_one own h = list_any (λ n. names_one own (slice_get h.calls n)) (callees_of h)
 
 -- all live handlers of verified code, in load and file order
-abbrev pub checked_handlers : List Group → List HandlerData
-checked_handlers groups = flat_map (λ g. checked_in g.codes) groups
+abbrev pub checked_live : Group → List HandlerData
+checked_live g = if g.live then checked_in g.codes else []
 
--- the first verified handler of the other groups that calls a handler of the extension's
+abbrev pub checked_handlers : List Group → List HandlerData
+checked_handlers groups = flat_map checked_live groups
+
+-- the first live verified handler of the other groups that calls a handler of the extension's
 abbrev pub user_of : ℕ → List Group → Option HandlerData
 user_of extension groups =
     find (calls_one (handlers_of extension groups)) (checked_handlers (without_group extension groups))

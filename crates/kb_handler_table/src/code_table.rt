@@ -1,6 +1,6 @@
-//! The table of live handlers, by extension and by name.
+//! The table of handlers, by extension and by name.
 ghost use Rattle.std.specs.Prelude.{◌≡◌, ◌≤◌, ◌||◌, ◌++◌, ◌∷◌, [], Some, None, OnOk, OnErr, IfOk};
-ghost use Rattle.std.specs.Prelude.{IfErr, IfSome, IsSome, option_copied, is_some, length, take, drop, find};
+ghost use Rattle.std.specs.Prelude.{IfErr, IfSome, option_copied, is_some, length, take, drop, find};
 ghost use Rattle.std.specs.Prelude.{true};
 ghost use Rattle.kb_code.specs.Face.{same_face};
 ghost use Rattle.std.specs.List.{AllZip};
@@ -9,7 +9,8 @@ ghost use Rattle.kb_handler_table.specs.Group.{IsGroup, FindsFirst, is_kept};
 ghost use Rattle.kb_handler_table.specs.Live.{handlers_in, is_reserved, codes_fault};
 ghost use Rattle.kb_code.specs.Handler.{handler_named};
 ghost use Rattle.kb_handler_table.specs.Live.{group_of, with_group, without_group, caller_of, user_of};
-ghost use Rattle.kb_handler_table.specs.Live.{calls_one, checked_handlers, exchanged, handlers_of};
+ghost use Rattle.kb_handler_table.specs.Live.{calls_one, checked_handlers, exchanged, handlers_of, live_group};
+ghost use Rattle.kb_handler_table.specs.Live.{live_in, switched};
 ghost use Rattle.kb_handler_table.specs.Live.{Group as GroupData};
 ghost use Rattle.kb_handler_table.specs.Place.{IsPlaceOf};
 ghost use Rattle.kb_base.specs.declared.failure.Failure.TheVariants as failure;
@@ -24,10 +25,10 @@ use kb_code::{Handler, Linked, Spot};
 use kb_core::Native;
 use std::alloc::Global;
 use std::marker::Model;
-use std::mem;
 
-/// The live handlers, by extension and by name. Names are unique. Contracts see the groups of the
-/// extensions in load order, each with its handlers.
+/// The handlers, by extension and by name. Those of an extension are live unless they are switched off. Names
+/// are unique, also of handlers that aren't live. Contracts see the groups of the extensions in load order,
+/// each with its handlers.
 #[derive(Drop)]
 pub struct CodeTable {
     alloc: Global,
@@ -58,12 +59,12 @@ impl CodeTable {
     }
 
     /// The live handler with a name, with its call targets, or `None`.
-    #[tactic(auto, using(crate::proofs::Groups::passed, crate::proofs::Groups::met))]
+    #[tactic(auto, using(crate::proofs::Groups::live_passed, crate::proofs::Groups::live_met))]
     pub fn linked(&self, name: &str) -> Option<Linked<'_>>
-        ensures { result ≡ handler_named name.now (handlers_in self.now) }
+        ensures { result ≡ handler_named name.now (live_in self.now) }
     {
         for group in self.groups.as_slice() {
-            match group.linked(name) {
+            match group.live_linked(name) {
                 Some(linked) => return Some(linked),
                 None => continue,
             }
@@ -74,7 +75,7 @@ impl CodeTable {
     /// The live handler with a name, with its call targets, or `None`. If the handler at `spot` has the
     /// name, it is returned without a look-up; otherwise the handler is looked up by name.
     pub fn linked_near(&self, name: &str, spot: Option<Spot>) -> Option<Linked<'_>>
-        ensures { result ≡ handler_named name.now (handlers_in self.now) }
+        ensures { result ≡ handler_named name.now (live_in self.now) }
     {
         match self.linked_at(name, spot) {
             Some(linked) => Some(linked),
@@ -84,7 +85,7 @@ impl CodeTable {
 
     /// The live handler at a spot, if it has the name.
     fn linked_at(&self, name: &str, spot: Option<Spot>) -> Option<Linked<'_>>
-        ensures { IfSome result (λ h. handler_named name.now (handlers_in self.now) ≡ Some h) }
+        ensures { IfSome result (λ h. handler_named name.now (live_in self.now) ≡ Some h) }
     {
         let spot = spot?;
         let place = near(self.groups.as_slice(), spot.extension);
@@ -96,7 +97,7 @@ impl CodeTable {
 
     /// The live handler with a name, or `None`.
     pub fn handler(&self, name: &str) -> Option<&Handler>
-        ensures { option_copied result ≡ handler_named name.now (handlers_in self.now) }
+        ensures { option_copied result ≡ handler_named name.now (live_in self.now) }
     {
         match self.linked(name) {
             Some(linked) => Some(linked.handler()),
@@ -105,7 +106,7 @@ impl CodeTable {
     }
 
     /// The first live handler, in load and file order, that calls the native command, or `None`.
-    #[tactic(auto, using(crate::proofs::Groups::passed, crate::proofs::Groups::met))]
+    #[tactic(auto, using(crate::proofs::Groups::live_passed, crate::proofs::Groups::live_met))]
     pub fn caller_of(&self, native: Native) -> Option<&Handler>
         ensures { option_copied result ≡ caller_of native self.now }
     {
@@ -135,14 +136,14 @@ impl CodeTable {
     }
 
     /// Prepares the code of an extension for `put`. On an error the code is returned: `AlreadyExists`
-    /// (70) if a handler has a name that is taken, `NoMemory` only if none has.
+    /// (70) if a handler has a name that is taken, also by one that isn't live; `NoMemory` only if none has.
     pub fn prepare(
         &self,
         extension: u32,
         codes: Codes,
     ) -> Result<Group, (Codes, Failure<CodesFault>)>
         ensures free { OnOk result (codes_fault codes.handlers self.now ≡ None) }
-        ensures ok { IfOk result (λ group. group ≡ record { extension = extension; codes = codes }) }
+        ensures ok { IfOk result (λ group. group ≡ live_group extension codes) }
         ensures why { IfErr result (λ e. IsRefusalOrMemory (codes_fault codes.handlers self.now) e.1) }
         ensures back { IfErr result (λ e. e.0 ≡ codes) }
     {
@@ -156,8 +157,8 @@ impl CodeTable {
         }
     }
 
-    /// Adds a prepared group to the live handlers. On refused memory the code is returned and the table
-    /// is unchanged.
+    /// Adds a prepared group, whose handlers are live then. On refused memory the code is returned and the
+    /// table is unchanged.
     #[tactic(auto, using(crate::proofs::Apart::put_stays))]
     pub fn put(&mut self, group: Group) -> Result<(), Codes>
         requires { codes_fault group.codes.handlers self.old ≡ None }
@@ -174,7 +175,7 @@ impl CodeTable {
 
     /// Prepares other code of an extension for `exchange`. On refused memory the code is returned.
     pub fn prepare_exchange(&self, extension: u32, codes: Codes) -> Result<Group, Codes>
-        ensures ok { IfOk result (λ group. group ≡ record { extension = extension; codes = codes }) }
+        ensures ok { IfOk result (λ group. group ≡ live_group extension codes) }
         ensures back { IfErr result (λ back. back ≡ codes) }
     {
         match self.resolved_alone(extension, codes.handlers()) {
@@ -183,21 +184,31 @@ impl CodeTable {
         }
     }
 
-    /// Puts a prepared group in the place of the extension's group, and returns the code that was there. Both
-    /// declare the same commands. It takes no memory.
-    pub fn exchange(&mut self, group: Group) -> Codes
-        requires held { IsSome (group_of group.extension self.old) }
-        requires face { same_face (handlers_of group.extension self.old) group.codes.handlers ≡ true }
-        ensures codes { group_of group.extension self.old ≡ Some result }
+    /// Puts the code of a prepared group in the place of the extension's code, and returns that, or `None` if the
+    /// extension has no group in the table; then nothing changes. Both declare the same commands. The handlers
+    /// stay live, or not live. It takes no memory.
+    pub fn exchange(&mut self, group: Group) -> Option<Codes>
+        requires { same_face (handlers_of group.extension self.old) group.codes.handlers ≡ true }
+        ensures codes { result ≡ group_of group.extension self.old }
         ensures table { self.new ≡ exchanged group.extension group.codes self.old }
     {
         match place_of(self.groups.as_slice(), group.extension()) {
-            Some(place) => mem::replace(&mut self.groups[place], group).into_codes(),
-            None => unreachable!(),
+            Some(place) => Some(self.groups[place].take_code(group)),
+            None => None,
         }
     }
 
-    /// The code of an extension, or `None` if it has no group in the table.
+    /// Makes the handlers of an extension live, or not live. Nothing changes if it has no group in the table.
+    pub fn switch(&mut self, extension: u32, live: bool)
+        ensures { self.new ≡ switched extension live self.old }
+    {
+        match place_of(self.groups.as_slice(), extension) {
+            Some(place) => self.groups[place].switch(live),
+            None => {}
+        }
+    }
+
+    /// The code of an extension, live or not, or `None` if it has no group in the table.
     pub fn codes(&self, extension: u32) -> Option<&Codes>
         ensures { option_copied result ≡ group_of extension self.now }
     {
@@ -207,7 +218,8 @@ impl CodeTable {
         }
     }
 
-    /// The handlers of an extension, in file order. There are none if it has no group in the table.
+    /// The handlers of an extension, live or not, in file order. There are none if it has no group in the
+    /// table.
     pub fn handlers(&self, extension: u32) -> &[Handler]
         ensures { result.now ≡ handlers_of extension self.now }
     {
@@ -229,11 +241,25 @@ impl CodeTable {
         }
     }
 
-    /// Whether a name is reserved or already used by a live handler.
+    /// Whether a name is reserved or already used by a handler, live or not.
     fn has(&self, name: &str) -> bool
         ensures { result ≡ (is_reserved name.now || is_some (handler_named name.now (handlers_in self.now))) }
     {
-        Native::named(name).is_some() || name == "runCommands" || self.linked(name).is_some()
+        Native::named(name).is_some() || name == "runCommands" || self.any_linked(name).is_some()
+    }
+
+    /// The handler with a name, live or not, with its call targets, or `None`.
+    #[tactic(auto, using(crate::proofs::Groups::passed, crate::proofs::Groups::met))]
+    fn any_linked(&self, name: &str) -> Option<Linked<'_>>
+        ensures { result ≡ handler_named name.now (handlers_in self.now) }
+    {
+        for group in self.groups.as_slice() {
+            match group.linked(name) {
+                Some(linked) => return Some(linked),
+                None => continue,
+            }
+        }
+        None
     }
 
     /// The data that is resolved once for a group: the links of its handlers, and their places by name.

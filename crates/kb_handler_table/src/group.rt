@@ -1,11 +1,12 @@
 //! The code of an extension, with the data that is resolved once for it.
-ghost use Rattle.std.specs.Prelude.{◌≡◌, IfOk, IfSome, find, length, slice_get, option_copied, option_map};
-ghost use Rattle.std.specs.Prelude.{map};
+ghost use Rattle.std.specs.Prelude.{◌≡◌, IfOk, IfSome, find, length, slice_get, option_copied};
+ghost use Rattle.std.specs.Prelude.{map, option_map};
 ghost use Rattle.std.specs.List.{AllZip, list_any};
 ghost use Rattle.kb_handler_table.specs.Group.{IsGroup, IsNamedAt};
 ghost use Rattle.kb_handler_table.specs.Links.{AreLinks};
 ghost use Rattle.kb_handler_table.specs.Codes.{checked_in};
-ghost use Rattle.kb_handler_table.specs.Live.{calls_native, calls_one, names_one};
+ghost use Rattle.kb_handler_table.specs.Live.{calls_native, calls_one, checked_live, live_group, live_of};
+ghost use Rattle.kb_handler_table.specs.Live.{names_one};
 ghost use Rattle.kb_verify.specs.Accepted.{EachChecked};
 ghost use Rattle.kb_code.specs.Handler.{handler_named};
 
@@ -18,18 +19,20 @@ use kb_core::{Native, Signature};
 use kb_verify::Callee;
 use std::alloc::Global;
 use std::marker::Model;
+use std::mem;
 
-/// The code of an extension, with the extension's number in load order, prepared to be added to the
-/// live handlers. Contracts see both.
+/// The code of an extension, with the extension's number in load order, and whether its handlers are live.
+/// Contracts see all three.
 #[derive(Drop)]
 pub struct Group {
     extension: u32,
     codes: Codes,
+    live: bool,
     links: Seq<Links>,
     names: Names,
 }
 
-/// The handlers among which names are resolved: the live ones, and those of the extension that is about
+/// The handlers among which names are resolved: those of the groups, and those of the extension that is about
 /// to be added.
 #[derive(Drop)]
 pub(crate) struct Around<'a> {
@@ -39,8 +42,8 @@ pub(crate) struct Around<'a> {
 }
 
 impl<'a> Around<'a> {
-    /// The spot of the handler with a name, first among the extension's own handlers, then among the
-    /// live ones. It is only a hint: no contract depends on it.
+    /// The spot of the handler with a name, first among the extension's own handlers, then among those of
+    /// the groups. It is only a hint: no contract depends on it.
     pub(crate) fn spot(&self, name: &str) -> Option<Spot> {
         if let Some(place) = self.names.place(name) {
             return Some(Spot {
@@ -63,20 +66,21 @@ impl Model for Group {
 
     ghost Value = { GroupData };
 
-    ghost view = { λ g. record { extension = g.extension; codes = g.codes } };
+    ghost view = { λ g. record { extension = g.extension; codes = g.codes; live = g.live } };
 
     ghost invariant = { λ g. IsGroup g.names g.links g.codes.handlers };
 }
 
 impl Group {
-    /// A group, with the links and names of its handlers.
+    /// A group of live handlers, with their links and names.
     pub(crate) fn new(extension: u32, codes: Codes, links: Seq<Links>, names: Names) -> Group
         requires { IsGroup names links codes.handlers }
-        ensures { result ≡ record { extension = extension; codes = codes } }
+        ensures { result ≡ live_group extension codes }
     {
         Group {
             extension,
             codes,
+            live: true,
             links,
             names,
         }
@@ -104,7 +108,37 @@ impl Group {
         codes
     }
 
-    /// The handler with a name, with its links.
+    /// Makes the handlers live, or not live.
+    pub(crate) fn switch(&mut self, live: bool)
+        ensures { self.new ≡ record self.old { live = live } }
+    {
+        self.live = live;
+    }
+
+    /// Takes the code of another group, and returns its own. Its handlers stay live, or not live.
+    pub(crate) fn take_code(&mut self, other: Group) -> Codes
+        ensures codes { result ≡ self.old.codes }
+        ensures group { self.new ≡ record self.old { codes = other.codes } }
+    {
+        let Group {
+            codes,
+            links,
+            names,
+            ..
+        } = other;
+        self.links = links;
+        self.names = names;
+        mem::replace(&mut self.codes, codes)
+    }
+
+    /// The live handler with a name, with its links.
+    pub(crate) fn live_linked(&self, name: &str) -> Option<Linked<'_>>
+        ensures { result ≡ handler_named name.now (live_of self.now) }
+    {
+        if self.live { self.linked(name) } else { None }
+    }
+
+    /// The handler with a name, live or not, with its links.
     pub(crate) fn linked(&self, name: &str) -> Option<Linked<'_>>
         ensures { result ≡ handler_named name.now self.now.codes.handlers }
     {
@@ -114,10 +148,13 @@ impl Group {
         }
     }
 
-    /// The handler at a place, with its links, if it has the name.
+    /// The handler at a place, with its links, if it is live and has the name.
     pub(crate) fn named_at(&self, place: usize, name: &str) -> Option<Linked<'_>>
-        ensures { IfSome result (λ h. IsNamedAt name.now self.now.codes.handlers place h) }
+        ensures { IfSome result (λ h. IsNamedAt name.now (live_of self.now) place h) }
     {
+        if !self.live {
+            return None;
+        }
         match linked_at(self.codes.handlers(), self.links.as_slice(), place) {
             Some(linked) if linked.handler().command().as_str() == name => Some(linked),
             _ => None,
@@ -156,22 +193,32 @@ impl Group {
         }
     }
 
-    /// The first handler that calls a handler of `own`, if the code was verified.
+    /// The first live handler that calls a handler of `own`, if the code was verified.
     pub(crate) fn user_of(&self, own: &Group) -> Option<&Handler>
-        ensures { option_copied result
-            ≡ find (calls_one own.now.codes.handlers) (checked_in self.now.codes) }
+        ensures { option_copied result ≡ find (calls_one own.now.codes.handlers) (checked_live self.now) }
     {
-        match self.codes.callees() {
-            Some(callees) => user_in(own, self.codes.handlers(), callees),
-            None => None,
-        }
+        if self.live { user_among(own, &self.codes) } else { None }
     }
 
-    /// The first handler that calls the native command.
+    /// The first live handler that calls the native command.
     pub(crate) fn caller_of(&self, native: Native) -> Option<&Handler>
-        ensures { option_copied result ≡ find (calls_native native) self.now.codes.handlers }
+        ensures { option_copied result ≡ find (calls_native native) (live_of self.now) }
     {
-        caller_in(self.codes.handlers(), self.links.as_slice(), native)
+        if self.live {
+            caller_in(self.codes.handlers(), self.links.as_slice(), native)
+        } else {
+            None
+        }
+    }
+}
+
+/// The first handler of the code that calls a handler of `own`, if the code was verified.
+fn user_among<'a>(own: &Group, codes: &'a Codes) -> Option<&'a Handler>
+    ensures { option_copied result ≡ find (calls_one own.now.codes.handlers) (checked_in codes.now) }
+{
+    match codes.callees() {
+        Some(callees) => user_in(own, codes.handlers(), callees),
+        None => None,
     }
 }
 

@@ -6,7 +6,7 @@ use Rattle.kb_core.specs.declared.native.Native.{Native}
 use Rattle.kb_core.specs.Native.{named}
 use Rattle.kb_code.specs.Handler.{HandlerData, handler_named}
 use Rattle.kb_code.specs.Commands.{Callee, Plain, Coded, IsLive}
-use Rattle.kb_handler_table.specs.Live.{handlers_in}
+use Rattle.kb_handler_table.specs.Live.{live_in}
 use Rattle.kb_registry.specs.Live.{Live, is_live, callee_by, table_of}
 
 -- the native of a callee
@@ -31,7 +31,7 @@ closure_by live n native false is e = absurd (true≢false (sym (ap is_some e)))
 
 live_by : (live : Live) (name : List ℕ) (o : Option Native) (native : Native)
     → callee_by o name live ≡ Some (Plain native) → is_live native live ≡ true
-live_by live name None native e = absurd (no_handler (handler_named name (handlers_in live.code)) native e)
+live_by live name None native e = absurd (no_handler (handler_named name (live_in live.code)) native e)
 live_by live name (Some n) native e = closure_by live n native (is_live n live) refl e
 
 pub live_where_called : (live : Live) (native : Native) → IsLive (table_of live) native → is_live native live ≡ true

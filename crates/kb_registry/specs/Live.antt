@@ -6,9 +6,9 @@ use Rattle.kb_core.specs.declared.native.Native.{Native}
 use Rattle.kb_core.specs.Native.{named}
 use Rattle.kb_code.specs.Commands.{Callee, Plain, Coded, Table}
 use Rattle.kb_handler_table.specs.Codes.{CodesData}
-use Rattle.kb_handler_table.specs.Live.{Group, handlers_in, caller_of, with_codes}
+use Rattle.kb_handler_table.specs.Live.{Group, live_in, caller_of, with_codes}
 use Rattle.kb_code.specs.Handler.{handler_named}
-use Rattle.kb_handler_table.specs.Live.{without_group, exchanged, same_native}
+use Rattle.kb_handler_table.specs.Live.{without_group, exchanged, switched, same_native}
 use Rattle.kb_registry.specs.declared.fault.RegistryFault.{RegistryFault}
 use Rattle.kb_registry.specs.declared.fault.RegistryFault.TheVariants.{AlreadyExists, Exhausted, StaleTicket}
 use Rattle.kb_registry.specs.declared.fault.RegistryFault.TheVariants.{InUse}
@@ -19,7 +19,7 @@ pub record Registered : Type 0 where
   pub ticket : ℕ
 
 -- the limit of registrations, their number so far, the registered closures in order of registration,
--- and the live handlers in load and file order
+-- and the code of extensions in load order, whose handlers are live or not
 pub record Live : Type 0 where
   pub limit : ℕ
   pub made : ℕ
@@ -92,7 +92,7 @@ disposal_fault ticket live = disposal_fault_of (holder ticket live) live
 -- with a registered closure, or a live handler; no handler has the identifier of a native
 abbrev pub callee_by : Option Native → List ℕ → Live → Option Callee
 callee_by (Some native) identifier live = option_map Plain (where_live (Some native) live)
-callee_by None identifier live = option_map Coded (handler_named identifier (handlers_in live.code))
+callee_by None identifier live = option_map Coded (handler_named identifier (live_in live.code))
 
 abbrev pub callee : List ℕ → Live → Option Callee
 callee identifier live = callee_by (named identifier) identifier live
@@ -101,7 +101,7 @@ callee identifier live = callee_by (named identifier) identifier live
 abbrev pub table_of : Live → Table
 table_of live = λ identifier. callee identifier live
 
--- the registry with an extension's code
+-- the registry with an extension's code, whose handlers are live
 abbrev pub with_code : ℕ → CodesData → Live → Live
 with_code extension codes live = record live { code = with_codes extension codes live.code }
 
@@ -112,6 +112,10 @@ without_code extension live = record live { code = without_group extension live.
 -- the registry with other code of an extension
 abbrev pub with_exchanged : ℕ → CodesData → Live → Live
 with_exchanged extension codes live = record live { code = exchanged extension codes live.code }
+
+-- the registry with the handlers of an extension live, or not
+abbrev pub with_switched : ℕ → Bool → Live → Live
+with_switched extension on live = record live { code = switched extension on live.code }
 
 -- the next result, unless there is a fault
 abbrev pub unless_fault : Option RegistryFault → Result Live RegistryFault → Result Live RegistryFault

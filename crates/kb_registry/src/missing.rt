@@ -1,38 +1,27 @@
 //! The search for a callee of verified code that is not live, or whose signature changed since the
-//! verification.
-ghost use Rattle.std.specs.Prelude.{◌≡◌, option_copied, option_map, slice_get, None, Some};
-ghost use Rattle.kb_core.specs.Declaration.{Declaration};
-ghost use Rattle.kb_registry.specs.Among.{handlers_among};
-ghost use Rattle.kb_registry.specs.Missing.{declared_live, is_there, unless_there};
+//! verification, and for a native command without a closure.
+ghost use Rattle.std.specs.Prelude.{◌≡◌, ◌||◌, option_copied, slice_get};
+ghost use Rattle.kb_registry.specs.Among.{there_by};
 ghost use Rattle.kb_code.specs.Face.{declared_among, declares};
-ghost use Rattle.kb_registry.specs.Missing.{missing_callee, missing_from, missing_in};
+ghost use Rattle.kb_registry.specs.Missing.{declared_live, has_closure, unless_there};
+ghost use Rattle.kb_registry.specs.Missing.{missing_by, missing_callee, missing_from, missing_in, native_missing};
 
 use crate::command::HostCommand;
 use crate::registry::Registry;
 use kb_base::{Seq, Text};
 use kb_code::Handler;
-use kb_core::Signature;
+use kb_core::{Native, Signature};
 use kb_handler_table::{Codes, Group};
 use kb_verify::{Callee, SharedSignature};
 
-/// The handlers of code that is about to be added: as a group, which finds a handler by its name in a
-/// map, or as a list, which is searched in order.
+/// Where the callees of code are looked up. Among the live commands and the code's own handlers: as a group,
+/// which finds a handler by its name in a map, or as a list, which is searched in order. Or among native
+/// commands alone; each other callee counts as found then.
 #[derive(Drop)]
 pub(crate) enum Among<'a> {
     Group(&'a Group),
     List(&'a [Handler]),
-}
-
-impl<'a> Among<'a> {
-    /// The signature of the handler with a name.
-    fn signature(&self, name: &str) -> Option<&Signature>
-        ensures { option_copied result ≡ declared_among (handlers_among self.now) name.now }
-    {
-        match self {
-            Among::Group(group) => group.signature(name),
-            Among::List(handlers) => signature_in(handlers, name),
-        }
-    }
+    Natives,
 }
 
 /// The signature of the first handler with a name.
@@ -68,10 +57,22 @@ impl<C: HostCommand> Registry<C> {
         self.missing_among(&Among::List(codes.handlers()), codes)
     }
 
-    /// The same, with the code's own handlers looked up in `among`.
+    /// The name of the first callee of an extension's code, in file order and order of place, that is a
+    /// native command without a registered closure. `None` if there is none, if the code was not verified,
+    /// or if the extension has no code.
+    pub fn missing_native(&self, extension: u32) -> Option<&Text>
+        ensures { option_copied result ≡ native_missing extension self.now }
+    {
+        match self.codes(extension) {
+            Some(codes) => self.missing_among(&Among::Natives, codes),
+            None => None,
+        }
+    }
+
+    /// The name of the first callee of the code that isn't found there.
     pub(crate) fn missing_among<'a>(&self, among: &Among<'_>, codes: &'a Codes) -> Option<&'a Text>
-        requires { handlers_among among.now ≡ codes.now.handlers }
-        ensures { option_copied result ≡ missing_callee codes.now self.now }
+        ensures { option_copied result
+            ≡ missing_by (there_by among.now self.now) codes.now.callees codes.now.handlers }
     {
         match codes.callees() {
             Some(callees) => self.missing_from(among, codes.handlers(), callees),
@@ -88,7 +89,7 @@ impl<C: HostCommand> Registry<C> {
         callees: &[Seq<Callee>],
     ) -> Option<&'a Text>
         ensures { option_copied result
-            ≡ missing_from (handlers_among among.now) self.now handlers.now callees.now }
+            ≡ missing_from (there_by among.now self.now) handlers.now callees.now }
     {
         for place in 0..handlers.len() {
             let missing = match callees.get(place) {
@@ -109,8 +110,7 @@ impl<C: HostCommand> Registry<C> {
         handler: &'a Handler,
         callees: &[Callee],
     ) -> Option<&'a Text>
-        ensures { option_copied result
-            ≡ missing_in (handlers_among among.now) self.now handler.now callees.now }
+        ensures { option_copied result ≡ missing_in (there_by among.now self.now) handler.now callees.now }
     {
         for callee in callees {
             let missing = self.unless_there(among, handler, callee);
@@ -128,7 +128,7 @@ impl<C: HostCommand> Registry<C> {
         handler: &'a Handler,
         callee: &Callee,
     ) -> Option<&'a Text>
-        ensures { option_copied result ≡ unless_there (handlers_among among.now) self.now
+        ensures { option_copied result ≡ unless_there (there_by among.now self.now)
             callee.now.signature (slice_get handler.now.calls callee.now.index) }
     {
         match handler.calls().get(usize::from(callee.index)) {
@@ -137,10 +137,32 @@ impl<C: HostCommand> Registry<C> {
         }
     }
 
-    /// Whether the live command or the handler of a name has this signature.
+    /// Whether the command of a name is there, with this signature.
     fn is_there(&self, among: &Among<'_>, declared: &SharedSignature, name: &str) -> bool
-        ensures { result ≡ is_there (handlers_among among.now) self.now declared.now name.now }
+        ensures { result ≡ there_by among.now self.now declared.now name.now }
     {
-        declares(self.signature(name), declared) || declares(among.signature(name), declared)
+        match among {
+            Among::Group(group) => self.is_live_or(group.signature(name), declared, name),
+            Among::List(handlers) => self.is_live_or(signature_in(handlers, name), declared, name),
+            Among::Natives => self.has_closure(Native::named(name)),
+        }
+    }
+
+    /// Whether the live command of a name, or else another command, has this signature.
+    fn is_live_or(&self, other: Option<&Signature>, declared: &SharedSignature, name: &str) -> bool
+        ensures { result ≡ (declares (declared_live self.now name.now) declared.now
+            || declares (option_copied other.entry) declared.now) }
+    {
+        declares(self.signature(name), declared) || declares(other, declared)
+    }
+
+    /// Whether a closure is registered for a native command, if there is one.
+    fn has_closure(&self, native: Option<Native>) -> bool
+        ensures { result ≡ has_closure native self.now }
+    {
+        match native {
+            Some(native) => self.native_signature(native).is_some(),
+            None => true,
+        }
     }
 }

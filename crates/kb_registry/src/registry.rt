@@ -1,5 +1,5 @@
-//! The live commands: closures of the host, by native command and by ticket, and handlers.
-ghost use Rattle.std.specs.Prelude.{◌≡◌, ◌≢◌, ℕ, ◌+◌, ◌<◌, ◌≤◌, false, slice_get, Some, None, IsTrue};
+//! The live commands: closures of the host, by native command and by ticket, and handlers of extensions.
+ghost use Rattle.std.specs.Prelude.{◌≡◌, ◌≢◌, ℕ, ◌+◌, ◌<◌, ◌≤◌, true, false, slice_get, Some, None, IsTrue};
 ghost use Rattle.std.specs.Prelude.{is_some, option_map, option_copied, IfOk, IfSome, IfErr, IfNone, OnOk};
 ghost use Rattle.std.specs.Prelude.{OnErr, IsSome};
 ghost use Rattle.indexmap.specs.IndexMap.{get, index_map_len};
@@ -8,13 +8,14 @@ ghost use Rattle.kb_core.specs.Native.{Fits, declaration_of};
 ghost use Rattle.kb_core.specs.Ran.{Does};
 ghost use Rattle.kb_code.specs.Commands.{declared_by};
 ghost use Rattle.kb_code.specs.Found.{callee_of};
-ghost use Rattle.kb_handler_table.specs.Live.{handlers_in, caller_of, group_of, codes_fault};
+ghost use Rattle.kb_handler_table.specs.Live.{live_in, live_group, caller_of, group_of, codes_fault};
+ghost use Rattle.kb_code.specs.Face.{same_face};
 ghost use Rattle.kb_code.specs.Handler.{handler_named};
 ghost use Rattle.kb_handler_table.specs.Live.{handlers_of, same_native, user_of};
 ghost use Rattle.kb_registry.specs.Live.{fresh, is_live, live_native, registration_fault, registered};
 ghost use Rattle.kb_registry.specs.Live.{holder, disposed, disposal_fault, callee, callee_by, table_of};
 ghost use Rattle.kb_registry.specs.CodeFault.{callee_fault, code_fault, code_disposal_fault, exchange_fault};
-ghost use Rattle.kb_registry.specs.Live.{where_live, with_code, with_exchanged, without_code};
+ghost use Rattle.kb_registry.specs.Live.{where_live, with_code, with_exchanged, with_switched, without_code};
 ghost use Rattle.kb_registry.specs.Missing.{missing_callee};
 ghost use Rattle.kb_registry.specs.Place.{IsPlace};
 
@@ -26,7 +27,7 @@ use kb_base::{Failure, NoMemory};
 use kb_code::{Commands, Found, Handler, Linked, Target, same_face};
 use kb_core::{Args, Core, Native, Ran, Signature};
 use kb_handler_table::{CodeTable, Codes, CodesFault, Group};
-use std::alloc::Global;
+use std::alloc::{AllocError, Global};
 use std::marker::Model;
 
 /// The number of native commands. No more closures than these can be registered at a time.
@@ -45,9 +46,9 @@ pub struct Entry<C> {
     command: C,
 }
 
-/// The registered closures of a host, at most one for each native command, and the live handlers.
-/// Contracts see the native command and the ticket of each registered closure, the number of
-/// registrations so far and its limit, and the live handlers.
+/// The registered closures of a host, at most one for each native command, and the code of extensions, whose
+/// handlers are live unless they are switched off. Contracts see the native command and the ticket of each
+/// registered closure, the number of registrations so far and its limit, and the code of each extension.
 #[derive(Drop)]
 pub struct Registry<C: HostCommand> {
     alloc: Global,
@@ -340,14 +341,14 @@ impl<C: HostCommand> Registry<C> {
         }
     }
 
-    /// The code of an extension, or `None` if it has no live code.
+    /// The code of an extension, live or not, or `None` if it has no code.
     pub fn codes(&self, extension: u32) -> Option<&Codes>
         ensures { option_copied result ≡ group_of extension self.now.code }
     {
         self.code.codes(extension)
     }
 
-    /// The live handlers of an extension, in file order. There are none if it has no live code.
+    /// The handlers of an extension, live or not, in file order. There are none if it has no code.
     pub fn handlers(&self, extension: u32) -> &[Handler]
         ensures { result.now ≡ handlers_of extension self.now.code }
     {
@@ -356,23 +357,23 @@ impl<C: HostCommand> Registry<C> {
 
     /// The live handler with a name, with its call targets, or `None`.
     pub fn linked(&self, command: &str) -> Option<Linked<'_>>
-        ensures { result ≡ handler_named command.now (handlers_in self.now.code) }
+        ensures { result ≡ handler_named command.now (live_in self.now.code) }
     {
         self.code.linked(command)
     }
 
     /// The live handler with a name, or `None`.
     pub fn handler(&self, command: &str) -> Option<&Handler>
-        ensures { option_copied result ≡ handler_named command.now (handlers_in self.now.code) }
+        ensures { option_copied result ≡ handler_named command.now (live_in self.now.code) }
     {
         self.code.handler(command)
     }
 
-    /// Adds the code of an extension to the live handlers; extensions are numbered in load order, and the
-    /// extension has no live code yet. On an error the code is returned and the registry is unchanged. 70 if a handler has the name of a
-    /// native command, of `runCommands`, of a live handler or of another handler of the code; else 74
-    /// if a callee of verified code is neither live nor one of the code's own handlers, with the
-    /// signature that it had when the code was verified; or `NoMemory`.
+    /// Adds the code of an extension, whose handlers are live then; extensions are numbered in load order, and
+    /// the extension has no code yet. On an error the code is returned and the registry is unchanged. 70 if a
+    /// handler has the name of a native command, of `runCommands`, of a handler of another extension, live or
+    /// not, or of another handler of the code; else 74 if a callee of verified code is neither live nor one of
+    /// the code's own handlers, with the signature that it had when the code was verified; or `NoMemory`.
     pub fn register_code(
         &mut self,
         extension: u32,
@@ -399,7 +400,8 @@ impl<C: HostCommand> Registry<C> {
 
     /// Adds code with free names to the live handlers.
     fn admit_code(&mut self, group: Group) -> Result<(), (Codes, Failure<RegistryFault>)>
-        requires { codes_fault group.codes.handlers self.old.code ≡ None }
+        requires free { codes_fault group.codes.handlers self.old.code ≡ None }
+        requires live { group ≡ live_group group.extension group.codes }
         ensures allowed { OnOk result (callee_fault (missing_callee group.codes self.old) ≡ None) }
         ensures ok { OnOk result (self.new ≡ with_code group.extension group.codes self.old) }
         ensures why { let fault = callee_fault (missing_callee group.codes self.old) in
@@ -431,7 +433,7 @@ impl<C: HostCommand> Registry<C> {
         }
     }
 
-    /// The first verified handler, in load and file order, of another extension that calls a handler of
+    /// The first live verified handler, in load and file order, of another extension that calls a handler of
     /// this one, or `None`.
     pub fn user_of_code(&self, extension: u32) -> Option<&Handler>
         ensures { option_copied result ≡ user_of extension self.now.code }
@@ -439,8 +441,8 @@ impl<C: HostCommand> Registry<C> {
         self.code.user_of(extension)
     }
 
-    /// Removes the live code of an extension and returns it. 73 if a verified handler of another extension
-    /// calls one of its handlers (`user_of_code`); then the registry is unchanged.
+    /// Removes the code of an extension, live or not, and returns it. 73 if a live verified handler of another
+    /// extension calls one of its handlers (`user_of_code`); then the registry is unchanged.
     pub fn dispose_code(&mut self, extension: u32) -> Result<Codes, RegistryFault>
         requires { IsSome (group_of extension self.old.code) }
         ensures codes { IfOk result (λ codes. group_of extension self.old.code ≡ Some codes) }
@@ -458,8 +460,8 @@ impl<C: HostCommand> Registry<C> {
         }
     }
 
-    /// Exchanges the live code of an extension, and returns the code that was live before. On an error the
-    /// new code is returned and the registry is unchanged. 95 if the new code doesn't have the same commands
+    /// Exchanges the code of an extension, live or not, and returns the code before. On an error the new code
+    /// is returned and the registry is unchanged. 95 if the new code doesn't have the same commands
     /// with the same parameters, budgets and depths; else 74 if a callee of verified code is neither live
     /// nor one of the code's own handlers, with the signature that it had when the code was verified; or
     /// `NoMemory`.
@@ -483,9 +485,37 @@ impl<C: HostCommand> Registry<C> {
             return Err((codes, Failure::Fault(RegistryFault::CalleeNotLive)));
         }
         match self.code.prepare_exchange(extension, codes) {
-            Ok(group) => Ok(self.code.exchange(group)),
+            Ok(group) => match self.code.exchange(group) {
+                Some(before) => Ok(before),
+                None => unreachable!(),
+            },
             Err(codes) => Err((codes, Failure::NoMemory)),
         }
+    }
+
+    /// Exchanges the code of an extension, live or not, for code with the same commands, parameters, budgets
+    /// and depths. Nothing else is checked. Without code of the extension nothing changes. On refused memory the
+    /// registry is unchanged.
+    pub fn exchange_code(&mut self, extension: u32, codes: Codes) -> Result<(), NoMemory>
+        requires { same_face (handlers_of extension self.old.code) codes.handlers ≡ true }
+        ensures ok { OnOk result (self.new ≡ with_exchanged extension codes self.old) }
+        ensures err { OnErr result (self.new ≡ self.old) }
+    {
+        match self.code.prepare_exchange(extension, codes) {
+            Ok(group) => {
+                self.code.exchange(group);
+                Ok(())
+            }
+            Err(_) => Err(AllocError),
+        }
+    }
+
+    /// Makes the handlers of an extension live, or not live. Nothing is checked: whether a handler that stays
+    /// live calls one of them, or whether what they call is live, is the caller's concern. It takes no memory.
+    pub fn switch_code(&mut self, extension: u32, live: bool)
+        ensures { self.new ≡ with_switched extension live self.old }
+    {
+        self.code.switch(extension, live);
     }
 
     /// The entry of the native command with an identifier, or `None` if it has no registered closure.

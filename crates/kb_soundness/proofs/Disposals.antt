@@ -10,7 +10,7 @@ use Rattle.kb_code.specs.Handler.{HandlerData}
 use Rattle.kb_code.specs.Reachable.{Calls}
 use Rattle.kb_code.proofs.ReachableLemmas.{all_called}
 use Rattle.kb_code.specs.Commands.{Callee, Plain}
-use Rattle.kb_handler_table.specs.Live.{handlers_in, same_native, is_it, calls_native, caller_of}
+use Rattle.kb_handler_table.specs.Live.{live_in, same_native, is_it, calls_native, caller_of}
 use Rattle.kb_code.specs.Target as target
 use Rattle.kb_registry.specs.declared.fault.RegistryFault.TheVariants.{InUse}
 use Rattle.kb_registry.specs.Live.{Live, Registered, natives_of, holder, holder_in, without, disposed}
@@ -102,7 +102,7 @@ disposed_stays_sound t live free sound = record {
       let v = sound.verified name h (coded_live name live h is.0 is.1) in
       let gone = disposal_is (holder t live) live free in
       let none = fails (calls_native gone.0) (λ g. bytes_eq name g.command)
-      (handlers_in live.code) h gone.2 is.1 in
+      (live_in live.code) h gone.2 is.1 in
       record {
         commands = v.commands;
         accepted = v.accepted;

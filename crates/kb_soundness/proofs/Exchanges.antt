@@ -10,9 +10,9 @@ use Rattle.kb_code.specs.Face.{declared_among, same_face}
 use Rattle.kb_code.specs.Handler.{HandlerData, handler_named}
 use Rattle.kb_code.proofs.FaceLemmas.{same_face_declares_the_same}
 use Rattle.kb_handler_table.specs.Codes.{CodesData, checked_in}
-use Rattle.kb_handler_table.specs.Live.{Group, exchanged, handlers_in, handlers_of}
-use Rattle.kb_handler_table.proofs.Apart.{exchange_declares, exchange_stays, found_exchanged, found_whole}
-use Rattle.kb_handler_table.proofs.Apart.{none-declared, undeclared}
+use Rattle.kb_handler_table.specs.Live.{Group, exchanged, handlers_in, handlers_of, is_on, live_in}
+use Rattle.kb_handler_table.proofs.Apart.{exchange_declares, exchange_stays, found_exchanged, live_exchange_declares}
+use Rattle.kb_handler_table.proofs.Apart.{live_found, live_whole, none-declared, undeclared}
 use Rattle.kb_registry.specs.declared.fault.RegistryFault.TheVariants.{SignatureChanged}
 use Rattle.kb_registry.specs.CodeFault.{callee_fault}
 use Rattle.kb_registry.specs.Live.{Live, callee_by, table_of, with_exchanged}
@@ -38,7 +38,7 @@ checked_instead extension codes (g ∷ gs) own checked =
     by (nat_eq g.extension extension) (checked_instead extension codes gs own checked.1)
   where
     by : (b : Bool) → AllChecked (exchanged extension codes gs) →
-        AllChecked (cond b (record { extension = g.extension; codes = codes } ∷ gs) (g ∷ exchanged extension codes gs))
+        AllChecked (cond b (record g { codes = codes } ∷ gs) (g ∷ exchanged extension codes gs))
     by true rest = (own, checked.1)
     by false rest = (checked.0, rest)
 
@@ -58,9 +58,9 @@ module _ (extension : ℕ) (codes : CodesData) (live : Live)
       option_map declared_by (callee_by o name then_live) ≡ option_map declared_by (callee_by o name live)
   declares_as_before (Some n) name = refl
   declares_as_before None name =
-      coded_declares (handler_named name (handlers_in then_live.code))
-      ∙ exchange_declares extension codes live.code same name
-      ∙ sym (coded_declares (handler_named name (handlers_in live.code)))
+      coded_declares (handler_named name (live_in then_live.code))
+      ∙ live_exchange_declares extension codes live.code same name
+      ∙ sym (coded_declares (handler_named name (live_in live.code)))
 
   declared_at : (h : HandlerData) (n : ℕ) →
       live_declaration_at (table_of then_live) h n ≡ live_declaration_at (table_of live) h n
@@ -71,10 +71,11 @@ module _ (extension : ℕ) (codes : CodesData) (live : Live)
       by None = refl
       by (Some name) = declares_as_before (named name) name
 
-  -- a handler of the new code declares what the live command of its name declared
-  new_declares : (sound : IsSound live) (name : List ℕ) (d : Declaration) →
+  -- a handler of the new code declares what the live command of its name declared, if the extension is
+  -- switched on
+  new_declares : (sound : IsSound live) → is_on extension live.code ≡ true → (name : List ℕ) (d : Declaration) →
       declared_among codes.handlers name ≡ Some d → option_map declared_by (table_of live name) ≡ Some d
-  new_declares sound name d is =
+  new_declares sound on name d is =
       by (handler_named name (handlers_of extension live.code)) refl
       (same_face_declares_the_same (handlers_of extension live.code) codes.handlers same name ∙ is)
     where
@@ -89,26 +90,29 @@ module _ (extension : ℕ) (codes : CodesData) (live : Live)
       by None none e =
           let nothing = none-declared (handlers_of extension live.code) name none in absurd (cc)
       by (Some h) found e =
-          let whole = found_whole extension live.code name h sound.apart found in
-          ap (option_map declared_by) (coded_live name live h (plain h whole (named name) refl) whole)
+          let whole = live_whole extension live.code name h sound.apart on found in
+          ap (option_map declared_by)
+          (coded_live name live h (plain h (live_found live.code name h sound.apart whole) (named name) refl) whole)
           ∙ sym (ap (option_map (λ (h : HandlerData). h.signature)) found) ∙ e
 
-  new_declared_at : (sound : IsSound live) (h : HandlerData) (n : ℕ) (d : Declaration) →
+  new_declared_at : (sound : IsSound live) → is_on extension live.code ≡ true → (h : HandlerData) (n : ℕ) (d : Declaration) →
       declaration_among codes.handlers h n ≡ Some d → live_declaration_at (table_of live) h n ≡ Some d
-  new_declared_at sound h n d is = by (slice_get h.calls n) is
+  new_declared_at sound on h n d is = by (slice_get h.calls n) is
     where
       by : (o : Option (List ℕ)) → option_map (λ (g : HandlerData). g.signature)
           (option_and_then (λ name. handler_named name codes.handlers) o) ≡ Some d →
           option_map declared_by (option_and_then (table_of live) o) ≡ Some d
       by None e = absurd (cc)
-      by (Some name) e = new_declares sound name d e
+      by (Some name) e = new_declares sound on name d e
 
   -- a handler of the new code is verified then
-  joins : (sound : IsSound live) (h : HandlerData) → MayJoin live codes.handlers h → IsVerified (table_of then_live) h
-  joins sound h may = record {
+  joins : (sound : IsSound live) → is_on extension live.code ≡ true → (h : HandlerData) →
+      MayJoin live codes.handlers h → IsVerified (table_of then_live) h
+  joins sound on h may = record {
     commands = may.commands;
     accepted = may.accepted;
-    callees = λ p n d c. declared_at h n ∙ ⊎_elim (λ e. e) (λ e. new_declared_at sound h n d e) (may.callees p n d c);
+    callees = λ p n d c. declared_at h n ∙ ⊎_elim (λ e. e) (λ e. new_declared_at sound on h n d e)
+        (may.callees p n d c);
   }
 
   -- and another stays so
@@ -138,8 +142,8 @@ code_exchanged_stays_sound extension codes live fault checked sound =
       verified = λ name h e.
           let is = coded_by (named name) name (with_exchanged extension codes live) h e in
           ⊎_elim
-          (λ new. joins extension codes live each.0 sound h
-          (found_all (MayJoin live codes.handlers) (λ g. bytes_eq name g.command) codes.handlers h all new))
+          (λ new. joins extension codes live each.0 sound new.0 h
+          (found_all (MayJoin live codes.handlers) (λ g. bytes_eq name g.command) codes.handlers h all new.1))
           (λ old. stays extension codes live each.0 h (sound.verified name h (coded_live name live h is.0 old)))
           (found_exchanged extension codes live.code each.0 name h is.1);
     }

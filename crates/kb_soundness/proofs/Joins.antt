@@ -52,33 +52,33 @@ module _ (handlers : List HandlerData) (live : Live) where
 
   -- so is the command at an index that isn't missing
   found_at : (h : HandlerData) (n : ℕ) (d : Declaration) (name : List ℕ) → slice_get h.calls n ≡ Some name →
-      unless_there handlers live d (slice_get h.calls n) ≡ None →
+      unless_there (is_there handlers live) d (slice_get h.calls n) ≡ None →
       (live_declaration_at (table_of live) h n ≡ Some d) ⊎ (declaration_among handlers h n ≡ Some d)
   found_at h n d name at none = ⊎_elim
       (λ e. inl (ap (λ o. option_map declared_by (option_and_then (table_of live) o)) at ∙ e))
       (λ e. inr (ap (λ o. option_map (λ (g : HandlerData). g.signature)
       (option_and_then (λ name. handler_named name handlers) o)) at ∙ e))
       (live_or_among d name (none_missing (is_there handlers live d name) name
-      (sym (ap (unless_there handlers live d) at) ∙ none)))
+      (sym (ap (unless_there (is_there handlers live) d) at) ∙ none)))
 
   -- if none of a handler's callees is missing, the one at a position isn't
   not_missing : (h : HandlerData) (callees : List Callee) (k : ℕ) (c : Callee) →
-      missing_in handlers live h callees ≡ None → slice_get callees k ≡ Some c →
-      unless_there handlers live c.signature (slice_get h.calls c.index) ≡ None
+      missing_in (is_there handlers live) h callees ≡ None → slice_get callees k ≡ Some c →
+      unless_there (is_there handlers live) c.signature (slice_get h.calls c.index) ≡ None
   not_missing h [] k c none at = absurd (cc)
   not_missing h (x ∷ callees) zero c none at =
       let same : x ≡ c = cc in
-      subst (λ y. unless_there handlers live y.signature (slice_get h.calls y.index) ≡ None) same
-      (both_none (unless_there handlers live x.signature (slice_get h.calls x.index))
-      (missing_in handlers live h callees) none).0
+      subst (λ y. unless_there (is_there handlers live) y.signature (slice_get h.calls y.index) ≡ None) same
+      (both_none (unless_there (is_there handlers live) x.signature (slice_get h.calls x.index))
+      (missing_in (is_there handlers live) h callees) none).0
   not_missing h (x ∷ callees) (suc k) c none at =
       not_missing h callees k c
-      (both_none (unless_there handlers live x.signature (slice_get h.calls x.index))
-      (missing_in handlers live h callees) none).1 at
+      (both_none (unless_there (is_there handlers live) x.signature (slice_get h.calls x.index))
+      (missing_in (is_there handlers live) h callees) none).1 at
 
   -- each callee is listed, has a name, and is there
   callee_there : (commands : Commands) (h : HandlerData) (callees : List Callee) →
-      AreCallees commands h callees → missing_in handlers live h callees ≡ None →
+      AreCallees commands h callees → missing_in (is_there handlers live) h callees ≡ None →
       (place index : ℕ) (d : Declaration) → IsCallee commands h place index d →
       (live_declaration_at (table_of live) h index ≡ Some d) ⊎ (declaration_among handlers h index ≡ Some d)
   callee_there commands h callees are none place index d is =
@@ -89,7 +89,7 @@ module _ (handlers : List HandlerData) (live : Live) where
 
   -- a verified handler without a missing callee may join
   joins : (h : HandlerData) (callees : List Callee) → IsChecked (record { handler = h; callees = callees }) →
-      missing_in handlers live h callees ≡ None → MayJoin live handlers h
+      missing_in (is_there handlers live) h callees ≡ None → MayJoin live handlers h
   joins h callees checked none = record {
     commands = checked.0;
     accepted = checked.1;
@@ -98,20 +98,20 @@ module _ (handlers : List HandlerData) (live : Live) where
 
   -- so may each of several
   each_joins : (hs : List HandlerData) (all : List (List Callee)) → EachChecked hs all →
-      missing_from handlers live hs all ≡ None → All (MayJoin live handlers) hs
+      missing_from (is_there handlers live) hs all ≡ None → All (MayJoin live handlers) hs
   each_joins [] all checked none k d lt = absurd (omega (arith, lt))
   each_joins (h ∷ hs) [] checked none k d lt = absurd checked
   each_joins (h ∷ hs) (callees ∷ all) checked none zero d lt =
       joins h callees checked.0
-      (both_none (missing_in handlers live h callees) (missing_from handlers live hs all) none).0
+      (both_none (missing_in (is_there handlers live) h callees) (missing_from (is_there handlers live) hs all) none).0
   each_joins (h ∷ hs) (callees ∷ all) checked none (suc k) d lt =
       each_joins hs all checked.1
-      (both_none (missing_in handlers live h callees) (missing_from handlers live hs all) none).1
+      (both_none (missing_in (is_there handlers live) h callees) (missing_from (is_there handlers live) hs all) none).1
       k d (omega (arith, lt))
 
   -- so may all of verified code
   pub all_join : (callees : Option (List (List Callee))) → HaveCallees handlers callees →
-      missing_by callees handlers live ≡ None → All (MayJoin live handlers) handlers
+      missing_by (is_there handlers live) callees handlers ≡ None → All (MayJoin live handlers) handlers
   all_join None checked none = absurd checked
   all_join (Some all) checked none = each_joins handlers all checked none
 

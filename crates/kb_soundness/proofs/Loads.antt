@@ -2,7 +2,7 @@
 use Rattle.std.proofs.Common.{◌≡◌, ◌⊎◌, ⊎_elim, ℕ, Bool, true, false, cond, List, [], ◌∷◌, ◌++◌, Option}
 use Rattle.std.proofs.Common.{Some, None, refl, sym, ap, ◌∙◌, subst, find, is_some, if◌then◌else◌, arith}
 use Rattle.std.specs.Prelude.{slice_get, option_map, option_and_then, nat_lt, bytes_eq}
-use Rattle.std.specs.List.{All}
+use Rattle.std.specs.List.{All, flat_map}
 use Rattle.std.specs.Option.{option_or}
 use Rattle.std.proofs.lemmas.Bool.{false≢true}
 use Rattle.std.proofs.lemmas.List.Folds.{find-append}
@@ -12,16 +12,17 @@ use Rattle.kb_core.specs.Declaration.{Declaration}
 use Rattle.kb_core.specs.Native.{named}
 use Rattle.kb_code.specs.Handler.{HandlerData, handler_named}
 use Rattle.kb_code.specs.Commands.{Callee, Coded, declared_by}
+use Rattle.kb_handler_table.specs.Apart.{AreApart}
 use Rattle.kb_handler_table.specs.Codes.{CodesData, checked_in}
-use Rattle.kb_handler_table.specs.Live.{Group, handlers_in, is_reserved, is_taken, has_taken}
-use Rattle.kb_handler_table.specs.Live.{with_group}
+use Rattle.kb_handler_table.specs.Live.{Group, handlers_in, is_reserved, is_taken, has_taken, live_group, live_in}
+use Rattle.kb_handler_table.specs.Live.{live_of, with_codes, with_group}
 use Rattle.kb_registry.specs.Live.{Live, callee_by, table_of, with_code}
 use Rattle.kb_verify.specs.Callable.{Commands}
 use Rattle.kb_verify.specs.Accepted.{IsAccepted, IsCallee}
 use Rattle.kb_soundness.specs.Sound.{IsVerified, live_declaration_at}
 use Rattle.kb_soundness.specs.Stays.{AllChecked, AreFree, IsSound, NoCodeStaysSound}
 use Rattle.kb_handler_table.specs.declared.fault.CodesFault.TheVariants.{AlreadyExists}
-use Rattle.kb_handler_table.proofs.Apart.{put_stays}
+use Rattle.kb_handler_table.proofs.Apart.{live_found, put_stays}
 use Rattle.kb_soundness.proofs.Tests.{or_false}
 use Rattle.kb_soundness.proofs.Found.{found_all}
 use Rattle.kb_soundness.proofs.Stays.{Stays, declared_stays, verified_stays, coded_by, coded_live}
@@ -56,43 +57,55 @@ pub both_none : {X : Type 0} (a b : Option X) → option_or a b ≡ None → (a 
 both_none None b e = (refl, e)
 both_none (Some x) b e = absurd (cc)
 
-module _ (p : HandlerData → Bool) (new : Group) where
+module _ (of : Group → List HandlerData) (p : HandlerData → Bool) (new : Group) where
   -- a group without a result doesn't change the search
-  old_found : (gs : List Group) → find p new.codes.handlers ≡ None →
-      find p (handlers_in (with_group new gs)) ≡ find p (handlers_in gs)
-  old_found [] none = find-append p new.codes.handlers [] ∙ ap (λ o. option_or o None) none
-  old_found (g ∷ gs) none = by (nat_lt new.extension g.extension) (old_found gs none)
+  unchanged : (gs : List Group) → find p (of new) ≡ None →
+      find p (flat_map of (with_group new gs)) ≡ find p (flat_map of gs)
+  unchanged [] none = find-append p (of new) [] ∙ ap (λ o. option_or o None) none
+  unchanged (g ∷ gs) none = by (nat_lt new.extension g.extension) (unchanged gs none)
     where
-      by : (b : Bool) → find p (handlers_in (with_group new gs)) ≡ find p (handlers_in gs) →
-          find p (handlers_in (if b then new ∷ g ∷ gs else g ∷ with_group new gs))
-          ≡ find p (handlers_in (g ∷ gs))
+      by : (b : Bool) → find p (flat_map of (with_group new gs)) ≡ find p (flat_map of gs) →
+          find p (flat_map of (if b then new ∷ g ∷ gs else g ∷ with_group new gs))
+          ≡ find p (flat_map of (g ∷ gs))
       by true rest =
-          find-append p new.codes.handlers (handlers_in (g ∷ gs))
-          ∙ ap (λ o. option_or o (find p (handlers_in (g ∷ gs)))) none
+          find-append p (of new) (flat_map of (g ∷ gs))
+          ∙ ap (λ o. option_or o (find p (flat_map of (g ∷ gs)))) none
       by false rest =
-          find-append p g.codes.handlers (handlers_in (with_group new gs))
-          ∙ ap (option_or (find p g.codes.handlers)) rest
-          ∙ sym (find-append p g.codes.handlers (handlers_in gs))
+          find-append p (of g) (flat_map of (with_group new gs))
+          ∙ ap (option_or (find p (of g))) rest
+          ∙ sym (find-append p (of g) (flat_map of gs))
 
   -- a result that no group has is found in the added group
-  new_found : (gs : List Group) → find p (handlers_in gs) ≡ None →
-      find p (handlers_in (with_group new gs)) ≡ find p new.codes.handlers
-  new_found [] none = find-append p new.codes.handlers [] ∙ or_none (find p new.codes.handlers)
-  new_found (g ∷ gs) none =
-      let each = both_none (find p g.codes.handlers) (find p (handlers_in gs))
-      (sym (find-append p g.codes.handlers (handlers_in gs)) ∙ none) in
-      by (nat_lt new.extension g.extension) each.0 (new_found gs each.1)
+  first_found : (gs : List Group) → find p (flat_map of gs) ≡ None →
+      find p (flat_map of (with_group new gs)) ≡ find p (of new)
+  first_found [] none = find-append p (of new) [] ∙ or_none (find p (of new))
+  first_found (g ∷ gs) none =
+      let each = both_none (find p (of g)) (find p (flat_map of gs))
+      (sym (find-append p (of g) (flat_map of gs)) ∙ none) in
+      by (nat_lt new.extension g.extension) each.0 (first_found gs each.1)
     where
-      by : (b : Bool) → find p g.codes.handlers ≡ None →
-          find p (handlers_in (with_group new gs)) ≡ find p new.codes.handlers →
-          find p (handlers_in (if b then new ∷ g ∷ gs else g ∷ with_group new gs))
-          ≡ find p new.codes.handlers
+      by : (b : Bool) → find p (of g) ≡ None →
+          find p (flat_map of (with_group new gs)) ≡ find p (of new) →
+          find p (flat_map of (if b then new ∷ g ∷ gs else g ∷ with_group new gs)) ≡ find p (of new)
       by true first rest =
-          find-append p new.codes.handlers (handlers_in (g ∷ gs))
-          ∙ ap (option_or (find p new.codes.handlers)) none ∙ or_none (find p new.codes.handlers)
+          find-append p (of new) (flat_map of (g ∷ gs))
+          ∙ ap (option_or (find p (of new))) none ∙ or_none (find p (of new))
       by false first rest =
-          find-append p g.codes.handlers (handlers_in (with_group new gs))
-          ∙ ap (λ o. option_or o (find p (handlers_in (with_group new gs)))) first ∙ rest
+          find-append p (of g) (flat_map of (with_group new gs))
+          ∙ ap (λ o. option_or o (find p (flat_map of (with_group new gs)))) first ∙ rest
+
+abbrev all_of : Group → List HandlerData
+all_of g = g.codes.handlers
+
+-- the same among live handlers, by an added group whose handlers are live
+module _ (p : HandlerData → Bool) (extension : ℕ) (codes : CodesData) where
+  old_found : (gs : List Group) → find p codes.handlers ≡ None →
+      find p (live_in (with_codes extension codes gs)) ≡ find p (live_in gs)
+  old_found gs none = unchanged live_of p (live_group extension codes) gs none
+
+  new_found : (gs : List Group) → find p (live_in gs) ≡ None →
+      find p (live_in (with_codes extension codes gs)) ≡ find p codes.handlers
+  new_found gs none = first_found live_of p (live_group extension codes) gs none
 
 -- ---- free names
 
@@ -134,25 +147,29 @@ unreserved above (x ∷ hs) e name h is =
 
 -- ---- the live commands after the addition
 
+-- an added handler has another name than those that are there, also those that aren't live
 module _ (extension : ℕ) (codes : CodesData) (live : Live)
-    (untaken : has_taken (handlers_in live.code) codes.handlers ≡ false) where
+    (untaken : has_taken (handlers_in live.code) codes.handlers ≡ false) (apart : AreApart (handlers_in live.code)) where
   abbrev then_live : Live
   then_live = with_code extension codes live
 
-  abbrev group : Group
-  group = record { extension = extension; codes = codes }
+  -- a live handler's name is free of added handlers
+  others : (name : List ℕ) (h : HandlerData) → handler_named name (live_in live.code) ≡ Some h →
+      handler_named name codes.handlers ≡ None
+  others name h is =
+      free (handlers_in live.code) codes.handlers untaken name h (live_found live.code name h apart is)
 
   handler_stays : (name : List ℕ) (c : Callee) (o : Option HandlerData) →
-      handler_named name (handlers_in live.code) ≡ o → option_map Coded o ≡ Some c →
-      option_map Coded (handler_named name (handlers_in then_live.code)) ≡ Some c
+      handler_named name (live_in live.code) ≡ o → option_map Coded o ≡ Some c →
+      option_map Coded (handler_named name (live_in then_live.code)) ≡ Some c
   handler_stays name c None is e = absurd (cc)
   handler_stays name c (Some h) is e =
-      ap (option_map Coded) (old_found (λ g. bytes_eq name g.command) group live.code
-      (free (handlers_in live.code) codes.handlers untaken name h is) ∙ is) ∙ e
+      ap (option_map Coded) (old_found (λ g. bytes_eq name g.command) extension codes live.code (others name h is) ∙ is)
+      ∙ e
 
   each_stays : (o : Option Native) (name : List ℕ) (c : Callee) → callee_by o name live ≡ Some c →
       callee_by o name then_live ≡ Some c
-  each_stays None name c e = handler_stays name c (handler_named name (handlers_in live.code)) refl e
+  each_stays None name c e = handler_stays name c (handler_named name (live_in live.code)) refl e
   each_stays (Some n) name c e = e
 
   pub stays : Stays (table_of live) (table_of then_live)
@@ -161,16 +178,15 @@ module _ (extension : ℕ) (codes : CodesData) (live : Live)
   -- the name of an added handler was free
   was_free : (name : List ℕ) (h : HandlerData) → handler_named name codes.handlers ≡ Some h →
       (o : Option HandlerData) →
-      handler_named name (handlers_in live.code) ≡ o → o ≡ None
+      handler_named name (live_in live.code) ≡ o → o ≡ None
   was_free name h is None before = refl
-  was_free name h is (Some g) before =
-      let none = free (handlers_in live.code) codes.handlers untaken name g before in absurd (cc)
+  was_free name h is (Some g) before = let none = others name g before in absurd (cc)
 
   comes : (name : List ℕ) (h : HandlerData) → handler_named name codes.handlers ≡ Some h →
-      handler_named name (handlers_in then_live.code) ≡ Some h
+      handler_named name (live_in then_live.code) ≡ Some h
   comes name h is =
-      new_found (λ g. bytes_eq name g.command) group live.code
-      (was_free name h is (handler_named name (handlers_in live.code)) refl) ∙ is
+      new_found (λ g. bytes_eq name g.command) extension codes live.code
+      (was_free name h is (handler_named name (live_in live.code)) refl) ∙ is
 
   pub comes_live : (name : List ℕ) (h : HandlerData) → handler_named name codes.handlers ≡ Some h →
       table_of then_live name ≡ Some (Coded h)
@@ -206,12 +222,12 @@ module _ (extension : ℕ) (codes : CodesData) (live : Live)
   -- and so is each live handler
   verified_then : All (MayJoin live codes.handlers) codes.handlers → IsSound live →
       (name : List ℕ) (h : HandlerData) → named name ≡ None →
-      handler_named name (handlers_in then_live.code) ≡ Some h →
+      handler_named name (live_in then_live.code) ≡ Some h →
       (o : Option HandlerData) → handler_named name codes.handlers ≡ o → IsVerified (table_of then_live) h
   verified_then all sound name h none is None before =
       verified_stays (table_of live) (table_of then_live) stays h
       (sound.verified name h (coded_live name live h none
-      (sym (old_found (λ g. bytes_eq name g.command) group live.code before) ∙ is)))
+      (sym (old_found (λ g. bytes_eq name g.command) extension codes live.code before) ∙ is)))
   verified_then all sound name h none is (Some g) before =
       let same : g ≡ h = cc (comes name g before, is) in
       joins h (found_all (MayJoin live codes.handlers) (λ g. bytes_eq name g.command) codes.handlers h
@@ -236,12 +252,11 @@ free_more : (extension : ℕ) (codes : CodesData) (live : Live) → has_taken (h
 free_more extension codes live untaken all name native is =
     by (handler_named name codes.handlers) refl
   where
-    group : Group
-    group = record { extension = extension; codes = codes }
-
     by : (o : Option HandlerData) → handler_named name codes.handlers ≡ o →
-        handler_named name (handlers_in (with_group (record { extension = extension; codes = codes }) live.code)) ≡ None
-    by None none = old_found (λ g. bytes_eq name g.command) group live.code none ∙ all name native is
+        handler_named name (handlers_in (with_codes extension codes live.code)) ≡ None
+    by None none =
+        unchanged all_of (λ g. bytes_eq name g.command) (live_group extension codes) live.code none
+        ∙ all name native is
     by (Some h) found =
         let plain = unreserved (handlers_in live.code) codes.handlers untaken name h found in absurd (cc)
 
@@ -251,13 +266,13 @@ pub joined_stays_sound : (extension : ℕ) (codes : CodesData) (live : Live) →
     All (MayJoin live codes.handlers) codes.handlers → IsSound live →
     IsSound (with_code extension codes live)
 joined_stays_sound extension codes live untaken own all sound = record {
-  checked = checked_more (record { extension = extension; codes = codes }) live.code own sound.checked;
-  apart = put_stays (record { extension = extension; codes = codes }) live.code (with_code extension codes live).code
+  checked = checked_more (live_group extension codes) live.code own sound.checked;
+  apart = put_stays (live_group extension codes) live.code (with_code extension codes live).code
       (ap (λ b. if b then Some AlreadyExists else None) untaken) sound.apart refl;
   free = free_more extension codes live untaken sound.free;
   verified = λ name h e.
       let is = coded_by (named name) name (with_code extension codes live) h e in
-      verified_then extension codes live untaken all sound name h is.0 is.1
+      verified_then extension codes live untaken sound.apart all sound name h is.0 is.1
       (handler_named name codes.handlers) refl;
 }
 

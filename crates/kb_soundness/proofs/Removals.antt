@@ -10,9 +10,9 @@ use Rattle.kb_code.specs.Commands.{Callee, Coded}
 use Rattle.kb_code.specs.Handler.{HandlerData, handler_named}
 use Rattle.kb_code.specs.Reachable.{Calls}
 use Rattle.kb_code.proofs.ReachableLemmas.{all_called}
-use Rattle.kb_handler_table.specs.Live.{Group, calls_one, checked_handlers, handlers_in, handlers_of, names_one}
-use Rattle.kb_handler_table.specs.Live.{user_of, without_group}
-use Rattle.kb_handler_table.proofs.Apart.{found_after, found_before, without_stays}
+use Rattle.kb_handler_table.specs.Live.{Group, calls_one, checked_handlers, handlers_in, handlers_of, live_in}
+use Rattle.kb_handler_table.specs.Live.{live_of, names_one, user_of, without_group}
+use Rattle.kb_handler_table.proofs.Apart.{found_before, live_after, live_before, without_stays}
 use Rattle.kb_registry.specs.declared.fault.RegistryFault.TheVariants.{InUse}
 use Rattle.kb_registry.specs.Live.{Live, callee_by, table_of, without_code}
 use Rattle.kb_soundness.specs.Stays.{AllChecked, AreFree, CodeDisposedStaysSound}
@@ -33,10 +33,10 @@ checked_fewer extension (g ∷ gs) checked =
     by false rest = (checked.0, rest)
 
 -- verified handlers are all handlers
-all_checked : (gs : List Group) → AllChecked gs → checked_handlers gs ≡ handlers_in gs
+all_checked : (gs : List Group) → AllChecked gs → checked_handlers gs ≡ live_in gs
 all_checked [] checked = refl
 all_checked (g ∷ gs) checked =
-    ap (λ hs. hs ++ checked_handlers gs) checked.0 ∙ ap (λ hs. g.codes.handlers ++ hs) (all_checked gs checked.1)
+    ap (λ hs. cond g.live hs [] ++ checked_handlers gs) checked.0 ∙ ap (λ hs. live_of g ++ hs) (all_checked gs checked.1)
 
 no_user : (o : Option HandlerData) → option_map (λ (h : HandlerData). InUse) o ≡ None → o ≡ None
 no_user None e = refl
@@ -66,13 +66,13 @@ module _ (extension : ℕ) (live : Live) where
   stays : (o : Option Native) (name : List ℕ) (c : Callee) → handler_named name own ≡ None →
       callee_by o name live ≡ Some c → callee_by o name (without_code extension live) ≡ Some c
   stays (Some n) name c none e = e
-  stays None name c none e = by (handler_named name (handlers_in live.code)) refl e
+  stays None name c none e = by (handler_named name (live_in live.code)) refl e
     where
-      by : (o : Option HandlerData) → handler_named name (handlers_in live.code) ≡ o →
+      by : (o : Option HandlerData) → handler_named name (live_in live.code) ≡ o →
           option_map Coded o ≡ Some c →
-          option_map Coded (handler_named name (handlers_in (without_group extension live.code))) ≡ Some c
+          option_map Coded (handler_named name (live_in (without_group extension live.code))) ≡ Some c
       by None is e = absurd (cc)
-      by (Some h) is e = ap (option_map Coded) (found_after extension live.code name h none is) ∙ e
+      by (Some h) is e = ap (option_map Coded) (live_after extension live.code name h none is) ∙ e
 
 -- no native's name finds a handler
 free_fewer : (extension : ℕ) (live : Live) → (find_before : (name : List ℕ) (h : HandlerData) →
@@ -95,7 +95,7 @@ code_disposed_stays_sound extension live fault sound = record {
   verified = λ name h e.
       let is = coded_by (named name) name (without_code extension live) h e in
       let v = sound.verified name h (coded_live name live h is.0
-      (found_before extension live.code name h sound.apart is.1)) in
+      (live_before extension live.code name h sound.apart is.1)) in
       let left = without_group extension live.code in
       let none = fails (calls_one (handlers_of extension live.code)) (λ g. bytes_eq name g.command)
       (checked_handlers left) h (no_user (user_of extension live.code) fault)

@@ -8,7 +8,7 @@ use Rattle.kb_core.specs.Declaration.{Declaration}
 use Rattle.kb_core.specs.Native.{named}
 use Rattle.kb_code.specs.Handler.{HandlerData, handler_named}
 use Rattle.kb_code.specs.Commands.{Callee, Plain, Coded, Table, declared_by}
-use Rattle.kb_handler_table.specs.Live.{handlers_in, same_native}
+use Rattle.kb_handler_table.specs.Live.{handlers_in, live_in, same_native}
 use Rattle.kb_registry.specs.Live.{Live, Registered, natives_of, is_live, callee_by, table_of, fresh}
 use Rattle.kb_registry.specs.Live.{registered}
 use Rattle.kb_soundness.specs.Sound.{IsVerified}
@@ -62,13 +62,13 @@ no_plain n false h e = absurd (cc)
 -- a live handler has no native's name, and its name finds it
 pub coded_by : (o : Option Native) (name : List ℕ) (live : Live) (h : HandlerData) →
     callee_by o name live ≡ Some (Coded h) →
-    (o ≡ None) × (handler_named name (handlers_in live.code) ≡ Some h)
-coded_by None name live h e = (refl, coded_name (handler_named name (handlers_in live.code)) h e)
+    (o ≡ None) × (handler_named name (live_in live.code) ≡ Some h)
+coded_by None name live h e = (refl, coded_name (handler_named name (live_in live.code)) h e)
 coded_by (Some n) name live h e = absurd (no_plain n (is_live n live) h e)
 
 -- a handler that its name finds is live, if no native has the name
 pub coded_live : (name : List ℕ) (live : Live) (h : HandlerData) → named name ≡ None →
-    handler_named name (handlers_in live.code) ≡ Some h → table_of live name ≡ Some (Coded h)
+    handler_named name (live_in live.code) ≡ Some h → table_of live name ≡ Some (Coded h)
 coded_live name live h none found = ap (λ o. callee_by o name live) none ∙ ap (option_map Coded) found
 
 -- ---- registrations
@@ -105,7 +105,7 @@ same_code_sound old new same stays sound = record {
       let is = coded_by (named name) name new h e in
       verified_stays (table_of old) (table_of new) stays h
       (sound.verified name h (coded_live name old h is.0
-      (ap (λ gs. handler_named name (handlers_in gs)) (sym same) ∙ is.1)));
+      (ap (λ gs. handler_named name (live_in gs)) (sym same) ∙ is.1)));
 }
 
 pub registered_stays_sound : RegisteredStaysSound

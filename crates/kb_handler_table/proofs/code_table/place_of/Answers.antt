@@ -1,6 +1,7 @@
-use Rattle.std.proofs.Common.{◌≡◌, ◌∙◌, ◌++◌, ap, sym, take}
+use Rattle.std.proofs.Common.{◌≡◌, ◌∙◌, ◌++◌, ap, sym, take, set}
 use Rattle.std.proofs.lemmas.Bool.Decides.{Decides-eqb}
-use Rattle.kb_handler_table.proofs.Groups.{set_there, stands_at}
+use Rattle.kb_handler_table.specs.Live.{Group}
+use Rattle.kb_handler_table.proofs.Groups.{read_there, set_there, stands_at}
 use Rattle.kb_handler_table.proofs.code_table.place_of.Goals as goal
 
 pub returns-then-extension : goal.returns-then-extension
@@ -15,7 +16,9 @@ returns-then-extension c =
       within = c.loop-place-test.true;
       its = c.loop-place.invariant.0 ∙ at.0;
       others = c.loop-place.invariant.1 ∙ ap (λ gs. take i groups ++ gs) at.1;
-      instead = λ codes.
-          c.loop-place.invariant.2 codes ∙ ap (λ gs. take i groups ++ gs) (at.2 codes)
-          ∙ set_there groups i (record { extension = c.args.extension; codes = codes }) c.loop-place-test.true;
+      change = λ change other is.
+          let its : g ≡ other = read_there groups i g other c.loop-place-test.true c.index-groups-place.is is in
+          c.loop-place.invariant.2 change ∙ ap (λ gs. take i groups ++ gs) (at.2 change)
+          ∙ set_there groups i (change g) c.loop-place-test.true
+          ∙ ap (λ (g : Group). set groups i (change g)) its;
     }
