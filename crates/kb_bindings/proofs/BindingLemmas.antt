@@ -1,12 +1,14 @@
--- The commands of a table in turn, and extensions that are all enabled.
-use Rattle.std.proofs.Common.{◌≡◌, ◌<◌, ◌+◌, ℕ, List, [], ◌∷◌, ◌++◌, ◌∙◌, map, drop, length, ap, sym, arith, Some, None}
-use Rattle.std.proofs.Common.{Bool, true}
+-- The commands of a table in turn, and extensions that are enabled or disabled.
+use Rattle.std.proofs.Common.{◌≡◌, ◌<◌, ◌+◌, ℕ, List, [], ◌∷◌, ◌∙◌, map, drop, length, ap, sym, arith, Some, None}
+use Rattle.std.proofs.Common.{zero, suc, ◌≤◌, Bool, false, refl, ◌++◌, get_or, set}
 use Rattle.std.proofs.lemmas.List.{append_assoc, drop_more}
 use Rattle.std.proofs.lemmas.Option.{get_or_from_slice_get, slice_get_within, slice_get-get_or}
 use Rattle.std.specs.List.{slice_get, flat_map}
 use Rattle.kb_manifest.specs.declared.command_table.Named.{Named}
 use Rattle.kb_resolve.specs.declared.enablements.Contribution.{Contribution}
-use Rattle.kb_bindings.specs.Sources.{contribution_of}
+use Rattle.kb_files.specs.declared.extension_file.Extension.{Extension}
+use Rattle.kb_bindings.specs.Sources.{Sources, contribution_of, is_enabled_at, switched_at, with_enabled}
+use Rattle.kb_bindings.specs.Warning.{of_extension, warnings_of}
 
 left_behind : (commands : List Named) (n : ℕ) (e : Named) → slice_get commands n ≡ Some e
     → map contribution_of (drop n commands) ≡ contribution_of e ∷ map contribution_of (drop (n + 1) commands)
@@ -50,17 +52,51 @@ one_more_list {X} f now before whole x xs rest is made so_far =
     ∙ ap (λ (ys : List X). before ++ flat_map f ys) (sym is)
     ∙ so_far
 
-flags_left : {X : Type 0} (xs : List X) (n : ℕ) → n < length xs
-    → map (λ x. true) (drop n xs) ≡ true ∷ map (λ x. true) (drop (n + 1) xs)
-flags_left [] n below = absurd (omega (arith, below))
-flags_left (x ∷ xs) n below = ap (map (λ x. true)) (drop_more (x ∷ xs) n x below)
+-- ---- an extension is enabled or disabled
 
--- one more is enabled, and then those that are left
-pub one_enabled : {X : Type 0} (now before whole : List Bool) (xs : List X) (n : ℕ) → n < length xs
-    → now ≡ before ++ true ∷ [] → before ++ map (λ x. true) (drop n xs) ≡ whole
-    → now ++ map (λ x. true) (drop (n + 1) xs) ≡ whole
-one_enabled now before whole xs n below made so_far =
-    ap (λ (flags : List Bool). flags ++ map (λ x. true) (drop (n + 1) xs)) made
-    ∙ append_assoc before (true ∷ []) (map (λ x. true) (drop (n + 1) xs))
-    ∙ ap (λ (flags : List Bool). before ++ flags) (sym (flags_left xs n below))
-    ∙ so_far
+-- what doesn't depend on that stays
+pub switched-map : {Y : Type 0} (f : Extension → List Y) (place : ℕ) (enabled : Bool) (es : List Extension)
+    → ((e : Extension) (enabled : Bool) → f (record e { enabled = enabled }) ≡ f e)
+    → flat_map f (switched_at place enabled es) ≡ flat_map f es
+switched-map f place enabled [] same = refl
+switched-map f zero enabled (e ∷ es) same = ap (λ ys. ys ++ flat_map f es) (same e enabled)
+switched-map f (suc place) enabled (e ∷ es) same = ap (λ ys. f e ++ ys) (switched-map f place enabled es same)
+
+-- warnings are about all files
+pub same_warnings : (place : ℕ) (enabled : Bool) (s : Sources) → warnings_of (with_enabled place enabled s) ≡ warnings_of s
+same_warnings place enabled s =
+    ap (λ ws. s.defaults.warnings ++ (ws ++ s.user.warnings))
+    (switched-map of_extension place enabled s.extensions (λ e enabled. refl))
+
+-- the extension is as it was when it gets its flag again
+pub switched_back : (place : ℕ) (enabled : Bool) (es : List Extension)
+    → switched_at place (is_enabled_at place es) (switched_at place enabled es) ≡ es
+switched_back place enabled [] = refl
+switched_back zero enabled (e ∷ es) = refl
+switched_back (suc place) enabled (e ∷ es) = ap (λ (es : List Extension). e ∷ es) (switched_back place enabled es)
+
+-- the extension at a place, with another flag
+pub set_flag : (place : ℕ) (enabled : Bool) (e : Extension) (es : List Extension) → place < length es
+    → e ≡ get_or es place e → set es place (record e { enabled = enabled }) ≡ switched_at place enabled es
+set_flag place enabled e [] below at = absurd (omega (arith, below))
+set_flag zero enabled e (x ∷ es) below at = ap (λ (e : Extension). record e { enabled = enabled } ∷ es) at
+set_flag (suc place) enabled e (x ∷ es) below at =
+    ap (λ (es : List Extension). x ∷ es) (set_flag place enabled e es (omega (arith, below)) at)
+
+pub flag_there : (place : ℕ) (e : Extension) (es : List Extension) → place < length es → e ≡ get_or es place e
+    → e.enabled ≡ is_enabled_at place es
+flag_there place e [] below at = absurd (omega (arith, below))
+flag_there zero e (x ∷ es) below at = ap (λ (e : Extension). e.enabled) at
+flag_there (suc place) e (x ∷ es) below at = flag_there place e es (omega (arith, below)) at
+
+pub none_switched : (place : ℕ) (enabled : Bool) (es : List Extension) → length es ≤ place
+    → es ≡ switched_at place enabled es
+none_switched place enabled [] above = refl
+none_switched zero enabled (e ∷ es) above = absurd (omega (arith, above))
+none_switched (suc place) enabled (e ∷ es) above =
+    ap (λ (es : List Extension). e ∷ es) (none_switched place enabled es (omega (arith, above)))
+
+pub none_enabled : (place : ℕ) (es : List Extension) → length es ≤ place → false ≡ is_enabled_at place es
+none_enabled place [] above = refl
+none_enabled zero (e ∷ es) above = absurd (omega (arith, above))
+none_enabled (suc place) (e ∷ es) above = none_enabled place es (omega (arith, above))

@@ -1,6 +1,6 @@
--- What binds keys: the default rules, the extensions in load order, and the user's rules. All extensions are
--- enabled.
-use Rattle.std.specs.Prelude.{ℕ, List, [], map, true, Option, codes, slice_get}
+-- What binds keys: the default rules, the extensions in load order, enabled or not, and the user's rules.
+use Rattle.std.specs.Prelude.{ℕ, zero, suc, Bool, false, List, [], ◌∷◌, map, Option, codes, slice_get}
+use Rattle.std.specs.Prelude.{if◌then◌else◌}
 use Rattle.std.specs.List.{flat_map}
 use Rattle.std.specs.Option.{option_map_or}
 use Rattle.kb_context.specs.Scopes.{ScopesData, context}
@@ -26,22 +26,32 @@ pub record Sources : Type 0 where
 -- the rules in force, from the top down
 abbrev pub rules_of : Sources → List Rule
 rules_of s =
-    rules_in_force s.defaults (map (λ e. e.rules) s.extensions) (map (λ e. true) s.extensions) s.user
+    rules_in_force s.defaults (map (λ e. e.rules) s.extensions) (map (λ e. e.enabled) s.extensions) s.user
 
--- what an extension contributes of its commands
+-- what an extension contributes of its commands, if it is enabled
 abbrev pub contribution_of : Named → Contribution
 contribution_of named = record { command = named.name; enablement = named.command.enablement }
 
 abbrev pub contributions_of : Extension → List Contribution
-contributions_of e = map contribution_of e.manifest.commands
+contributions_of e = if e.enabled then map contribution_of e.manifest.commands else []
 
--- the enablement of a command: that of its first contribution, if it has one
+-- the enablement of a command: that of its first contribution by an enabled extension, if it has one
 abbrev pub enablement : Sources → List ℕ → Option MarkedClause
 enablement s = enablement_of (flat_map contributions_of s.extensions)
 
 -- the same with other rules of the user
 abbrev pub with_user_rules : Listed → Sources → Sources
 with_user_rules user s = record s { user = user }
+
+-- the extensions with the one at a place enabled, or not
+abbrev pub switched_at : ℕ → Bool → List Extension → List Extension
+switched_at place enabled [] = []
+switched_at zero enabled (e ∷ es) = record e { enabled = enabled } ∷ es
+switched_at (suc place) enabled (e ∷ es) = e ∷ switched_at place enabled es
+
+-- the same with the extension at a place enabled, or not
+abbrev pub with_enabled : ℕ → Bool → Sources → Sources
+with_enabled place enabled s = record s { extensions = switched_at place enabled s.extensions }
 
 -- how a file is named in messages: an extension's by the identifier, as its manifest spells it
 abbrev pub source_of : Sources → Origin → List ℕ
@@ -56,3 +66,9 @@ pressed before key scopes s = step before key (context scopes) (enablement s) (r
 -- the keystrokes that are pressed after it
 abbrev pub still_pressed : List Keystroke → Keystroke → ScopesData → Sources → List Keystroke
 still_pressed before key scopes s = pressed_after before key (context scopes) (enablement s) (rules_of s)
+
+-- ---- for private functions
+
+-- whether the extension at a place is enabled
+abbrev pub is_enabled_at : ℕ → List Extension → Bool
+is_enabled_at place es = option_map_or (λ e. e.enabled) (slice_get es place) false

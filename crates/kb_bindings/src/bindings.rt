@@ -1,10 +1,11 @@
 //! What binds keys, and the search among it.
-ghost use Rattle.std.specs.Prelude.{◌≡◌, ◌++◌, IfOk, OnOk, OnErr, map, true};
+ghost use Rattle.std.specs.Prelude.{◌≡◌, ◌++◌, IfOk, OnOk, OnErr, map};
 ghost use Rattle.std.specs.List.{flat_map};
 ghost use Rattle.kb_resolve.specs.Enablements.{enablement_in, enablement_of};
 ghost use Rattle.kb_resolve.specs.Pressed.{step_of};
 ghost use Rattle.kb_bindings.specs.Sources.{pressed, still_pressed, rules_of, with_user_rules, source_of};
-ghost use Rattle.kb_bindings.specs.Sources.{contribution_of, contributions_of};
+ghost use Rattle.kb_bindings.specs.Sources.{contribution_of, contributions_of, enablement, is_enabled_at};
+ghost use Rattle.kb_bindings.specs.Sources.{switched_at, with_enabled};
 ghost use Rattle.kb_bindings.specs.Unread as unread;
 ghost use Rattle.kb_bindings.specs.Warning.{warnings_of};
 ghost use Rattle.kb_bindings.specs.Bindings.{IsRenewed, IsSearched};
@@ -22,11 +23,11 @@ use std::alloc::Global;
 use std::marker::Model;
 
 /// The default rules, the extensions and the user's rules, with the search among them and the warnings about
-/// their entries. Contracts see the first three. All extensions are enabled.
+/// their entries. Contracts see the first three.
 #[derive(Drop)]
 pub struct Bindings {
     defaults: RuleList,
-    extensions: Seq<Extension>,
+    extensions: Vec<Extension>,
     user: RuleList,
     resolver: Resolver,
     enablements: Enablements,
@@ -56,11 +57,11 @@ impl Model for Bindings {
       marks.the_row.coded,
     ) };
 
-    ghost view = { λ b. record { defaults = b.defaults; extensions = b.extensions; user = b.user } };
+    ghost view = { λ b. record { defaults = b.defaults; extensions = b.extensions.items; user = b.user } };
 
     // The resolver, the enablements and the warnings are derived from these rules and extensions.
     ghost invariant = { λ b.
-        IsSearched (record { defaults = b.defaults; extensions = b.extensions; user = b.user })
+        IsSearched (record { defaults = b.defaults; extensions = b.extensions.items; user = b.user })
         b.resolver (enablement_in b.enablements) b.warnings };
 }
 
@@ -73,7 +74,7 @@ pub struct Renewed {
 }
 
 impl Bindings {
-    /// These rules and extensions, all of them enabled.
+    /// These rules and extensions.
     pub(crate) fn new(
         alloc: Global,
         defaults: RuleList,
@@ -92,7 +93,7 @@ impl Bindings {
                 },
             ) => Ok(Bindings {
                 defaults,
-                extensions,
+                extensions: extensions.into_vec(),
                 user,
                 resolver,
                 enablements,
@@ -191,6 +192,46 @@ impl Bindings {
         self.resolver = resolver;
         self.warnings = warnings;
     }
+
+    /// Enables the extension at a place in load order, or disables it. Without an extension there nothing
+    /// changes. On refused memory nothing changes.
+    pub fn switch(&mut self, alloc: Global, place: usize, enabled: bool) -> Result<(), NoMemory>
+        ensures ok { OnOk result (self.new ≡ with_enabled place enabled self.old) }
+        ensures err { OnErr result (self.new ≡ self.old) }
+    {
+        let before = set_enabled(&mut self.extensions, place, enabled);
+        match search_all(
+            alloc,
+            &self.defaults,
+            self.extensions.as_slice(),
+            &self.user,
+        ) {
+            Ok((resolver, enablements)) => {
+                self.resolver = resolver;
+                self.enablements = enablements;
+                Ok(())
+            }
+            Err(refused) => {
+                set_enabled(&mut self.extensions, place, before);
+                Err(refused)
+            }
+        }
+    }
+}
+
+/// Enables the extension at a place, or disables it, and returns whether it was enabled before. Without an
+/// extension there nothing changes.
+fn set_enabled(extensions: &mut Vec<Extension>, place: usize, enabled: bool) -> bool
+    ensures before { result ≡ is_enabled_at place extensions.old.items }
+    ensures set { extensions.new.items ≡ switched_at place enabled extensions.old.items }
+{
+    if place >= extensions.as_slice().len() {
+        return false;
+    }
+    let extension = &mut extensions[place];
+    let before = extension.enabled;
+    extension.enabled = enabled;
+    before
 }
 
 /// What is derived from rules and extensions: the search among the rules, the enablements of commands, and the
@@ -222,6 +263,29 @@ fn derive_all(
         enablements,
         warnings,
     })
+}
+
+/// The search among all rules, and the enablements of the extensions' commands.
+fn search_all(
+    alloc: Global,
+    defaults: &RuleList,
+    extensions: &[Extension],
+    user: &RuleList,
+) -> Result<(Resolver, Enablements), NoMemory>
+    ensures rules { IfOk result (λ made. made.0 ≡ rules_of (record {
+      defaults = defaults.now;
+      extensions = extensions.now;
+      user = user.now;
+    })) }
+    ensures enablements { IfOk result (λ made. enablement_in made.1 ≡ enablement (record {
+      defaults = defaults.now;
+      extensions = extensions.now;
+      user = user.now;
+    })) }
+{
+    let enablements = all_enablements(alloc, extensions)?;
+    let resolver = search_among(alloc, defaults, extensions, user)?;
+    Ok((resolver, enablements))
 }
 
 /// The enablements of the extensions' commands.
@@ -269,7 +333,7 @@ fn search_among(
     })) }
 {
     let lists = lists_of(alloc, extensions)?;
-    let enabled = all_enabled(alloc, extensions)?;
+    let enabled = flags_of(alloc, extensions)?;
     let rules = RuleSet::assemble(alloc, defaults, lists.as_slice(), enabled.as_slice(), user)?;
     Ok(Resolver::new(rules))
 }
@@ -285,26 +349,40 @@ fn lists_of<'e>(alloc: Global, extensions: &'e [Extension]) -> Result<Vec<&'e Ru
     Ok(lists)
 }
 
-/// That each extension is enabled.
-fn all_enabled(alloc: Global, extensions: &[Extension]) -> Result<Vec<bool>, NoMemory>
-    ensures { IfOk result (λ enabled. enabled.items ≡ map (λ e. true) extensions.now) }
+/// Whether each extension is enabled.
+fn flags_of(alloc: Global, extensions: &[Extension]) -> Result<Vec<bool>, NoMemory>
+    ensures { IfOk result (λ enabled. enabled.items ≡ map (λ e. e.enabled) extensions.now) }
 {
     let mut enabled = Vec::new(alloc);
-    for _ in extensions {
-        enabled.push(true)?;
+    for extension in extensions {
+        enabled.push(extension.enabled)?;
     }
     Ok(enabled)
 }
 
-/// What the extensions contribute of their commands, in load order.
+/// What the enabled extensions contribute of their commands, in load order.
 fn all_contributions(alloc: Global, extensions: &[Extension]) -> Result<Vec<Contribution>, NoMemory>
     ensures { IfOk result (λ made. made.items ≡ flat_map contributions_of extensions.now) }
 {
     let mut made = Vec::new(alloc);
     for extension in extensions {
-        contribute(alloc, &extension.manifest.commands, &mut made)?;
+        add_contributions(alloc, extension, &mut made)?;
     }
     Ok(made)
+}
+
+/// Adds what an extension contributes of its commands, if it is enabled.
+fn add_contributions(
+    alloc: Global,
+    extension: &Extension,
+    made: &mut Vec<Contribution>,
+) -> Result<(), NoMemory>
+    ensures { OnOk result (made.new.items ≡ made.old.items ++ contributions_of extension.now) }
+{
+    if !extension.enabled {
+        return Ok(());
+    }
+    contribute(alloc, &extension.manifest.commands, made)
 }
 
 /// Adds what these commands contribute.

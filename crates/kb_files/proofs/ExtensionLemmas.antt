@@ -1,5 +1,5 @@
 -- An extension is what its package holds, for its own unread patterns.
-use Rattle.std.proofs.Common.{◌≡◌, ◌∙◌, refl, sym, ap, subst, ℕ, List, [], ◌++◌, Some, Result, Ok, Err, append-nil}
+use Rattle.std.proofs.Common.{◌≡◌, ◌∙◌, refl, sym, ap, subst, ℕ, true, List, [], ◌++◌, Some, Result, Ok, Err, append-nil}
 use Rattle.serde_json.specs.Data.{Data}
 use Rattle.kb_base.specs.declared.note.Origin.{Origin}
 use Rattle.kb_base.specs.declared.note.Origin.TheVariants as origin
@@ -113,6 +113,7 @@ extension_by-same one other number platform outline same =
     } in
     λ i. record {
       number = number;
+      enabled = true;
       manifest = (contributed o (told i) outline).manifest;
       rules = listed-same o (Some platform) one other outline.points.keybindings (same Keybindings) i;
     }
@@ -181,7 +182,7 @@ extension_read number platform bytes p e read is =
     ∙ ap (λ (told : Told). seen (extension_of (unread_in e) number platform) (package_in o told bytes))
     (told_read number platform bytes p e read is)
     ∙ ap (seen (extension_of (unread_in e) number platform)) read
-    ∙ (λ i. Ok (record { number = number; manifest = p.manifest; rules = rules i }))
+    ∙ (λ i. Ok (record { number = number; enabled = true; manifest = p.manifest; rules = rules i }))
     ∙ ap Ok (sym is)
 
 pub extension_fails : (number : ℕ) (platform : Platform) (bytes : List ℕ) (failure : Failure Refusal)

@@ -1,6 +1,6 @@
 -- The extension that the bytes of a `package.json` hold, for the patterns that aren't read, or the refusal for
 -- the first fault of the file, which doesn't depend on patterns.
-use Rattle.std.specs.Prelude.{ℕ, List, ◌++◌, Some, Result}
+use Rattle.std.specs.Prelude.{ℕ, true, List, ◌++◌, Some, Result}
 use Rattle.kb_base.specs.declared.note.Origin.{Origin}
 use Rattle.kb_base.specs.declared.note.Origin.TheVariants as origin
 use Rattle.kb_base.specs.declared.note.UnreadPattern.{UnreadPattern}
@@ -26,10 +26,11 @@ package_in origin told bytes = seen (contributed origin told) (outline_in bytes)
 abbrev pub unread_in : Extension → List UnreadPattern
 unread_in e = e.manifest.command_notes.unread ++ (e.rules.unread ++ e.manifest.palette_notes.unread)
 
--- the extension of a number with this package; its keys are those of a platform
+-- the extension of a number with this package, enabled; its keys are those of a platform
 abbrev pub extension_of : List UnreadPattern → ℕ → Platform → Stated → Extension
 extension_of unread number platform stated = record {
   number = number;
+  enabled = true;
   manifest = stated.manifest;
   rules = listed unread (origin.Extension number) (Some platform) stated.keybindings;
 }

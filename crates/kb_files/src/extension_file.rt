@@ -18,18 +18,20 @@ use kb_rules::{Origin, RuleList, read_list};
 use serde_json::Value;
 use std::alloc::Global;
 
-/// What an extension contributes.
+/// What an extension contributes, and whether it is enabled.
 #[derive(Drop)]
 pub struct Extension {
     /// Its number in load order, from 0.
     pub number: u32,
+    /// Whether it is enabled. A load enables all extensions (our decision).
+    pub enabled: bool,
     /// Its manifest, without its key rules.
     pub manifest: Manifest,
     /// Its key rules and removals.
     pub rules: RuleList,
 }
 
-/// The extension of a `package.json`, with its number in load order: JSON with comments whose value is a
+/// The extension of a `package.json`, enabled, with its number in load order: JSON with comments whose value is a
 /// package (`Package::read` gives the format), with its key rules for a platform (`read_list` gives theirs).
 ///
 /// Errors: the first fault of the file: those of its text (1 to 4), then an object without `name` (40), then
@@ -82,6 +84,7 @@ fn extend(
     let rules = list_keybindings(alloc, keybindings, number, platform)?;
     Ok(Extension {
         number,
+        enabled: true,
         manifest,
         rules,
     })

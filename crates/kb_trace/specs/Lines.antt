@@ -35,6 +35,18 @@ unset_line scope key = codes "unset " ++ (scope ++ (codes " " ++ key))
 abbrev pub reloaded_line : List ℕ
 reloaded_line = codes "reloaded"
 
+-- enabled publisher.name
+abbrev pub enabled_line : List ℕ → List ℕ
+enabled_line id = codes "enabled " ++ id
+
+-- disabled publisher.name
+abbrev pub disabled_line : List ℕ → List ℕ
+disabled_line id = codes "disabled " ++ id
+
+-- updated publisher.name
+abbrev pub updated_line : List ℕ → List ℕ
+updated_line id = codes "updated " ++ id
+
 -- registered type 10
 abbrev pub registered_line : List ℕ → ℕ → List ℕ
 registered_line command ticket = codes "registered " ++ (command ++ (codes " " ++ decimal ticket))

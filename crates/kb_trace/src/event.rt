@@ -1,5 +1,5 @@
 //! Events that a session handles, and its answers.
-use kb_base::{Refusal, Text};
+use kb_base::{Refusal, Seq, Text};
 use kb_context::ContextValue;
 use kb_keys::Keystroke;
 
@@ -14,6 +14,12 @@ pub enum Event {
     SetKey(Text, Text, ContextValue),
     /// In the scope with the first name, the context key with the second name is removed.
     UnsetKey(Text, Text),
+    /// The extension with this identifier is enabled. ASCII letter case doesn't matter (our decision).
+    Enable(Text),
+    /// The extension with this identifier is disabled.
+    Disable(Text),
+    /// The extension with this identifier gets the handlers of these bytes, those of a `handlers.json`.
+    Update(Text, Seq<u8>),
     /// A line of a script that cannot be parsed, by its number, counted from 1.
     Unread(u64),
     /// A script registers a closure for a native command of which the host has none left. The trace gets

@@ -103,6 +103,30 @@ pub fn reloaded_line(lines: &mut Lines) -> Result<(), NoMemory>
     lines.push(text)
 }
 
+/// `enabled EXTENSION`: an extension is enabled.
+pub fn enabled_line(lines: &mut Lines, id: &str) -> Result<(), NoMemory>
+    ensures ok { OnOk result (lines.new ≡ lines.old ++ line.enabled_line id.now ∷ []) }
+    ensures err { OnErr result (lines.new ≡ lines.old) }
+{
+    worded(lines, "enabled ", id)
+}
+
+/// `disabled EXTENSION`: an extension is disabled.
+pub fn disabled_line(lines: &mut Lines, id: &str) -> Result<(), NoMemory>
+    ensures ok { OnOk result (lines.new ≡ lines.old ++ line.disabled_line id.now ∷ []) }
+    ensures err { OnErr result (lines.new ≡ lines.old) }
+{
+    worded(lines, "disabled ", id)
+}
+
+/// `updated EXTENSION`: an extension got other handlers.
+pub fn updated_line(lines: &mut Lines, id: &str) -> Result<(), NoMemory>
+    ensures ok { OnOk result (lines.new ≡ lines.old ++ line.updated_line id.now ∷ []) }
+    ensures err { OnErr result (lines.new ≡ lines.old) }
+{
+    worded(lines, "updated ", id)
+}
+
 /// `registered COMMAND TICKET`: a closure was registered.
 pub fn registered_line(lines: &mut Lines, command: &str, ticket: u64) -> Result<(), NoMemory>
     ensures ok { OnOk result (lines.new ≡ lines.old ++ line.registered_line command.now ticket ∷ []) }

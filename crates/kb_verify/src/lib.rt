@@ -20,6 +20,6 @@ pub use callable::{Callable, SharedSignature};
 pub use callees::Callee;
 pub use costing::dearest_cost;
 pub use fault::{Defect, Step, VerifyFault};
-pub use provider::{Provider, callable_of};
+pub use provider::{Provider, callable_of, is_needed};
 pub use verified::{Verified, verify};
 pub use verified_list::VerifiedList;

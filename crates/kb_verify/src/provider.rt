@@ -67,8 +67,9 @@ fn add_needed(
     Ok(())
 }
 
-/// Whether an extension is among the dependencies. ASCII letter case is ignored (our decision).
-fn is_needed(id: &str, dependencies: &[Text]) -> bool
+/// Whether an extension with this identifier is among the dependencies. ASCII letter case is ignored (our
+/// decision).
+pub fn is_needed(id: &str, dependencies: &[Text]) -> bool
     ensures { result ≡ is_needed id.now dependencies.now }
 {
     for other in dependencies {

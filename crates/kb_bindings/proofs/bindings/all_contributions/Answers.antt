@@ -9,4 +9,4 @@ loop-extension-preserved c =
     let n = c.loop-extension.extension-index in
     let left : drop n c.args.extensions.now ≡ c.extension-item.result ∷ drop (n + 1) c.args.extensions.now =
     grind (arith, common_steps) in
-    one_more_list contributions_of _ _ _ _ _ _ left c.in_ok-contribute.ensures c.loop-extension.invariant
+    one_more_list contributions_of _ _ _ _ _ _ left c.in_ok-add_contributions.ensures c.loop-extension.invariant
