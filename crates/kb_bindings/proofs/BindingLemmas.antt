@@ -7,7 +7,8 @@ use Rattle.std.specs.List.{slice_get, flat_map}
 use Rattle.kb_manifest.specs.declared.command_table.Named.{Named}
 use Rattle.kb_resolve.specs.declared.enablements.Contribution.{Contribution}
 use Rattle.kb_files.specs.declared.extension_file.Extension.{Extension}
-use Rattle.kb_bindings.specs.Sources.{Sources, contribution_of, is_enabled_at, switched_at, with_enabled}
+use Rattle.kb_bindings.specs.Sources.{Sources, contribution_of, with_enabled}
+use Rattle.kb_files.specs.Enabled.{is_enabled_at, switched_at}
 use Rattle.kb_bindings.specs.Warning.{of_extension, warnings_of}
 
 left_behind : (commands : List Named) (n : ℕ) (e : Named) → slice_get commands n ≡ Some e

@@ -1,9 +1,10 @@
 -- What binds keys: the default rules, the extensions in load order, enabled or not, and the user's rules.
-use Rattle.std.specs.Prelude.{ℕ, zero, suc, Bool, false, List, [], ◌∷◌, map, Option, codes, slice_get}
+use Rattle.std.specs.Prelude.{ℕ, Bool, List, [], map, Option, codes, slice_get}
 use Rattle.std.specs.Prelude.{if◌then◌else◌}
 use Rattle.std.specs.List.{flat_map}
 use Rattle.std.specs.Option.{option_map_or}
 use Rattle.kb_context.specs.Scopes.{ScopesData, context}
+use Rattle.kb_files.specs.Enabled.{switched_at}
 use Rattle.kb_files.specs.declared.extension_file.Extension.{Extension}
 use Rattle.kb_keys.specs.declared.keystroke.Keystroke.{Keystroke}
 use Rattle.kb_manifest.specs.declared.command_table.Named.{Named}
@@ -43,12 +44,6 @@ enablement s = enablement_of (flat_map contributions_of s.extensions)
 abbrev pub with_user_rules : Listed → Sources → Sources
 with_user_rules user s = record s { user = user }
 
--- the extensions with the one at a place enabled, or not
-abbrev pub switched_at : ℕ → Bool → List Extension → List Extension
-switched_at place enabled [] = []
-switched_at zero enabled (e ∷ es) = record e { enabled = enabled } ∷ es
-switched_at (suc place) enabled (e ∷ es) = e ∷ switched_at place enabled es
-
 -- the same with the extension at a place enabled, or not
 abbrev pub with_enabled : ℕ → Bool → Sources → Sources
 with_enabled place enabled s = record s { extensions = switched_at place enabled s.extensions }
@@ -66,9 +61,3 @@ pressed before key scopes s = step before key (context scopes) (enablement s) (r
 -- the keystrokes that are pressed after it
 abbrev pub still_pressed : List Keystroke → Keystroke → ScopesData → Sources → List Keystroke
 still_pressed before key scopes s = pressed_after before key (context scopes) (enablement s) (rules_of s)
-
--- ---- for private functions
-
--- whether the extension at a place is enabled
-abbrev pub is_enabled_at : ℕ → List Extension → Bool
-is_enabled_at place es = option_map_or (λ e. e.enabled) (slice_get es place) false

@@ -1,4 +1,5 @@
 pub mod Context
+pub mod Enabled
 pub mod Extension
 pub mod Extensions
 pub mod Fault

@@ -15,7 +15,7 @@ use Rattle.std.proofs.lemmas.List.Elements.{All-head, All-tail, All-weaker}
 use Rattle.std.proofs.lemmas.Slice.Eq.{bytes_eq-Decides}
 use Rattle.kb_code.specs.Handler.{HandlerData, handler_named}
 use Rattle.kb_code.specs.Commands.{Coded, Plain, declared_by}
-use Rattle.kb_handler_table.specs.Live.{handlers_in, has_taken}
+use Rattle.kb_handler_table.specs.Live.{handlers_in, handlers_of, has_taken}
 use Rattle.kb_core.specs.Declaration.{Declaration}
 use Rattle.kb_core.specs.Native.{name_of, named, natives, declaration_of}
 use Rattle.kb_core.specs.declared.native.Native.{Native}
@@ -31,7 +31,7 @@ use Rattle.kb_code.specs.Same.{same_declaration}
 use Rattle.kb_verify.specs.declared.callees.Callee.{Callee}
 use Rattle.kb_code.proofs.SameLemmas.{same_is_equal}
 use Rattle.kb_verify.specs.Provider.{is_needed, with_handlers, with_natives, with_needed}
-use Rattle.kb_load_commands.specs.Callable.{callable_of, dependencies_of, handlers_live, live_among}
+use Rattle.kb_load_commands.specs.Callable.{callable_of, dependencies_of, live_among}
 use Rattle.kb_load_commands.specs.Callable.{provided_by}
 use Rattle.kb_load_commands.specs.Verified.{IsVerified}
 use Rattle.kb_load_commands.proofs.FoundLemmas.{AreFound, all_of_group, found_among}
@@ -133,12 +133,12 @@ module _ (own : List HandlerData) (live : Live) where
   needed_back found dependencies (e ∷ rest) commands backs =
       needed_back found dependencies rest _ (by (is_needed e.manifest.id dependencies))
     where
-      all : All IsThere (handlers_live e.number live)
-      all = All-weaker (λ h. callee h.command live ≡ Some (Coded h)) IsThere live_there (handlers_live e.number live)
+      all : All IsThere (handlers_of e.number live.code)
+      all = All-weaker (λ h. callee h.command live ≡ Some (Coded h)) IsThere live_there (handlers_of e.number live.code)
           (all_of_group (λ h. callee h.command live ≡ Some (Coded h)) e.number live.code found)
 
-      by : (b : Bool) → Backs (if b then with_handlers (handlers_live e.number live) commands else commands)
-      by true = handlers_back (handlers_live e.number live) all commands backs
+      by : (b : Bool) → Backs (if b then with_handlers (handlers_of e.number live.code) commands else commands)
+      by true = handlers_back (handlers_of e.number live.code) all commands backs
       by false = backs
 
   callable_backs : AreFound live → has_taken (handlers_in live.code) own ≡ false → (extensions : List Extension)
@@ -151,31 +151,31 @@ module _ (own : List HandlerData) (live : Live) where
 
   -- no callee of a handler is missing
   none_missing : (commands : Commands) → Backs commands → (h : HandlerData) (callees : List Callee)
-      → AreDeclared commands h callees → missing_in own live h callees ≡ None
+      → AreDeclared commands h callees → missing_in (is_there own live) h callees ≡ None
   none_missing commands backs h [] are = refl
   none_missing commands backs h (c ∷ callees) are =
-      ap (λ o. option_or o (missing_in own live h callees)) (there (slice_get h.calls c.index) are.0)
+      ap (λ o. option_or o (missing_in (is_there own live) h callees)) (there (slice_get h.calls c.index) are.0)
       ∙ none_missing commands backs h callees are.1
     where
       there : (o : Option (List ℕ)) → option_and_then (map.get commands) o ≡ Some c.signature
-          → unless_there own live c.signature o ≡ None
+          → unless_there (is_there own live) c.signature o ≡ None
       there None e = refl
       there (Some name) e = ap (λ b. if b then None else Some name) (backs name c.signature e)
 
   -- nor one of several handlers
   pub none_missing_from : (commands : Commands) → Backs commands → (vs : List CheckedHandler)
       → All (IsVerified commands) vs
-      → missing_from own live (map_list (λ v. v.handler) vs) (map_list (λ v. v.callees) vs) ≡ None
+      → missing_from (is_there own live) (map_list (λ v. v.handler) vs) (map_list (λ v. v.callees) vs) ≡ None
   none_missing_from commands backs [] all = refl
   none_missing_from commands backs (v ∷ vs) all =
       let its = All-head (IsVerified commands) v vs all in
-      ap (λ o. option_or o (missing_from own live (map_list (λ v. v.handler) vs) (map_list (λ v. v.callees) vs)))
+      ap (λ o. option_or o (missing_from (is_there own live) (map_list (λ v. v.handler) vs) (map_list (λ v. v.callees) vs)))
       (none_missing commands backs v.handler v.callees its.callees.declared)
       ∙ none_missing_from commands backs vs (All-tail (IsVerified commands) v vs all)
 
   -- verified handlers with free names have no missing callee
   pub lacks_nothing : AreFound live → has_taken (handlers_in live.code) own ≡ false → (extensions : List Extension)
       (number : ℕ) (vs : List CheckedHandler) → All (IsVerified (callable_of extensions number own live)) vs
-      → missing_from own live (map_list (λ v. v.handler) vs) (map_list (λ v. v.callees) vs) ≡ None
+      → missing_from (is_there own live) (map_list (λ v. v.handler) vs) (map_list (λ v. v.callees) vs) ≡ None
   lacks_nothing found untaken extensions number vs all =
       none_missing_from (callable_of extensions number own live) (callable_backs found untaken extensions number) vs all

@@ -1,4 +1,4 @@
--- Each live handler is found by its name, since names are distinct.
+-- While extensions are loaded, each handler is live, and found by its name, since names are distinct.
 use Rattle.std.proofs.Common.{◌≡◌, ℕ, Bool, true, false, cond, List, [], ◌∷◌, ◌++◌, Option, Some, None}
 use Rattle.std.proofs.Common.{refl, sym, ap}
 use Rattle.std.proofs.Common.{◌∙◌, length, take, drop, find, if◌then◌else◌}
@@ -13,13 +13,14 @@ use Rattle.std.proofs.Math.Seq.{take-append_seam, drop-append_seam}
 use Rattle.kb_code.specs.Handler.{HandlerData, handler_named}
 use Rattle.kb_code.specs.Commands.{Coded}
 use Rattle.kb_handler_table.specs.Codes.{CodesData}
-use Rattle.kb_handler_table.specs.Live.{Group, group_of, handlers_in, has_taken}
+use Rattle.kb_handler_table.specs.Apart.{AreApart}
+use Rattle.kb_handler_table.specs.Live.{Group, group_of, handlers_in, has_taken, live_group}
 use Rattle.kb_handler_table.specs.Live.{is_taken, with_group}
 use Rattle.kb_registry.specs.Live.{Live, callee, with_code}
 use Rattle.kb_soundness.proofs.Loads.{free, stays, comes_live}
 use Rattle.kb_soundness.proofs.Tests.{or_false}
 
--- each live handler is found by its name
+-- each handler is live and found by its name
 abbrev pub AreFound : Live → Type 0
 AreFound live = All (λ h. callee h.command live ≡ Some (Coded h)) (handlers_in live.code)
 
@@ -107,14 +108,15 @@ found_among above (x ∷ hs) e =
         absurd (cc)
     by h is false same untaken = is
 
--- added code keeps each live handler found
+-- added code keeps each handler found
 pub found_with_code : (extension : ℕ) (codes : CodesData) (live : Live)
-    → has_taken (handlers_in live.code) codes.handlers ≡ false → AreFound live → AreFound (with_code extension codes live)
-found_with_code extension codes live untaken found =
+    → has_taken (handlers_in live.code) codes.handlers ≡ false → AreApart (handlers_in live.code) → AreFound live
+    → AreFound (with_code extension codes live)
+found_with_code extension codes live untaken apart found =
     let P : HandlerData → Type 0 = λ h. callee h.command (with_code extension codes live) ≡ Some (Coded h) in
-    all_with P (record { extension = extension; codes = codes }) live.code
+    all_with P (live_group extension codes) live.code
     (All-weaker (λ h. handler_named h.command codes.handlers ≡ Some h) P
-    (λ h is. comes_live extension codes live untaken h.command h is) codes.handlers
+    (λ h is. comes_live extension codes live untaken apart h.command h is) codes.handlers
     (found_among (handlers_in live.code) codes.handlers untaken))
     (All-weaker (λ h. callee h.command live ≡ Some (Coded h)) P
-    (λ h is. stays extension codes live untaken h.command (Coded h) is) (handlers_in live.code) found)
+    (λ h is. stays extension codes live untaken apart h.command (Coded h) is) (handlers_in live.code) found)

@@ -11,7 +11,10 @@ use Rattle.kb_files.specs.declared.fault.LoadFile.TheVariants as file
 use Rattle.kb_code.specs.Handler.{HandlerData}
 use Rattle.kb_code.specs.Commands.{Coded}
 use Rattle.kb_handler_table.specs.Codes.{checked}
-use Rattle.kb_handler_table.specs.Live.{handlers_in, has_taken}
+use Rattle.kb_handler_table.specs.Apart.{AreApart}
+use Rattle.kb_handler_table.specs.Live.{handlers_in, has_taken, live_group}
+use Rattle.kb_handler_table.specs.declared.fault.CodesFault.TheVariants as codes
+use Rattle.kb_handler_table.proofs.Apart.{put_stays}
 use Rattle.kb_base.specs.Refusal.{numbered}
 use Rattle.kb_base.specs.declared.failure.Failure.TheVariants.{Fault}
 use Rattle.kb_base.specs.declared.refusal.Refusal.{Refusal}
@@ -131,10 +134,10 @@ module _ (extensions : List Extension) (extension : ℕ) (handlers : List Handle
           let calm : callee_fault (missing_callee (checked bars.verified) live) ≡ None = ap callee_fault none in
           absurd (cc)
 
-  admits_found : (next : Live) → AreFound live → Admits extensions extension handlers live next → AreFound next
-  admits_found next found admits =
-      subst AreFound (sym admits.then) (found_with_code extension (checked admits.verified) live
-      (by (has_taken (handlers_in live.code) (map (λ v. v.handler) admits.verified)) refl admits.free) found)
+  untaken : (next : Live) (admits : Admits extensions extension handlers live next)
+      → has_taken (handlers_in live.code) (map (λ v. v.handler) admits.verified) ≡ false
+  untaken next admits =
+      by (has_taken (handlers_in live.code) (map (λ v. v.handler) admits.verified)) refl admits.free
     where
       by : (taken : Bool) → has_taken (handlers_in live.code) (map (λ v. v.handler) admits.verified) ≡ taken
           → (if taken then Some AlreadyExists else callee_fault (missing_callee (checked admits.verified) live)) ≡ None
@@ -142,22 +145,38 @@ module _ (extensions : List Extension) (extension : ℕ) (handlers : List Handle
       by true is e = absurd (cc)
       by false is e = is
 
+  admits_found : (next : Live) → AreFound live → AreApart (handlers_in live.code)
+      → Admits extensions extension handlers live next → AreFound next
+  admits_found next found apart admits =
+      subst AreFound (sym admits.then)
+      (found_with_code extension (checked admits.verified) live (untaken next admits) apart found)
+
+  admits_apart : (next : Live) → AreApart (handlers_in live.code) → Admits extensions extension handlers live next
+      → AreApart (handlers_in next.code)
+  admits_apart next apart admits =
+      put_stays (live_group extension (checked admits.verified)) live.code next.code
+      (ap (λ b. if b then Some codes.AlreadyExists else None) (untaken next admits)) apart
+      (ap (λ (l : Live). l.code) admits.then)
+
 joins_number : (extensions : List Extension) (extension : ℕ) (all : List (List HandlerData)) (live : Live)
-    (fault : LoadFault) → AreFound live → JoinAll extensions extension all live (Err (Fault fault))
-    → fault.refusal.number ≡ 74 → ⊥
-joins_number extensions extension [] live fault found joins number = absurd (cc)
-joins_number extensions extension (handlers ∷ rest) live fault found joins number = ⊎_elim
+    (fault : LoadFault) → AreFound live → AreApart (handlers_in live.code)
+    → JoinAll extensions extension all live (Err (Fault fault)) → fault.refusal.number ≡ 74 → ⊥
+joins_number extensions extension [] live fault found apart joins number = absurd (cc)
+joins_number extensions extension (handlers ∷ rest) live fault found apart joins number = ⊎_elim
     (λ stops.
     let its : stops.failure ≡ Fault fault = cc (stops.is) in
     ⊎_elim (λ r. refuses_number extensions extension handlers live fault r number)
     (λ b. bars_number extensions extension handlers live fault found b number)
     (subst (λ f. Joins extensions extension handlers live (Err f)) its stops.joins))
     (λ on. joins_number extensions (extension + 1) rest on.next fault
-    (admits_found extensions extension handlers live on.next found on.admits) on.rest number) joins
+    (admits_found extensions extension handlers live on.next found apart on.admits)
+    (admits_apart extensions extension handlers live on.next apart on.admits) on.rest number) joins
 
 pub never_lacks_callees : NeverLacksCallees
 never_lacks_callees natives extensions handlers fault failed number = ⊎_elim
     (λ fails. held_number (all_registered natives (fresh 1000000)) fault
     (λ f e n. natives_number natives (fresh 1000000) f e n) fails number)
     (λ begins. joins_number extensions 0 handlers begins.live fault
-    (first_found natives begins.live begins.held) begins.join number) failed
+    (first_found natives begins.live begins.held)
+    (subst (λ gs. AreApart (handlers_in gs)) (sym (held_alone natives begins.live begins.held)) tt) begins.join number)
+    failed

@@ -4,7 +4,7 @@ use Rattle.std.proofs.Common.{sym, nat_eq, nat_lt, option_map, refl, arith, subs
 use Rattle.std.proofs.lemmas.Bool.Decides.{Decides-eqb}
 use Rattle.std.specs.Prelude.{⊤}
 use Rattle.kb_handler_table.specs.Codes.{CodesData}
-use Rattle.kb_handler_table.specs.Live.{Group, group_of, with_codes}
+use Rattle.kb_handler_table.specs.Live.{Group, group_of, live_group, with_codes}
 use Rattle.kb_registry.specs.Live.{Live, with_code}
 
 -- all groups are of extensions before this one
@@ -34,7 +34,7 @@ below_more number codes [] below = (omega arith, tt)
 below_more number codes (g ∷ gs) below = by (nat_lt number g.extension) (below_more number codes gs below.1)
   where
     by : (b : Bool) → AreBelow (number + 1) (with_codes number codes gs) →
-        AreBelow (number + 1) (cond b (record { extension = number; codes = codes } ∷ g ∷ gs)
+        AreBelow (number + 1) (cond b (live_group number codes ∷ g ∷ gs)
         (g ∷ with_codes number codes gs))
     by true rest = (omega arith, further number (g ∷ gs) below)
     by false rest = let lt = below.0 in (omega (arith, lt), rest)

@@ -1,12 +1,13 @@
--- The commands that the handlers of an extension may call: the live native commands, the live handlers of the
--- extensions that it depends on, in load order, and those of its own file. Of equal names the first counts.
+-- The commands that the handlers of an extension may call: the live native commands, the handlers of the
+-- extensions that it depends on, in load order, live or not, and those of its own file. Of equal names the first
+-- counts.
 use Rattle.std.specs.Prelude.{ℕ, List, [], ◌∷◌, ◌++◌, map, slice_get, if◌then◌else◌}
 use Rattle.std.specs.Option.{option_map_or}
 use Rattle.kb_code.specs.Handler.{HandlerData}
 use Rattle.kb_core.specs.Native.{natives}
 use Rattle.kb_core.specs.declared.native.Native.{Native}
 use Rattle.kb_files.specs.declared.extension_file.Extension.{Extension}
-use Rattle.kb_handler_table.specs.Live.{group_of}
+use Rattle.kb_handler_table.specs.Live.{handlers_of}
 use Rattle.kb_registry.specs.Live.{Live, is_live}
 use Rattle.kb_verify.specs.Callable.{Commands}
 use Rattle.kb_verify.specs.Provider as verify
@@ -27,13 +28,9 @@ abbrev pub with_natives : List Native → Live → List Native → List Native
 with_natives [] live before = before
 with_natives (native ∷ rest) live before = with_natives rest live (with_native native live before)
 
--- the live handlers of an extension
-abbrev pub handlers_live : ℕ → Live → List HandlerData
-handlers_live number live = option_map_or (λ codes. codes.handlers) (group_of number live.code) []
-
--- an extension with its live handlers
+-- an extension with its handlers
 abbrev pub provided_by : Live → Extension → Provided
-provided_by live e = record { id = e.manifest.id; handlers = handlers_live e.number live }
+provided_by live e = record { id = e.manifest.id; handlers = handlers_of e.number live.code }
 
 -- the dependencies of the extension of a number
 abbrev pub dependencies_of : ℕ → List Extension → List (List ℕ)

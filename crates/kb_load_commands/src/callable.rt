@@ -1,6 +1,6 @@
 //! The commands that the handlers of an extension may call, from the commands that are live.
 ghost use Rattle.std.specs.Prelude.{◌≡◌, IfOk, OnOk, map};
-ghost use Rattle.kb_load_commands.specs.Callable.{callable_among, callable_of, dependencies_of, handlers_live};
+ghost use Rattle.kb_load_commands.specs.Callable.{callable_among, callable_of, dependencies_of};
 ghost use Rattle.kb_load_commands.specs.Callable.{live_among, provided_by, with_native, with_natives};
 ghost use Rattle.kb_verify.specs.Provider.{provided};
 
@@ -12,10 +12,10 @@ use kb_registry::{HostCommand, Registry};
 use kb_verify::{Callable, Provider};
 use std::alloc::Global;
 
-/// The commands that the handlers of an extension of this number may call: the live native commands, the live
-/// handlers of the extensions that it depends on, in load order, and its own. Of equal names the first
-/// counts.
-pub(crate) fn callable_of<C: HostCommand>(
+/// The commands that the handlers of an extension of this number may call: the live native commands, the
+/// handlers of the extensions that it depends on, in load order, live or not, and its own. Of equal names the
+/// first counts (our decision). Error: `NoMemory`.
+pub fn callable_of<C: HostCommand>(
     alloc: Global,
     registry: &Registry<C>,
     extensions: &[Extension],
@@ -102,7 +102,7 @@ fn add_live<C: HostCommand>(
     }
 }
 
-/// The extensions, each with its live handlers.
+/// The extensions, each with its handlers.
 fn providers<'a, C: HostCommand>(
     alloc: Global,
     registry: &'a Registry<C>,
@@ -120,22 +120,12 @@ fn providers<'a, C: HostCommand>(
     Ok(providers)
 }
 
-/// An extension with its live handlers.
+/// An extension with its handlers.
 fn provider<'a, C: HostCommand>(registry: &'a Registry<C>, extension: &'a Extension) -> Provider<'a>
     ensures { provided result ≡ provided_by registry.now extension.now }
 {
     Provider {
         id: extension.manifest.id.as_str(),
-        handlers: live_handlers(registry, extension.number),
-    }
-}
-
-/// The live handlers of the extension of a number.
-fn live_handlers<C: HostCommand>(registry: &Registry<C>, number: u32) -> &[Handler]
-    ensures { result.now ≡ handlers_live number registry.now }
-{
-    match registry.codes(number) {
-        Some(codes) => codes.handlers(),
-        None => &[],
+        handlers: registry.handlers(extension.number),
     }
 }

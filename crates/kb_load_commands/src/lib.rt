@@ -2,12 +2,14 @@
 //! raw (not verified).
 #![tactic(auto)]
 
-mod callable;
+pub mod callable;
 pub mod checked;
 pub mod laws;
 mod natives;
 pub mod raw;
-mod verifying;
+pub mod verifying;
 
+pub use callable::callable_of;
 pub use checked::checked_commands;
 pub use raw::raw_commands;
+pub use verifying::verify_all;

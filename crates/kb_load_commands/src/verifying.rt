@@ -7,10 +7,11 @@ use kb_code::Handler;
 use kb_verify::{Callable, VerifiedList, VerifyFault, verify};
 use std::alloc::Global;
 
-/// The handlers of a file, verified in order, or the refusal of the first that isn't accepted. On an
-/// error all handlers are dropped.
+/// The handlers of a file, verified in order against the commands that they may call. Errors: the refusal of
+/// the first that isn't accepted (60 to 69, with its command and place), or `NoMemory`. On an error all
+/// handlers are dropped.
 #[tactic(auto, using(crate::proofs::VerifiedLemmas::verifying))]
-pub(crate) fn verify_all(
+pub fn verify_all(
     alloc: Global,
     handlers: Seq<Handler>,
     callable: &Callable,

@@ -1,0 +1,145 @@
+-- The verdict on handlers is the one that the definition gives.
+use Rattle.std.proofs.Common.{◌≡◌, ◌∙◌, ⊎_elim, inl, inr, ℕ, suc, Bool, true, false, List, [], ◌∷◌, ◌++◌, map, refl}
+use Rattle.std.proofs.Common.{sym, ap, subst, Option, Some, None, cond, arith}
+use Rattle.std.specs.Prelude.{option_map, option_to_list, Result, Ok, Err, if◌then◌else◌}
+use Rattle.std.specs.List.{All, flat_map}
+use Rattle.std.specs.Option.{option_or}
+use Rattle.std.proofs.lemmas.List.Elements.{All-head, All-tail}
+use Rattle.kb_base.specs.Failure.{Fails}
+use Rattle.kb_base.specs.declared.failure.Failure.{Failure}
+use Rattle.kb_base.specs.declared.failure.Failure.TheVariants.{Fault, NoMemory}
+use Rattle.kb_base.specs.declared.refusal.Refusal.{Refusal}
+use Rattle.kb_code.specs.Handler.{HandlerData}
+use Rattle.kb_core.specs.Declaration.{Declaration}
+use Rattle.kb_files.specs.declared.extension_file.Extension.{Extension}
+use Rattle.kb_handler_table.specs.Codes.{CodesData, checked, raw}
+use Rattle.kb_load_commands.specs.Callable.{callable_of}
+use Rattle.kb_load_commands.specs.Verified.{AllVerified, FirstIsRefused, IsVerified, Verifies, refused_handler}
+use Rattle.kb_registry.specs.Live.{Live}
+use Rattle.kb_verify.proofs.Decides.{accepted_or_faulty}
+use Rattle.kb_verify.proofs.Refutes.{fault_refutes, fault_unique}
+use Rattle.kb_verify.specs.Accepted.{AreCallees, AreDeclared, CheckedHandler, IsAccepted}
+use Rattle.kb_verify.specs.Callable.{Commands, declaration_at}
+use Rattle.kb_verify.specs.Faults.{IsDecided, IsFault, IsSameFault}
+use Rattle.kb_verify.specs.declared.callees.Callee.{Callee}
+use Rattle.kb_verify.specs.declared.fault.VerifyFault.{VerifyFault}
+use Rattle.kb_verify.specs.declared.fault.VerifyFault.TheVariants.{Wrong, OverBudget, OverDepth}
+use Rattle.kb_lifecycle.specs.Updating.{callee_at, checked_by, checked_unless, code_of, fault_in, first_refusal}
+use Rattle.kb_lifecycle.specs.Updating.{handler_refusal, is_verified, with_callees}
+
+-- ---- one handler
+
+same_refusal : (h : HandlerData) (a b : VerifyFault) → IsSameFault a b → refused_handler h a ≡ refused_handler h b
+same_refusal h (Wrong d p) (Wrong e q) same =
+    ap (λ d. refused_handler h (Wrong d p)) same.0 ∙ ap (λ p. refused_handler h (Wrong e p)) same.1
+same_refusal h (Wrong d p) (OverBudget path) same = absurd same
+same_refusal h (Wrong d p) (OverDepth q) same = absurd same
+same_refusal h (OverBudget path) (Wrong d p) same = absurd same
+same_refusal h (OverBudget path) (OverBudget other) same = refl
+same_refusal h (OverBudget path) (OverDepth q) same = absurd same
+same_refusal h (OverDepth p) (Wrong d q) same = absurd same
+same_refusal h (OverDepth p) (OverBudget path) same = absurd same
+same_refusal h (OverDepth p) (OverDepth q) same = ap (λ p. refused_handler h (OverDepth p)) same
+
+module _ (commands : Commands) (h : HandlerData) where
+  accepted_none : IsAccepted commands h → handler_refusal commands h ≡ None
+  unfolding handler_refusal
+  accepted_none accepted = by (accepted_or_faulty commands h)
+    where
+      by : (d : IsDecided commands h) → option_map (refused_handler h) (fault_in commands h d) ≡ None
+      by (inl other) = refl
+      by (inr faulty) = absurd (fault_refutes commands h (Fault faulty.0) faulty.1 tt accepted)
+
+  faulty_some : (fault : VerifyFault) → IsFault commands h fault →
+      handler_refusal commands h ≡ Some (refused_handler h fault)
+  unfolding handler_refusal
+  faulty_some fault is = by (accepted_or_faulty commands h)
+    where
+      by : (d : IsDecided commands h) →
+          option_map (refused_handler h) (fault_in commands h d) ≡ Some (refused_handler h fault)
+      by (inl accepted) = absurd (fault_refutes commands h (Fault fault) is tt accepted)
+      by (inr faulty) =
+          ap Some (same_refusal h faulty.0 fault (fault_unique commands h faulty.0 fault faulty.1 is))
+
+  -- the callees are those at the called indexes
+  declared_are : (callees : List Callee) → AreDeclared commands h callees →
+      flat_map (λ index. option_to_list (callee_at commands h index)) (map (λ c. c.index) callees) ≡ callees
+  declared_are [] are = refl
+  declared_are (c ∷ callees) are =
+      ap (λ (o : Option Declaration).
+      option_to_list (option_map (λ d. let made : Callee = record { index = c.index; signature = d } in made) o)
+      ++ flat_map (λ index. option_to_list (callee_at commands h index)) (map (λ (c : Callee). c.index) callees)) are.0
+      ∙ ap (λ (cs : List Callee). c ∷ cs) (declared_are callees are.1)
+
+  callees_are : (callees : List Callee) → AreCallees commands h callees → callees ≡ (with_callees commands h).callees
+  callees_are callees are =
+      sym (declared_are callees are.declared)
+      ∙ ap (λ ns. flat_map (λ index. option_to_list (callee_at commands h index)) ns) are.called
+
+-- ---- several handlers
+
+module _ (commands : Commands) where
+  verified_are : (vs : List CheckedHandler) → All (IsVerified commands) vs →
+      vs ≡ map (with_callees commands) (map (λ v. v.handler) vs)
+  verified_are [] all = refl
+  verified_are (v ∷ vs) all =
+      let first = All-head (IsVerified commands) v vs all in
+      ap (λ callees. record { handler = v.handler; callees = callees } ∷ vs)
+      (callees_are commands v.handler v.callees first.callees)
+      ∙ ap (λ (vs : List CheckedHandler). with_callees commands v.handler ∷ vs)
+      (verified_are vs (All-tail (IsVerified commands) v vs all))
+
+  none_refused : (vs : List CheckedHandler) → All (IsVerified commands) vs →
+      first_refusal commands (map (λ v. v.handler) vs) ≡ None
+  none_refused [] all = refl
+  none_refused (v ∷ vs) all =
+      let first = All-head (IsVerified commands) v vs all in
+      ap (λ o. option_or o (first_refusal commands (map (λ (v : CheckedHandler). v.handler) vs)))
+      (accepted_none commands v.handler first.accepted)
+      ∙ none_refused vs (All-tail (IsVerified commands) v vs all)
+
+  first_refused : (hs : List HandlerData) (refusal : Refusal) → FirstIsRefused commands hs refusal →
+      first_refusal commands hs ≡ Some refusal
+  first_refused [] refusal is = absurd is
+  first_refused (h ∷ hs) refusal (inl refused) =
+      ap (λ o. option_or o (first_refusal commands hs)) (faulty_some commands h refused.0 refused.1)
+      ∙ ap Some (sym refused.2)
+  first_refused (h ∷ hs) refusal (inr later) =
+      ap (λ o. option_or o (first_refusal commands hs)) (accepted_none commands h later.0)
+      ∙ first_refused hs refusal later.1
+
+  -- all are verified
+  pub checked_is : (hs : List HandlerData) (vs : List CheckedHandler) → AllVerified commands hs vs →
+      checked_by commands hs ≡ Ok (checked vs)
+  unfolding checked_by
+  checked_is hs vs all =
+      ap (λ o. checked_unless o commands hs)
+      (ap (first_refusal commands) (sym all.same) ∙ none_refused vs all.each)
+      ∙ ap (λ (vs : List CheckedHandler). Ok (checked vs))
+      (ap (map (with_callees commands)) (sym all.same) ∙ sym (verified_are vs all.each))
+
+  -- or one is refused
+  pub refused_is : (hs : List HandlerData) (refusal : Refusal) → FirstIsRefused commands hs refusal →
+      checked_by commands hs ≡ Err refusal
+  unfolding checked_by
+  refused_is hs refusal first =
+      ap (λ o. checked_unless o commands hs) (first_refused hs refusal first)
+
+  pub fails_is : (hs : List HandlerData) (failure : Failure Refusal) → Verifies commands hs (Err failure) →
+      Fails failure (checked_by commands hs)
+  fails_is hs NoMemory is = tt
+  fails_is hs (Fault refusal) is = refused_is hs refusal is
+
+pub ruleset verdict = (checked_is, fails_is)
+
+-- ---- code of an extension
+
+module _ (e : Extension) (es : List Extension) (live : Live) (hs : List HandlerData) where
+  pub raw_code : is_verified e.number live ≡ false → code_of e es live hs ≡ Ok (raw hs)
+  unfolding code_of
+  raw_code is = ap (λ b. if b then checked_by (callable_of es e.number hs live) hs else Ok (raw hs)) is
+
+  pub checked_code : is_verified e.number live ≡ true →
+      code_of e es live hs ≡ checked_by (callable_of es e.number hs live) hs
+  unfolding code_of
+  checked_code is = ap (λ b. if b then checked_by (callable_of es e.number hs live) hs else Ok (raw hs)) is

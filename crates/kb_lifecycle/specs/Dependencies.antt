@@ -1,0 +1,35 @@
+-- Dependencies among extensions that are enabled or disabled. Identifiers are compared without ASCII case.
+use Rattle.std.specs.Prelude.{ℕ, Bool, not, ◌&&◌, List, [], ◌∷◌, Option, None, option_map, find, position}
+use Rattle.std.specs.Option.{option_or}
+use Rattle.std.specs.Str.{str_eq_ignore_ascii_case}
+use Rattle.kb_files.specs.declared.extension_file.Extension.{Extension}
+use Rattle.kb_verify.specs.Provider.{is_needed}
+
+-- whether this is the extension of an identifier
+abbrev pub has_id : List ℕ → Extension → Bool
+has_id id e = str_eq_ignore_ascii_case id e.manifest.id
+
+-- the place of the extension with an identifier
+abbrev pub place_of : List ℕ → List Extension → Option ℕ
+place_of id es = position (has_id id) es
+
+-- whether this is the extension of an identifier, and it isn't enabled
+abbrev pub is_disabled : List ℕ → Extension → Bool
+is_disabled id e = not e.enabled && str_eq_ignore_ascii_case e.manifest.id id
+
+-- the identifier of the extension that an identifier names, as its manifest spells it, if it isn't enabled
+abbrev pub disabled_of : List ℕ → List Extension → Option (List ℕ)
+disabled_of id es = option_map (λ e. e.manifest.id) (find (is_disabled id) es)
+
+-- the first of these dependencies that isn't enabled, as its own manifest spells it
+abbrev pub missing_dependency : List (List ℕ) → List Extension → Option (List ℕ)
+missing_dependency [] es = None
+missing_dependency (id ∷ ids) es = option_or (disabled_of id es) (missing_dependency ids es)
+
+-- whether this extension is enabled and depends on an identifier
+abbrev pub needs : List ℕ → Extension → Bool
+needs id e = e.enabled && is_needed id e.manifest.dependencies
+
+-- the first enabled extension, in load order, that depends on an identifier
+abbrev pub dependent_on : List ℕ → List Extension → Option (List ℕ)
+dependent_on id es = option_map (λ e. e.manifest.id) (find (needs id) es)

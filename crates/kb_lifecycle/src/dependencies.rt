@@ -1,0 +1,74 @@
+//! Dependencies among extensions that are enabled or disabled.
+ghost use Rattle.std.specs.Prelude.{◌≡◌, option_map};
+ghost use Rattle.kb_lifecycle.specs.Dependencies as dependencies;
+
+use kb_base::Text;
+use kb_files::Extension;
+use kb_verify::is_needed;
+
+/// The place of the extension with an identifier, in load order, or `None`. ASCII letter case is ignored (our
+/// decision).
+pub fn place_of(id: &str, extensions: &[Extension]) -> Option<usize>
+    ensures { result ≡ dependencies.place_of id.now extensions.now }
+{
+    extensions
+        .iter()
+        .position(|extension| has_id(id, extension))
+}
+
+/// The first of these dependencies that isn't enabled, as its own manifest spells it.
+pub(crate) fn missing_dependency<'e>(ids: &[Text], extensions: &'e [Extension]) -> Option<&'e Text>
+    ensures { option_map (λ id. id.now) result ≡ dependencies.missing_dependency ids.now extensions.now }
+{
+    for id in ids {
+        let disabled = disabled_of(id.as_str(), extensions);
+        if disabled.is_some() {
+            return disabled;
+        }
+    }
+    None
+}
+
+/// The identifier of the extension that an identifier names, as its manifest spells it, if it isn't enabled.
+fn disabled_of<'e>(id: &str, extensions: &'e [Extension]) -> Option<&'e Text>
+    ensures { option_map (λ id. id.now) result ≡ dependencies.disabled_of id.now extensions.now }
+{
+    match extensions
+        .iter()
+        .find(|extension| is_disabled(id, extension))
+    {
+        Some(extension) => Some(&extension.manifest.id),
+        None => None,
+    }
+}
+
+/// The identifier of the first enabled extension, in load order, that depends on an identifier.
+pub(crate) fn dependent_on<'e>(id: &str, extensions: &'e [Extension]) -> Option<&'e Text>
+    ensures { option_map (λ id. id.now) result ≡ dependencies.dependent_on id.now extensions.now }
+{
+    match extensions.iter().find(|extension| needs(id, extension)) {
+        Some(extension) => Some(&extension.manifest.id),
+        None => None,
+    }
+}
+
+/// Whether this is the extension of an identifier.
+fn has_id(id: &str, extension: &Extension) -> bool
+    ensures { result ≡ dependencies.has_id id.now extension.now }
+{
+    id.eq_ignore_ascii_case(extension.manifest.id.as_str())
+}
+
+/// Whether this is the extension of an identifier, and it isn't enabled.
+fn is_disabled(id: &str, extension: &Extension) -> bool
+    ensures { result ≡ dependencies.is_disabled id.now extension.now }
+{
+    !extension.enabled && extension.manifest.id.as_str().eq_ignore_ascii_case(id)
+}
+
+/// Whether an extension is enabled and depends on an identifier.
+fn needs(id: &str, extension: &Extension) -> bool
+    ensures { result ≡ dependencies.needs id.now extension.now }
+{
+    extension.enabled && is_needed(id, extension.manifest.dependencies.as_slice())
+}

@@ -1,0 +1,88 @@
+//! The code that an update gives an extension.
+ghost use Rattle.std.specs.Prelude.{◌≡◌};
+ghost use Rattle.kb_base.specs.Failure.{Gives};
+ghost use Rattle.kb_base.specs.Reading.{unless};
+ghost use Rattle.kb_base.specs.Refusal.{refused_for};
+ghost use Rattle.kb_code.specs.Face.{same_face};
+ghost use Rattle.kb_handler_table.specs.Live.{handlers_of};
+ghost use Rattle.kb_lifecycle.specs.Updating as updating;
+
+use kb_base::{Failure, Refusal, Seq};
+use kb_code::{Handler, same_face};
+use kb_files::{Extension, read_handlers};
+use kb_handler_table::Codes;
+use kb_load_commands::{callable_of, verify_all};
+use kb_registry::{HostCommand, Registry, RegistryFault};
+use kb_verify::Callable;
+use std::alloc::Global;
+
+/// The code of an extension after an update with the bytes of a `handlers.json`. It is verified if the code
+/// before was: against the native commands that are live now, its own handlers, and the handlers of the
+/// extensions that it depends on, enabled or not (our decision).
+///
+/// Errors: the first fault of the file (1 to 4, 40 to 44, 50 to 52); then 95 if the handlers aren't of the same
+/// commands as before, with the same parameters, budgets and depths; then the first handler that isn't accepted
+/// (60 to 69, with its command and place); or `NoMemory`.
+pub fn updated_code<C: HostCommand>(
+    alloc: Global,
+    extension: &Extension,
+    extensions: &[Extension],
+    registry: &Registry<C>,
+    bytes: &[u8],
+) -> Result<Codes, Failure<Refusal>>
+    ensures { Gives (λ codes. codes) result
+        (updating.updated_code extension.now extensions.now registry.now bytes.now) }
+{
+    let handlers = read_handlers(alloc, bytes)?;
+    if !same_face(registry.handlers(extension.number), handlers.as_slice()) {
+        return Err(Failure::Fault(Refusal::of(
+            RegistryFault::SignatureChanged.number(),
+        )));
+    }
+    code_of(alloc, extension, extensions, registry, handlers)
+}
+
+/// The code of an extension's handlers, verified if the code before was.
+#[tactic(auto, using(crate::proofs::UpdatingLemmas::raw_code, crate::proofs::UpdatingLemmas::checked_code))]
+fn code_of<C: HostCommand>(
+    alloc: Global,
+    extension: &Extension,
+    extensions: &[Extension],
+    registry: &Registry<C>,
+    handlers: Seq<Handler>,
+) -> Result<Codes, Failure<Refusal>>
+    ensures { Gives (λ codes. codes) result
+        (updating.code_of extension.now extensions.now registry.now handlers) }
+{
+    let number = extension.number;
+    if !is_verified(number, registry) {
+        return Ok(Codes::raw(handlers));
+    }
+    let callable = callable_of(alloc, registry, extensions, number, handlers.as_slice())?;
+    checked_by(alloc, handlers, &callable)
+}
+
+/// The code of handlers that are accepted with these callable commands.
+#[tactic(auto, using(crate::proofs::UpdatingLemmas::verdict))]
+fn checked_by(
+    alloc: Global,
+    handlers: Seq<Handler>,
+    callable: &Callable,
+) -> Result<Codes, Failure<Refusal>>
+    ensures { Gives (λ codes. codes) result (updating.checked_by callable.now handlers) }
+{
+    match verify_all(alloc, handlers, callable) {
+        Ok(verified) => Ok(Codes::checked(verified)),
+        Err(failure) => Err(failure),
+    }
+}
+
+/// Whether the code of an extension was verified.
+fn is_verified<C: HostCommand>(number: u32, registry: &Registry<C>) -> bool
+    ensures { result ≡ updating.is_verified number registry.now }
+{
+    match registry.codes(number) {
+        Some(codes) => codes.callees().is_some(),
+        None => true,
+    }
+}
