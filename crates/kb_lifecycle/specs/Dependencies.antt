@@ -1,17 +1,29 @@
 -- Dependencies among extensions that are enabled or disabled. Identifiers are compared without ASCII case.
-use Rattle.std.specs.Prelude.{ℕ, Bool, not, ◌&&◌, List, [], ◌∷◌, Option, None, option_map, find, position}
+use Rattle.std.specs.Prelude.{ℕ, ◌+◌, Bool, not, ◌&&◌, List, [], ◌∷◌, Option, Some, None, option_map, find}
+use Rattle.std.specs.Prelude.{if◌then◌else◌}
 use Rattle.std.specs.Option.{option_or}
 use Rattle.std.specs.Str.{str_eq_ignore_ascii_case}
 use Rattle.kb_files.specs.declared.extension_file.Extension.{Extension}
 use Rattle.kb_verify.specs.Provider.{is_needed}
+use Rattle.kb_lifecycle.specs.declared.dependencies.Named.{Named}
 
 -- whether this is the extension of an identifier
 abbrev pub has_id : List ℕ → Extension → Bool
 has_id id e = str_eq_ignore_ascii_case id e.manifest.id
 
--- the place of the extension with an identifier
-abbrev pub place_of : List ℕ → List Extension → Option ℕ
-place_of id es = position (has_id id) es
+-- an extension and its place in load order
+pub record Placed : Type 0 where
+  pub place : ℕ
+  pub extension : Extension
+
+-- the extension with an identifier, where the first one has this place
+abbrev pub named_from : ℕ → List ℕ → List Extension → Option Placed
+named_from place id [] = None
+named_from place id (e ∷ es) =
+    if has_id id e then Some (record { place = place; extension = e }) else named_from (place + 1) id es
+
+abbrev pub extension_named : List ℕ → List Extension → Option Placed
+extension_named id es = named_from 0 id es
 
 -- whether this is the extension of an identifier, and it isn't enabled
 abbrev pub is_disabled : List ℕ → Extension → Bool
@@ -33,3 +45,8 @@ needs id e = e.enabled && is_needed id e.manifest.dependencies
 -- the first enabled extension, in load order, that depends on an identifier
 abbrev pub dependent_on : List ℕ → List Extension → Option (List ℕ)
 dependent_on id es = option_map (λ e. e.manifest.id) (find (needs id) es)
+
+-- ---- for private functions
+
+abbrev pub placed_by : Named → Placed
+placed_by n = record { place = n.place; extension = n.extension.now }

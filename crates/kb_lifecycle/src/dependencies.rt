@@ -6,14 +6,26 @@ use kb_base::Text;
 use kb_files::Extension;
 use kb_verify::is_needed;
 
-/// The place of the extension with an identifier, in load order, or `None`. ASCII letter case is ignored (our
-/// decision).
-pub fn place_of(id: &str, extensions: &[Extension]) -> Option<usize>
-    ensures { result ≡ dependencies.place_of id.now extensions.now }
+/// An extension that an identifier names.
+#[derive(Clone, Copy)]
+pub struct Named<'a> {
+    /// Its place in load order, from 0.
+    pub place: usize,
+    /// The extension.
+    pub extension: &'a Extension,
+}
+
+/// The extension with an identifier, or `None`. ASCII letter case is ignored (our decision).
+pub fn extension_named<'a>(id: &str, extensions: &'a [Extension]) -> Option<Named<'a>>
+    ensures { option_map dependencies.placed_by result ≡ dependencies.extension_named id.now extensions.now }
 {
-    extensions
-        .iter()
-        .position(|extension| has_id(id, extension))
+    for place in 0..extensions.len() {
+        let extension = &extensions[place];
+        if has_id(id, extension) {
+            return Some(Named { place, extension });
+        }
+    }
+    None
 }
 
 /// The first of these dependencies that isn't enabled, as its own manifest spells it.

@@ -6,6 +6,6 @@ pub mod dependencies;
 pub mod switching;
 pub mod updating;
 
-pub use dependencies::place_of;
+pub use dependencies::{Named, extension_named};
 pub use switching::{Obstacle, disable_obstacle, enable_obstacle};
 pub use updating::updated_code;
