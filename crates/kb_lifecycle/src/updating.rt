@@ -1,8 +1,6 @@
 //! The code that an update gives an extension.
-ghost use Rattle.std.specs.Prelude.{◌≡◌};
+ghost use Rattle.std.specs.Prelude.{◌≡◌, true, IfOk};
 ghost use Rattle.kb_base.specs.Failure.{Gives};
-ghost use Rattle.kb_base.specs.Reading.{unless};
-ghost use Rattle.kb_base.specs.Refusal.{refused_for};
 ghost use Rattle.kb_code.specs.Face.{same_face};
 ghost use Rattle.kb_handler_table.specs.Live.{handlers_of};
 ghost use Rattle.kb_lifecycle.specs.Updating as updating;
@@ -30,8 +28,10 @@ pub fn updated_code<C: HostCommand>(
     registry: &Registry<C>,
     bytes: &[u8],
 ) -> Result<Codes, Failure<Refusal>>
-    ensures { Gives (λ codes. codes) result
+    ensures code { Gives (λ codes. codes) result
         (updating.updated_code extension.now extensions.now registry.now bytes.now) }
+    ensures face { IfOk result (λ codes.
+        same_face (handlers_of extension.now.number registry.now.code) codes.handlers ≡ true) }
 {
     let handlers = read_handlers(alloc, bytes)?;
     if !same_face(registry.handlers(extension.number), handlers.as_slice()) {
@@ -51,8 +51,9 @@ fn code_of<C: HostCommand>(
     registry: &Registry<C>,
     handlers: Seq<Handler>,
 ) -> Result<Codes, Failure<Refusal>>
-    ensures { Gives (λ codes. codes) result
+    ensures code { Gives (λ codes. codes) result
         (updating.code_of extension.now extensions.now registry.now handlers) }
+    ensures handlers { IfOk result (λ codes. codes.handlers ≡ handlers) }
 {
     let number = extension.number;
     if !is_verified(number, registry) {
@@ -69,7 +70,8 @@ fn checked_by(
     handlers: Seq<Handler>,
     callable: &Callable,
 ) -> Result<Codes, Failure<Refusal>>
-    ensures { Gives (λ codes. codes) result (updating.checked_by callable.now handlers) }
+    ensures code { Gives (λ codes. codes) result (updating.checked_by callable.now handlers) }
+    ensures handlers { IfOk result (λ codes. codes.handlers ≡ handlers) }
 {
     match verify_all(alloc, handlers, callable) {
         Ok(verified) => Ok(Codes::checked(verified)),

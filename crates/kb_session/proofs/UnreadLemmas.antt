@@ -1,5 +1,5 @@
 -- The lists of unread patterns of a session: each successful reload adds one, and none changes.
-use Rattle.std.proofs.Common.{◌≡◌, ℕ, Bool, true, false, List, [], ◌∷◌, ◌++◌, refl, sym, ap, ◌∙◌, append-nil}
+use Rattle.std.proofs.Common.{◌≡◌, ℕ, Bool, true, false, if◌then◌else◌, List, [], ◌∷◌, ◌++◌, refl, sym, ap, ◌∙◌, append-nil}
 use Rattle.std.proofs.Common.{append_assoc}
 use Rattle.std.specs.Prelude.{Option, Some, None, Result, Ok, Err}
 use Rattle.kb_base.specs.declared.refusal.Refusal.{Refusal}
@@ -13,13 +13,34 @@ use Rattle.kb_registry.specs.declared.fault.RegistryFault.{RegistryFault}
 use Rattle.kb_session.specs.State.{State, Told, happens, reload, register, dispose, step, step_on}
 use Rattle.kb_session.specs.State.{step_unless}
 use Rattle.kb_session.specs.State.{next, taken_unless, reloaded, refusal_of, registering, disposing}
-use Rattle.kb_session.specs.State.{disposing_unless}
+use Rattle.kb_session.specs.State.{disposing_unless, code_updated, is_new, named_in, switched, updated}
+use Rattle.kb_bindings.specs.Sources.{with_enabled}
+use Rattle.kb_handler_table.specs.Codes.{CodesData}
+use Rattle.kb_lifecycle.specs.Dependencies.{Placed}
+use Rattle.kb_registry.specs.Live.{with_switched}
 use Rattle.kb_code.specs.Handler.{HandlerData}
 use Rattle.kb_handler_table.specs.Live.{caller_of}
 use Rattle.kb_base.specs.declared.note.UnreadPattern.{UnreadPattern}
 use Rattle.kb_stream.specs.Fold.{fold}
 use Rattle.kb_trace.specs.declared.event.Event.{Event}
 use Rattle.kb_trace.specs.declared.event.Event.TheVariants as event
+
+switched_lists : (enabled : Bool) (p : Option Placed) (s : State) → (switched enabled p s).unread ≡ s.unread
+switched_lists enabled None s = refl
+switched_lists enabled (Some p) s = by (is_new enabled p.extension)
+  where
+    by : (b : Bool) → (if b then record s {
+      sources = with_enabled p.place enabled s.sources;
+      live = with_switched p.extension.number enabled s.live;
+    } else s).unread ≡ s.unread
+    by true = refl
+    by false = refl
+
+updated_lists : (r : Result CodesData Refusal) (p : Option Placed) (s : State)
+    → (updated r p s).state.unread ≡ s.unread
+updated_lists (Ok codes) None s = refl
+updated_lists (Ok codes) (Some p) s = refl
+updated_lists (Err refusal) p s = refl
 
 -- an event adds no list
 event_lists : (refusal : Option Refusal) (e : Event) (s : State) → (taken_unless refusal e s).state.unread ≡ s.unread
@@ -28,6 +49,10 @@ event_lists None (event.Key key) s = refl
 event_lists None (event.Focus name) s = refl
 event_lists None (event.SetKey name key value) s = refl
 event_lists None (event.UnsetKey name key) s = refl
+event_lists None (event.Enable id) s = switched_lists true (named_in id s) s
+event_lists None (event.Disable id) s = switched_lists false (named_in id s) s
+event_lists None (event.Update id bytes) s =
+    updated_lists (code_updated (named_in id s) bytes s) (named_in id s) s
 event_lists None event.NoClosure s = refl
 event_lists None (event.Unread number) s = refl
 

@@ -1,6 +1,6 @@
 -- The effect of a session's calls.
 use Rattle.std.specs.Prelude.{◌≡◌, ◌⊎◌, ◌||◌, Bool, true, false, List, [], ◌∷◌}
-use Rattle.std.specs.Prelude.{Result, Ok, Err}
+use Rattle.std.specs.Prelude.{Some, Result, Ok, Err}
 use Rattle.kb_base.specs.Failure.{Fails}
 use Rattle.kb_base.specs.Reading.{◌>>=◌, seen}
 use Rattle.kb_context.specs.Scopes.{ScopesData}
@@ -13,7 +13,11 @@ use Rattle.kb_bindings.specs.Load.{Files, held_by}
 use Rattle.kb_files.specs.Extensions.{handlers_of}
 use Rattle.kb_bindings.specs.Sources.{Sources}
 use Rattle.kb_session.specs.State.{State, Told, happens, Answered, did, refused, step, step_on, out_of, next}
-use Rattle.kb_session.specs.State.{loaded_state}
+use Rattle.kb_session.specs.State.{loaded_state, named_in, switching, updated}
+use Rattle.kb_code.specs.Face.{same_face}
+use Rattle.kb_handler_table.specs.Codes.{CodesData}
+use Rattle.kb_handler_table.specs.Live as table
+use Rattle.kb_lifecycle.specs.Dependencies.{Placed}
 use Rattle.kb_files.specs.declared.fault.LoadFault.{LoadFault}
 use Rattle.kb_bindings.specs.declared.load.Loaded.{Loaded}
 use Rattle.kb_load_commands.specs.Checked.{LiveChecked}
@@ -164,3 +168,17 @@ abbrev pub HalfDone : Seen → Seen → Type 0
 HalfDone old new =
     (new.state ≡ record old.state { core = new.state.core; pressed = new.state.pressed })
     × Begins old.trace new.trace
+
+-- an extension was enabled or disabled, with its lines
+abbrev pub has_switched : Bool → List ℕ → Seen → Seen
+has_switched enabled id old = after (out_of (switching enabled id old.state)) old
+
+-- an extension got other code, with its line
+abbrev pub has_updated : List ℕ → CodesData → Seen → Seen
+has_updated id codes old = after (out_of (updated (Ok codes) (named_in id old.state) old.state)) old
+
+-- code declares the same commands as the code of the extension before
+abbrev pub KeepsFace : List ℕ → State → CodesData → Type 0
+KeepsFace id s codes =
+    (p : Placed) → named_in id s ≡ Some p
+    → same_face (table.handlers_of p.extension.number s.live.code) codes.handlers ≡ true

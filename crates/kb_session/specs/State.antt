@@ -1,7 +1,8 @@
 -- The model of a session: its state, and for each input the next state, the trace lines and the answer.
 use Rattle.std.specs.Prelude.{◌≡◌, ℕ, ◌+◌, Bool, true, false, List, [], ◌∷◌, ◌++◌, Option}
-use Rattle.std.specs.Prelude.{Some, None, option_map}
+use Rattle.std.specs.Prelude.{Some, None, not, option_map, if◌then◌else◌}
 use Rattle.std.specs.Prelude.{Result, Ok, Err}
+use Rattle.std.specs.Option.{option_map_or}
 use Rattle.kb_base.specs.Refusal.{refused_for}
 use Rattle.kb_context.specs.ScopeFault.{number_of}
 use Rattle.kb_context.specs.Scopes.{ScopesData, place_of, set_fault, with_value, without_value}
@@ -18,14 +19,20 @@ use Rattle.kb_core.specs.declared.run.Core.{Core}
 use Rattle.kb_files.specs.RuleFile.{rules_in}
 use Rattle.kb_keys.specs.declared.keystroke.Keystroke.{Keystroke}
 use Rattle.kb_registry.specs.Fault as registry
+use Rattle.kb_lifecycle.specs.Dependencies.{Placed, extension_named}
+use Rattle.kb_lifecycle.specs.Settled.{IsSettled}
+use Rattle.kb_lifecycle.specs.Switching.{disable_refusal, enable_refusal}
+use Rattle.kb_lifecycle.specs.Updating.{updated_code}
+use Rattle.kb_files.specs.declared.extension_file.Extension.{Extension}
+use Rattle.kb_handler_table.specs.Codes.{CodesData}
 use Rattle.kb_registry.specs.Live.{Live, registration_fault, registered, holder, disposed}
+use Rattle.kb_registry.specs.Live.{with_exchanged, with_switched}
 use Rattle.kb_registry.specs.declared.fault.RegistryFault.{RegistryFault}
 use Rattle.kb_rules.specs.RuleList.{Listed}
 use Rattle.kb_base.specs.declared.note.Origin.TheVariants.{User}
 use Rattle.kb_base.specs.declared.note.UnreadPattern.{UnreadPattern}
-use Rattle.kb_bindings.specs.Sources.{Sources, with_user_rules, pressed, still_pressed}
+use Rattle.kb_bindings.specs.Sources.{Sources, with_enabled, with_user_rules, pressed, still_pressed}
 use Rattle.kb_session.specs.Press.{press_started}
-use Rattle.kb_soundness.specs.Stays.{IsSound}
 use Rattle.kb_execute.specs.Start.{Started}
 use Rattle.kb_execute.specs.declared.start.Finish.{Finish}
 use Rattle.kb_execute.specs.declared.start.Finish.TheVariants.{Done, NotFound, BadArguments, Trapped}
@@ -115,18 +122,82 @@ unless_known None = Some UnknownScope
 unless_known (Some place) = None
 
 abbrev pub fault_of : Event → State → Option ScopeFault
-fault_of (event.Key key) s = None
 fault_of (event.Focus name) s = unless_known (place_of name s.core.scopes.scopes)
 fault_of (event.SetKey name key value) s = set_fault s.core.scopes name key
 fault_of (event.UnsetKey name key) s = unless_known (place_of name s.core.scopes.scopes)
-fault_of event.NoClosure s = None
-fault_of (event.Unread number) s = None
+fault_of _ s = None
+
+-- the refusal of an event of an extension: there is no such extension (92), or another reason
+abbrev pub extension_refusal : (Extension → Option Refusal) → Option Placed → Option Refusal
+extension_refusal why None = Some (refused_for 92)
+extension_refusal why (Some p) = why p.extension
+
+-- the extension that an identifier names
+abbrev pub named_in : List ℕ → State → Option Placed
+named_in id s = extension_named id s.sources.extensions
+
+abbrev pub enabling_refusal : List ℕ → State → Option Refusal
+enabling_refusal id s =
+    extension_refusal (λ e. enable_refusal e s.sources.extensions s.live) (named_in id s)
+
+abbrev pub disabling_refusal : List ℕ → State → Option Refusal
+disabling_refusal id s = extension_refusal (λ e. disable_refusal e s.sources.extensions) (named_in id s)
 
 abbrev pub refusal_of : Event → State → Option Refusal
+refusal_of (event.Enable id) s = enabling_refusal id s
+refusal_of (event.Disable id) s = disabling_refusal id s
 refusal_of e s = option_map (λ fault. refused_for (number_of fault)) (fault_of e s)
 
--- the effect of an event that the scopes accept: a change of the focus ends a chord, and changes of
--- keys don't; if the host has no closure, the event is refused
+-- the state with other live commands
+abbrev pub with_live : Live → State → State
+with_live live s = record s { live = live }
+
+-- how its manifest spells the identifier of an extension
+abbrev pub spelled : Option Placed → List ℕ
+spelled p = option_map_or (λ p. p.extension.manifest.id) p []
+
+-- whether an extension isn't yet enabled, or not yet disabled
+abbrev pub is_new : Bool → Extension → Bool
+is_new true e = not e.enabled
+is_new false e = e.enabled
+
+-- the state with an extension enabled or disabled: its rules and enablements count or don't, and its handlers
+-- are live or aren't; if it is so already, nothing changes
+abbrev pub switched : Bool → Option Placed → State → State
+switched enabled None s = s
+switched enabled (Some p) s =
+    if is_new enabled p.extension then record s {
+      sources = with_enabled p.place enabled s.sources;
+      live = with_switched p.extension.number enabled s.live;
+    } else s
+
+-- the line of an extension that is enabled or disabled
+abbrev pub switch_line : Bool → List ℕ → List ℕ
+switch_line true id = line.enabled_line id
+switch_line false id = line.disabled_line id
+
+-- enabling and disabling end a chord
+abbrev pub switching : Bool → List ℕ → State → Stepped
+switching enabled id s =
+    leave (switch_line enabled (spelled (named_in id s))) (switched enabled (named_in id s) s)
+
+-- the code that an update gives an extension, or why it is refused
+abbrev pub code_updated : Option Placed → List ℕ → State → Result CodesData Refusal
+code_updated None bytes s = Err (refused_for 92)
+code_updated (Some p) bytes s = updated_code p.extension s.sources.extensions s.live bytes
+
+-- the state with other code of an extension, live or not
+abbrev pub with_code_of : Option Placed → CodesData → State → State
+with_code_of None codes s = s
+with_code_of (Some p) codes s = with_live (with_exchanged p.extension.number codes s.live) s
+
+-- an update; an open chord stays
+abbrev pub updated : Result CodesData Refusal → Option Placed → State → Stepped
+updated (Ok codes) p s = stepped (with_code_of p codes s) (line.updated_line (spelled p) ∷ []) did
+updated (Err r) p s = refuse r s
+
+-- the effect of an event without a refusal: a change of the focus ends a chord, and changes of keys don't; an
+-- update may be refused yet, and a registration without a closure of the host is
 abbrev pub taken : Event → State → Stepped
 taken (event.Key key) s = press key s
 taken (event.Focus name) s = leave (line.focus_line name) (in_scopes (with_focus s.core.scopes name) s)
@@ -134,6 +205,9 @@ taken (event.SetKey name key value) s =
     stepped (in_scopes (with_value s.core.scopes name key value) s) (line.set_line name key ∷ []) did
 taken (event.UnsetKey name key) s =
     stepped (in_scopes (without_value s.core.scopes name key) s) (line.unset_line name key ∷ []) did
+taken (event.Enable id) s = switching true id s
+taken (event.Disable id) s = switching false id s
+taken (event.Update id bytes) s = updated (code_updated (named_in id s) bytes s) (named_in id s) s
 taken event.NoClosure s = refuse (refused_for 98) s
 taken (event.Unread number) s = stepped s (line.unread_line number ∷ []) did
 
@@ -152,10 +226,6 @@ with_user user s = record s {
 abbrev pub reloaded : Result Listed Refusal → State → Stepped
 reloaded (Ok user) s = leave line.reloaded_line (with_user user s)
 reloaded (Err r) s = refuse r s
-
--- the state with other live commands
-abbrev pub with_live : Live → State → State
-with_live live s = record s { live = live }
 
 -- a closure for a native is registered, unless that is refused; an open chord stays
 abbrev pub registering : Option RegistryFault → Native → State → Stepped
@@ -206,7 +276,11 @@ loaded_state scopes sources live = record {
   unread = unread_of sources ∷ [];
 }
 
--- no input stops a running session with verified handlers, and its handlers stay verified
+-- all handlers of a session are verified, and it is settled: no live handler traps
+abbrev pub IsSafe : State → Type 0
+IsSafe s = IsSettled s.sources.extensions s.live
+
+-- no input stops a running session that is safe, and it stays safe
 abbrev pub RunsOn : Type 0
-RunsOn = (told : Told) (s : State) → s.stopped ≡ false → IsSound s.live
-    → ((step told s).state.stopped ≡ false) × IsSound (step told s).state.live
+RunsOn = (told : Told) (s : State) → s.stopped ≡ false → IsSafe s
+    → ((step told s).state.stopped ≡ false) × IsSafe (step told s).state

@@ -9,10 +9,9 @@ ghost use Rattle.kb_bindings.specs.Unread.{unread_of};
 ghost use Rattle.kb_base.specs.declared.failure.Failure.TheVariants as failure;
 ghost use Rattle.kb_session.specs.Session.{Loads, LoadsRaw, Takes, Does, halt, Undone, HalfDone};
 ghost use Rattle.kb_session.specs.Session.{loaded_session};
-ghost use Rattle.kb_soundness.specs.Stays.{IsSound};
 ghost use Rattle.kb_session.specs.Session.{FailsAt, FailsAmong, is_late};
 ghost use Rattle.kb_bindings.specs.Sources.{source_of};
-ghost use Rattle.kb_session.specs.State.{happens, reload, next, left_lines, with_user, stops};
+ghost use Rattle.kb_session.specs.State.{IsSafe, happens, reload, next, left_lines, with_user, stops};
 ghost use Rattle.kb_bindings.specs.Warning.{warnings_of};
 ghost use Rattle.kb_session.specs.declared.fault.SessionFault.TheVariants.{NoMemory};
 ghost use Rattle.kb_stream.specs.Fold.{after_all};
@@ -39,10 +38,11 @@ use std::collections::VecDeque;
 use std::marker::Model;
 
 mod closures;
+mod extensions;
 
 /// A session of the engine, with the host's closures for native commands. Contracts see its state and
-/// its trace. The state consists of the core with its text and scopes, the sources of the key bindings,
-/// the live commands, the keystrokes of the open chord, whether the session is stopped, and the unread
+/// its trace. The state consists of the core with its text and scopes, the sources of the key bindings with
+/// the extensions that are enabled, the commands that are live or not, the keystrokes of the open chord, whether the session is stopped, and the unread
 /// patterns of the load and of each reload.
 ///
 /// Refused memory or a trap of a handler stops the session for good. Each later call returns `Stopped`.
@@ -129,8 +129,8 @@ impl<C: HostCommand> Session<C> {
         // of nesting. Each pattern with a syntax that `regex` rejects is reported.
         ensures right { IfOk result (λ session. MarksAreRight (files_of inputs.entry) session.state.sources) }
 
-        // Each live handler is verified, so only refused memory stops the session (`laws`).
-        ensures sound { IfOk result (λ session. IsSound session.state.live) }
+        // All handlers are verified, so only refused memory stops the session (`laws`).
+        ensures safe { IfOk result (λ session. IsSafe session.state) }
     {
         let Loaded {
             scopes,
@@ -263,8 +263,15 @@ impl<C: HostCommand> Session<C> {
         self.stopped = true;
     }
 
-    /// Handles one event. A change of the focus ends an open chord, and a change of a key doesn't. A
-    /// handler that traps has its trace line, and stops the session. (These are our decisions.)
+    /// Handles one event. A change of the focus, and an extension that is enabled or disabled, end an open
+    /// chord; a change of a key and an update of an extension don't. A handler that traps has its trace line,
+    /// and stops the session. (These are our decisions.)
+    ///
+    /// Refusals: a scope that doesn't exist (20); a key too many (22); an extension that doesn't exist (92);
+    /// enabling it while it depends on one that isn't enabled (93), or while a native command that its handlers
+    /// call has no registered closure (74); disabling it while an enabled one depends on it (94); an update by a
+    /// file with a fault (1 to 4, 40 to 44, 50 to 52), with other commands than before (95), or with a handler
+    /// that isn't accepted (60 to 69).
     ///
     /// Errors: `Stopped` if the session was already stopped; `NoMemory` if memory was refused. Then the
     /// session is stopped and otherwise unchanged, except for the core and the chord if the event is a
@@ -302,6 +309,11 @@ impl<C: HostCommand> Session<C> {
                 scope.as_str(),
                 key.as_str(),
             )),
+            Event::Enable(id) => started_nothing(self.enable(id.as_str())),
+            Event::Disable(id) => started_nothing(self.disable(id.as_str())),
+            Event::Update(id, bytes) => {
+                started_nothing(self.update(id.as_str(), bytes.as_slice()))
+            }
             Event::NoClosure => started_nothing(self.note_no_closure()),
             Event::Unread(number) => started_nothing(self.note_unread(number)),
         };
