@@ -12,48 +12,47 @@ use Rattle.kb_script.specs.declared.fault.ScriptFault.TheVariants as script
 use Rattle.kb_bindings.specs.Load.{Files}
 use Rattle.kb_session.proofs.Sound.{runs_on}
 use Rattle.kb_session.specs.Session.{IsOf}
-use Rattle.kb_session.specs.State.{State}
-use Rattle.kb_soundness.specs.Stays.{IsSound}
+use Rattle.kb_session.specs.State.{IsSafe, State}
 use Rattle.kb_stream.specs.Fold.{Traced, fold}
 
--- a session that was just loaded isn't stopped, and each of its handlers is verified
+-- a session that was just loaded isn't stopped
 pub loaded_runs : (files : Files) (natives : List Native) (session : Traced State) → IsOf files natives session
     → session.state.stopped ≡ false
 loaded_runs files natives session is = ap (λ (s : Traced State). s.state.stopped) is.is
 
 -- no line of a script stops it, since no verified handler traps
-moves_on : (said : Said) (s : Stand) → s.state.stopped ≡ false → IsSound s.state.live
-    → ((move said s).state.state.stopped ≡ false) × IsSound (move said s).state.state.live
-moves_on said s running sound =
+moves_on : (said : Said) (s : Stand) → s.state.stopped ≡ false → IsSafe s.state
+    → ((move said s).state.state.stopped ≡ false) × IsSafe (move said s).state.state
+moves_on said s running safe =
     subst
-    (λ b. ((move_unless b said s).state.state.stopped ≡ false) × IsSound (move_unless b said s).state.state.live)
-    (sym running) (runs_on (told_by said s.shelf) s.state running sound)
+    (λ b. ((move_unless b said s).state.state.stopped ≡ false) × IsSafe (move_unless b said s).state.state)
+    (sym running) (runs_on (told_by said s.shelf) s.state running safe)
 
-folds_on : (said : List Said) (s : Stand) → s.state.stopped ≡ false → IsSound s.state.live
+folds_on : (said : List Said) (s : Stand) → s.state.stopped ≡ false → IsSafe s.state
     → (fold move said s).state.state.stopped ≡ false
-folds_on [] s running sound = running
-folds_on (x ∷ xs) s running sound =
-    let p = moves_on x s running sound in folds_on xs (move x s).state p.0 p.1
+folds_on [] s running safe = running
+folds_on (x ∷ xs) s running safe =
+    let p = moves_on x s running safe in folds_on xs (move x s).state p.0 p.1
 
 apart : false ≡ true → ⊥
 apart e = cc
 
 pub fails_to_run : (fault : ScriptFault) (text : List ℕ) (left : Option (List ℕ)) (old new : Traced Stand)
-    (before after : Option (List ℕ)) → old.state.state.stopped ≡ false → IsSound old.state.state.live
+    (before after : Option (List ℕ)) → old.state.state.stopped ≡ false → IsSafe old.state.state
     → Fails (Fault fault) (Some text) left old new before after → FailsToRun fault text
-fails_to_run script.Stopped text left old new before after running sound fails =
+fails_to_run script.Stopped text left old new before after running safe fails =
     absurd (apart (sym running ∙ fails.stopped))
-fails_to_run script.TooLong text left old new before after running sound fails = fails.reader
-fails_to_run script.ReadFailed text left old new before after running sound fails = tt
-fails_to_run script.WriteFailed text left old new before after running sound fails = tt
-fails_to_run script.Trapped text left old new before after running sound fails =
-    apart (sym (folds_on fails.said old.state running sound)
+fails_to_run script.TooLong text left old new before after running safe fails = fails.reader
+fails_to_run script.ReadFailed text left old new before after running safe fails = tt
+fails_to_run script.WriteFailed text left old new before after running safe fails = tt
+fails_to_run script.Trapped text left old new before after running safe fails =
+    apart (sym (folds_on fails.said old.state running safe)
     ∙ sym (ap (λ (s : Traced Stand). s.state.state.stopped) fails.ran.session) ∙ fails.stopped)
 
 -- the same for the result of the script
 pub answered_fault : (ran : Result (Unit {0}) (Failure ScriptFault)) (fault : ScriptFault) (text : List ℕ)
     (left : Option (List ℕ)) (old new : Traced Stand) (before after : Option (List ℕ))
-    → ran ≡ Err (Fault fault) → old.state.state.stopped ≡ false → IsSound old.state.state.live
+    → ran ≡ Err (Fault fault) → old.state.state.stopped ≡ false → IsSafe old.state.state
     → Answers ran (Some text) left old new before after → FailsToRun fault text
-answered_fault ran fault text left old new before after is running sound answers =
-    fails_to_run fault text left old new before after running sound (rw is at answers)
+answered_fault ran fault text left old new before after is running safe answers =
+    fails_to_run fault text left old new before after running safe (rw is at answers)

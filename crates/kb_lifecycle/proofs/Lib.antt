@@ -1,1 +1,2 @@
 pub mod UpdatingLemmas
+pub mod NamedLemmas

@@ -8,11 +8,12 @@ use Rattle.kb_core.specs.declared.native.Native.{Native}
 use Rattle.kb_core.specs.Native.{named}
 use Rattle.kb_script.specs.Script.{bare, bare_told, word_said, words_said, text_said, or_unread, line_said}
 use Rattle.kb_script.specs.Script.{said_from, split_word, event_told, event_said, registration, disposal}
-use Rattle.kb_script.specs.Script.{number_of}
+use Rattle.kb_script.specs.Script.{is_word, number_of, update, update_of}
 use Rattle.kb_script.specs.ScriptRun.{marked, marked_told}
 use Rattle.kb_script.specs.Shelf.{Said, tells, takes}
 use Rattle.kb_session.specs.State.{Told, happens, reload, register, dispose}
 use Rattle.kb_trace.specs.declared.event.Event.{Event}
+use Rattle.kb_trace.specs.declared.event.Event.TheVariants as event
 
 -- the meaning of a line has no marks, if there is one
 abbrev IsBare : Option Said → Type 0
@@ -34,15 +35,25 @@ disposal_bare : (number : Option ℕ) → IsBare (option_map (λ n. tells (dispo
 disposal_bare None = refl
 disposal_bare (Some number) = refl
 
+update_of_bare : (id json : List ℕ) → IsBare (update_of id json)
+update_of_bare id json =
+    either_bare (is_word id) (Some (tells (happens (event.Update id json)))) None refl refl
+
+update_bare : (rest : List ℕ) (parts : Option (List ℕ × List ℕ)) → IsBare (update rest parts)
+update_bare rest None = update_of_bare rest []
+update_bare rest (Some parts) = update_of_bare parts.0 parts.1
+
 word_bare : (word rest : List ℕ) → IsBare (word_said word rest)
 word_bare word rest =
-    let event = event_said (event_told word rest) in
-    let other = cond (bytes_eq word (codes "dispose")) (disposal rest) event in
+    let happening = event_said (event_told word rest) in
+    let last = cond (bytes_eq word (codes "update")) (update rest (split_word rest)) happening in
+    let other = cond (bytes_eq word (codes "dispose")) (disposal rest) last in
     either_bare (bytes_eq word (codes "reload")) (Some (tells (reload rest [])))
     (cond (bytes_eq word (codes "register")) (registration rest) other) refl
     (either_bare (bytes_eq word (codes "register")) (registration rest) other (registration_bare (named rest))
-    (either_bare (bytes_eq word (codes "dispose")) (disposal rest) event (disposal_bare (number_of rest))
-    (event_bare (event_told word rest))))
+    (either_bare (bytes_eq word (codes "dispose")) (disposal rest) last (disposal_bare (number_of rest))
+    (either_bare (bytes_eq word (codes "update")) (update rest (split_word rest)) happening
+    (update_bare rest (split_word rest)) (event_bare (event_told word rest)))))
 
 words_bare : (text : List ℕ) (parts : Option (List ℕ × List ℕ)) → IsBare (words_said text parts)
 words_bare text None = either_bare (bytes_eq text (codes "reload")) (Some (tells (reload [] []))) None refl refl

@@ -126,6 +126,9 @@ halts_at (happens (event.Focus name)) old new halts = (halted old new halts, ap 
 halts_at (happens (event.SetKey name key value)) old new halts =
     (halted old new halts, ap (λ s. s.trace) halts)
 halts_at (happens (event.UnsetKey name key)) old new halts = (halted old new halts, ap (λ s. s.trace) halts)
+halts_at (happens (event.Enable id)) old new halts = (halted old new halts, ap (λ s. s.trace) halts)
+halts_at (happens (event.Disable id)) old new halts = (halted old new halts, ap (λ s. s.trace) halts)
+halts_at (happens (event.Update id bytes)) old new halts = (halted old new halts, ap (λ s. s.trace) halts)
 halts_at (happens (event.Unread number)) old new halts = (halted old new halts, ap (λ s. s.trace) halts)
 halts_at (happens event.NoClosure) old new halts = (halted old new halts, ap (λ s. s.trace) halts)
 halts_at (reload bytes marks) old new halts = (halted old new halts, ap (λ s. s.trace) halts)

@@ -95,13 +95,23 @@ abbrev pub set_event : Option (List ℕ × List ℕ) → Option Event
 set_event None = None
 set_event (Some parts) = keyed_event parts.0 (split_word parts.1)
 
+-- enable EXTENSION
+abbrev pub enable_event : List ℕ → Option Event
+enable_event id = if is_word id then Some (event.Enable id) else None
+
+-- disable EXTENSION
+abbrev pub disable_event : List ℕ → Option Event
+disable_event id = if is_word id then Some (event.Disable id) else None
+
 -- an event, by the first word of its line and the text after the first space
 abbrev pub event_told : List ℕ → List ℕ → Option Event
 event_told word rest =
     if bytes_eq word (codes "key") then key_event rest
     else (if bytes_eq word (codes "focus") then focus_event rest
     else (if bytes_eq word (codes "set") then set_event (split_word rest)
-    else (if bytes_eq word (codes "unset") then unset_event (split_word rest) else None)))
+    else (if bytes_eq word (codes "unset") then unset_event (split_word rest)
+    else (if bytes_eq word (codes "enable") then enable_event rest
+    else (if bytes_eq word (codes "disable") then disable_event rest else None)))))
 
 -- register NATIVE, by one of the nine identifiers
 abbrev pub registration : List ℕ → Option Said
@@ -118,6 +128,15 @@ number_of digits =
 abbrev pub disposal : List ℕ → Option Said
 disposal digits = option_map (λ number. tells (dispose number)) (number_of digits)
 
+-- update EXTENSION JSON
+abbrev pub update_of : List ℕ → List ℕ → Option Said
+update_of id json = if is_word id then Some (tells (happens (event.Update id json))) else None
+
+-- without a second word the JSON text is empty
+abbrev pub update : List ℕ → Option (List ℕ × List ℕ) → Option Said
+update rest None = update_of rest []
+update rest (Some parts) = update_of parts.0 parts.1
+
 abbrev pub event_said : Option Event → Option Said
 event_said event = option_map (λ e. tells (happens e)) event
 
@@ -130,7 +149,9 @@ abbrev pub word_said : List ℕ → List ℕ → Option Said
 word_said word rest =
     if bytes_eq word (codes "reload") then Some (tells (reload rest []))
     else (if bytes_eq word (codes "register") then registration rest
-    else (if bytes_eq word (codes "dispose") then disposal rest else event_said (event_told word rest)))
+    else (if bytes_eq word (codes "dispose") then disposal rest
+    else (if bytes_eq word (codes "update") then update rest (split_word rest)
+    else event_said (event_told word rest))))
 
 abbrev pub words_said : List ℕ → Option (List ℕ × List ℕ) → Option Said
 words_said text None = lone_said text

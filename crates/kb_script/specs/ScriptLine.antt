@@ -6,12 +6,14 @@ use Rattle.kb_script.specs.declared.script.ScriptLine.{ScriptLine}
 use Rattle.kb_script.specs.declared.script.ScriptLine.TheVariants as line
 use Rattle.kb_script.specs.Shelf.{Said, tells, takes}
 use Rattle.kb_session.specs.State.{happens, reload, dispose}
+use Rattle.kb_trace.specs.declared.event.Event.TheVariants as event
 
 abbrev pub said_by : ScriptLine → Said
 said_by (line.Event event) = tells (happens event)
 said_by (line.Reload text) = tells (reload text.now [])
 said_by (line.Register native) = takes native
 said_by (line.Dispose ticket) = tells (dispose ticket.0)
+said_by (line.Update id json) = tells (happens (event.Update id.now json.now))
 
 -- the result of reading a value: a fault gives no value, and refused memory is returned
 abbrev pub TakesAs : {X F E : Type 0} → Result X (Failure F) → Result (Option X) E → Type 0

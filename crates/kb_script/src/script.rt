@@ -22,8 +22,8 @@ use std::str;
 /// A parsed line of a script.
 #[derive(Drop)]
 pub enum ScriptLine<'a> {
-    /// An event: `key KEY`, `focus SCOPE`, `set SCOPE KEY JSON` or `unset SCOPE KEY`; or `Unread` for a
-    /// line that doesn't parse.
+    /// An event: `key KEY`, `focus SCOPE`, `set SCOPE KEY JSON`, `unset SCOPE KEY`, `enable EXTENSION` or
+    /// `disable EXTENSION`; or `Unread` for a line that doesn't parse.
     Event(Event),
     /// `reload BYTES`: a reload of the user's rules from these bytes, which may be empty.
     Reload(&'a str),
@@ -31,6 +31,8 @@ pub enum ScriptLine<'a> {
     Register(Native),
     /// `dispose N`: ends the registration with the ticket N, and puts its closure on the shelf.
     Dispose(Ticket),
+    /// `update EXTENSION JSON`: gives the extension the handlers of these bytes, which may be empty.
+    Update(&'a str, &'a str),
 }
 
 /// Parses one line. `None` for blank lines and comments: an empty line, or one that begins with `#`. A
@@ -125,6 +127,7 @@ fn read_word<'a>(
         "reload" => Ok(Some(ScriptLine::Reload(rest))),
         "register" => Ok(read_register(rest)),
         "dispose" => Ok(read_dispose(rest)),
+        "update" => Ok(read_update(rest)),
         _ => match read_event(alloc, word, rest)? {
             Some(event) => Ok(Some(ScriptLine::Event(event))),
             None => Ok(None),
@@ -141,6 +144,8 @@ fn read_event(alloc: Global, word: &str, rest: &str) -> Result<Option<Event>, No
         "focus" => read_focus(alloc, rest),
         "set" => read_set(alloc, rest),
         "unset" => read_unset(alloc, rest),
+        "enable" => read_enable(alloc, rest),
+        "disable" => read_disable(alloc, rest),
         _ => Ok(None),
     }
 }
@@ -176,6 +181,25 @@ fn read_dispose(digits: &str) -> Option<ScriptLine<'_>>
     match read_number(digits) {
         Some(number) => Some(ScriptLine::Dispose(Ticket(number))),
         None => None,
+    }
+}
+
+fn read_update(rest: &str) -> Option<ScriptLine<'_>>
+    ensures { option_map said_by result ≡ script.update rest.now (script.split_word rest.now) }
+{
+    match split_word(rest) {
+        Some((id, json)) => update_of(id, json),
+        None => update_of(rest, ""),
+    }
+}
+
+fn update_of<'a>(id: &'a str, json: &'a str) -> Option<ScriptLine<'a>>
+    ensures { option_map said_by result ≡ script.update_of id.now json.now }
+{
+    if is_word(id) {
+        Some(ScriptLine::Update(id, json))
+    } else {
+        None
     }
 }
 
@@ -238,6 +262,24 @@ fn read_focus(alloc: Global, scope: &str) -> Result<Option<Event>, NoMemory>
         return Ok(None);
     }
     Ok(Some(Event::Focus(Text::from_str(alloc, scope)?)))
+}
+
+fn read_enable(alloc: Global, id: &str) -> Result<Option<Event>, NoMemory>
+    ensures { IfOk result (λ event. event ≡ script.enable_event id.now) }
+{
+    if !is_word(id) {
+        return Ok(None);
+    }
+    Ok(Some(Event::Enable(Text::from_str(alloc, id)?)))
+}
+
+fn read_disable(alloc: Global, id: &str) -> Result<Option<Event>, NoMemory>
+    ensures { IfOk result (λ event. event ≡ script.disable_event id.now) }
+{
+    if !is_word(id) {
+        return Ok(None);
+    }
+    Ok(Some(Event::Disable(Text::from_str(alloc, id)?)))
 }
 
 fn read_unset(alloc: Global, rest: &str) -> Result<Option<Event>, NoMemory>

@@ -48,6 +48,12 @@ pub(crate) fn obey<C: HostCommand>(
             Ok(_) => Ok(Finish::Done),
             Err(_) => Err(AllocError),
         },
+        Ok(Some(ScriptLine::Update(id, json))) => {
+            match session.update_extension(id, json.as_bytes()) {
+                Ok(_) => Ok(Finish::Done),
+                Err(_) => Err(AllocError),
+            }
+        }
         Ok(Some(ScriptLine::Register(native))) => {
             register_first(native, session, shelf)?;
             Ok(Finish::Done)

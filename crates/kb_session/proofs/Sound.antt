@@ -1,4 +1,4 @@
--- No input stops a session with verified handlers.
+-- No input stops a session that is safe, and it stays safe.
 use Rattle.std.proofs.Common.{◌≡◌, ◌∙◌, refl, sym, ap, subst, Bool, true, false, List, [], ◌∷◌, ℕ}
 use Rattle.std.specs.Prelude.{Option, Some, None, option_map, Result, Ok, Err, if◌then◌else◌, bytes_eq}
 use Rattle.std.specs.Prelude.{IfSome, IsTrue, is_some}
@@ -27,13 +27,20 @@ use Rattle.kb_base.specs.declared.note.Origin.TheVariants.{User}
 use Rattle.kb_session.specs.Press.{press_started, rule_started}
 use Rattle.kb_session.specs.State.{State, Told, Stepped, happens, reload, register, dispose, stops}
 use Rattle.kb_session.specs.State.{taken_unless, refusal_of, reloaded, registering, disposing}
-use Rattle.kb_session.specs.State.{disposing_unless}
-use Rattle.kb_session.specs.State.{step_on, step_unless, RunsOn}
+use Rattle.kb_session.specs.State.{disposing_unless, code_updated, disabling_refusal, enabling_refusal}
+use Rattle.kb_session.specs.State.{extension_refusal, is_new, named_in, switched, switched_to, updated}
+use Rattle.kb_session.specs.State.{step_on, step_unless, IsSafe, RunsOn}
+use Rattle.kb_session.proofs.Stopping.{switched_quiet}
+use Rattle.kb_handler_table.specs.Codes.{CodesData}
+use Rattle.kb_lifecycle.specs.Dependencies.{Placed}
+use Rattle.kb_lifecycle.specs.Switching.{disable_refusal, enable_refusal}
+use Rattle.kb_lifecycle.proofs.Closures.{disposed_stays_settled, registered_stays_settled}
+use Rattle.kb_lifecycle.proofs.NamedLemmas.{named_there}
+use Rattle.kb_lifecycle.proofs.Switches.{disabled_stays_settled, enabled_stays_settled}
+use Rattle.kb_lifecycle.proofs.Updates.{updated_stays_settled}
 use Rattle.kb_soundness.specs.Sound.{IsDone}
 use Rattle.kb_soundness.specs.Stays.{IsSound}
 use Rattle.kb_soundness.proofs.NeverStuck.{starts_never_stuck}
-use Rattle.kb_soundness.proofs.Stays.{registered_stays_sound}
-use Rattle.kb_soundness.proofs.Disposals.{disposed_stays_sound}
 use Rattle.kb_execute.specs.RunCommands.{Planned, plan_of, run_commands}
 use Rattle.kb_execute.specs.Start.{Started, and_then, ran, run_all, run_one, run_plan, start_live, start_of}
 use Rattle.kb_execute.specs.Start.{started_as, started_with}
@@ -119,56 +126,109 @@ module _ (live : Live) (sound : IsSound live) where
 
 -- ---- steps
 
--- a step doesn't stop the session, and each live handler stays verified
+-- a step doesn't stop the session, and it stays safe
 abbrev GoesOn : Stepped → Type 0
-GoesOn p = (p.state.stopped ≡ false) × IsSound p.state.live
+GoesOn p = (p.state.stopped ≡ false) × IsSafe p.state
 
-taken_goes : (refusal : Option Refusal) (e : Event) (s : State) → s.stopped ≡ false → IsSound s.live
-    → GoesOn (taken_unless refusal e s)
-taken_goes (Some refusal) e s running sound = (running, sound)
-taken_goes None (event.Key key) s running sound = (
-  press_starts s.live sound (line.key_text s.pressed key) (pressed s.pressed key s.core.scopes s.sources) s.core,
-  sound,
+-- an extension is enabled, unless that is refused
+enabled_safe : (id : List ℕ) (s : State) (p : Option Placed) → named_in id s ≡ p
+    → enabling_refusal id s ≡ None → IsSafe s → IsSafe (switched true p s)
+enabled_safe id s None is free safe = safe
+enabled_safe id s (Some p) is free safe = by (is_new true p.extension)
+  where
+    why : enable_refusal p.extension s.sources.extensions s.live ≡ None
+    why = ap (extension_refusal (λ e. enable_refusal e s.sources.extensions s.live)) (sym is) ∙ free
+
+    by : (b : Bool) → IsSafe (switched_to true (if b then Some (p.place, p.extension.number) else None) s)
+    by true =
+        enabled_stays_settled s.sources.extensions s.live p.place p.extension
+        (named_there id s.sources.extensions p is) why safe
+    by false = safe
+
+-- an extension is disabled, unless that is refused
+disabled_safe : (id : List ℕ) (s : State) (p : Option Placed) → named_in id s ≡ p
+    → disabling_refusal id s ≡ None → IsSafe s → IsSafe (switched false p s)
+disabled_safe id s None is free safe = safe
+disabled_safe id s (Some p) is free safe = by (is_new false p.extension)
+  where
+    why : disable_refusal p.extension s.sources.extensions ≡ None
+    why = ap (extension_refusal (λ e. disable_refusal e s.sources.extensions)) (sym is) ∙ free
+
+    by : (b : Bool) → IsSafe (switched_to false (if b then Some (p.place, p.extension.number) else None) s)
+    by true =
+        disabled_stays_settled s.sources.extensions s.live p.place p.extension
+        (named_there id s.sources.extensions p is) why safe
+    by false = safe
+
+-- an extension gets other code, unless that is refused
+updated_goes : (id bytes : List ℕ) (s : State) (p : Option Placed) (r : Result CodesData Refusal)
+    → named_in id s ≡ p → code_updated p bytes s ≡ r → s.stopped ≡ false → IsSafe s → GoesOn (updated r p s)
+updated_goes id bytes s None (Ok codes) is made running safe = (running, safe)
+updated_goes id bytes s (Some p) (Ok codes) is made running safe = (
+  running,
+  updated_stays_settled s.sources.extensions s.live p.place p.extension bytes codes
+      (named_there id s.sources.extensions p is) made safe,
 )
-taken_goes None (event.Focus name) s running sound = (running, sound)
-taken_goes None (event.SetKey name key value) s running sound = (running, sound)
-taken_goes None (event.UnsetKey name key) s running sound = (running, sound)
-taken_goes None (event.Unread number) s running sound = (running, sound)
-taken_goes None event.NoClosure s running sound = (running, sound)
+updated_goes id bytes s p (Err refusal) is made running safe = (running, safe)
 
-reloaded_goes : (rules : Result Listed Refusal) (s : State) → s.stopped ≡ false → IsSound s.live
+taken_goes : (refusal : Option Refusal) (e : Event) (s : State) → refusal_of e s ≡ refusal → s.stopped ≡ false
+    → IsSafe s → GoesOn (taken_unless refusal e s)
+taken_goes (Some refusal) e s is running safe = (running, safe)
+taken_goes None (event.Key key) s is running safe = (
+  press_starts s.live safe.sound (line.key_text s.pressed key)
+      (pressed s.pressed key s.core.scopes s.sources) s.core,
+  safe,
+)
+taken_goes None (event.Focus name) s is running safe = (running, safe)
+taken_goes None (event.SetKey name key value) s is running safe = (running, safe)
+taken_goes None (event.UnsetKey name key) s is running safe = (running, safe)
+taken_goes None (event.Enable id) s is running safe = (
+  switched_quiet true (named_in id s) s ∙ running,
+  enabled_safe id s (named_in id s) refl is safe,
+)
+taken_goes None (event.Disable id) s is running safe = (
+  switched_quiet false (named_in id s) s ∙ running,
+  disabled_safe id s (named_in id s) refl is safe,
+)
+taken_goes None (event.Update id bytes) s is running safe =
+    updated_goes id bytes s (named_in id s) (code_updated (named_in id s) bytes s) refl refl running safe
+taken_goes None (event.Unread number) s is running safe = (running, safe)
+taken_goes None event.NoClosure s is running safe = (running, safe)
+
+reloaded_goes : (rules : Result Listed Refusal) (s : State) → s.stopped ≡ false → IsSafe s
     → GoesOn (reloaded rules s)
-reloaded_goes (Ok user) s running sound = (running, sound)
-reloaded_goes (Err refusal) s running sound = (running, sound)
+reloaded_goes (Ok user) s running safe = (running, safe)
+reloaded_goes (Err refusal) s running safe = (running, safe)
 
 registering_goes : (fault : Option RegistryFault) (native : Native) (s : State) → s.stopped ≡ false
-    → IsSound s.live → GoesOn (registering fault native s)
-registering_goes None native s running sound = (running, registered_stays_sound native s.live sound)
-registering_goes (Some fault) native s running sound = (running, sound)
+    → IsSafe s → GoesOn (registering fault native s)
+registering_goes None native s running safe =
+    (running, registered_stays_settled s.sources.extensions s.live native safe)
+registering_goes (Some fault) native s running safe = (running, safe)
 
 unless_goes : (caller : Option HandlerData) (native : Native) (number : ℕ) (s : State) → s.stopped ≡ false
-    → IsSound s.live → holder number s.live ≡ Some native → caller_of native s.live.code ≡ caller
+    → IsSafe s → holder number s.live ≡ Some native → caller_of native s.live.code ≡ caller
     → GoesOn (disposing_unless caller native number s)
-unless_goes None native number s running sound held free =
+unless_goes None native number s running safe held free =
     let fault : disposal_fault number s.live ≡ None =
     ap (λ o. disposal_fault_of o s.live) held
     ∙ ap (λ (o : Option HandlerData). if is_some o then Some InUse else None) free in
-    (running, disposed_stays_sound number s.live fault sound)
-unless_goes (Some caller) native number s running sound held free = (running, sound)
+    (running, disposed_stays_settled s.sources.extensions s.live number fault safe)
+unless_goes (Some caller) native number s running safe held free = (running, safe)
 
-disposing_goes : (native : Option Native) (number : ℕ) (s : State) → s.stopped ≡ false → IsSound s.live
+disposing_goes : (native : Option Native) (number : ℕ) (s : State) → s.stopped ≡ false → IsSafe s
     → holder number s.live ≡ native → GoesOn (disposing native number s)
-disposing_goes None number s running sound held = (running, sound)
-disposing_goes (Some native) number s running sound held =
-    unless_goes (caller_of native s.live.code) native number s running sound held refl
+disposing_goes None number s running safe held = (running, safe)
+disposing_goes (Some native) number s running safe held =
+    unless_goes (caller_of native s.live.code) native number s running safe held refl
 
-step_on_goes : (told : Told) (s : State) → s.stopped ≡ false → IsSound s.live → GoesOn (step_on told s)
-step_on_goes (happens e) s running sound = taken_goes (refusal_of e s) e s running sound
-step_on_goes (reload bytes marks) s running sound = reloaded_goes (rules_in marks User bytes) s running sound
-step_on_goes (register native) s running sound =
-    registering_goes (registration_fault native s.live) native s running sound
-step_on_goes (dispose number) s running sound = disposing_goes (holder number s.live) number s running sound refl
+step_on_goes : (told : Told) (s : State) → s.stopped ≡ false → IsSafe s → GoesOn (step_on told s)
+step_on_goes (happens e) s running safe = taken_goes (refusal_of e s) e s refl running safe
+step_on_goes (reload bytes marks) s running safe = reloaded_goes (rules_in marks User bytes) s running safe
+step_on_goes (register native) s running safe =
+    registering_goes (registration_fault native s.live) native s running safe
+step_on_goes (dispose number) s running safe = disposing_goes (holder number s.live) number s running safe refl
 
 pub runs_on : RunsOn
-runs_on told s running sound =
-    subst (λ b. GoesOn (step_unless b told s)) (sym running) (step_on_goes told s running sound)
+runs_on told s running safe =
+    subst (λ b. GoesOn (step_unless b told s)) (sym running) (step_on_goes told s running safe)

@@ -1,6 +1,6 @@
 -- Only a key press can stop a running session.
 use Rattle.std.specs.Prelude.{⊤}
-use Rattle.std.proofs.Common.{◌≡◌, ◌∙◌, Bool, true, false, if◌then◌else◌, Option, Some, None, Result, Ok, Err, ℕ, ap, refl}
+use Rattle.std.proofs.Common.{◌≡◌, ◌∙◌, Bool, true, false, Option, Some, None, Result, Ok, Err, ℕ, ap, refl}
 use Rattle.kb_base.specs.declared.refusal.Refusal.{Refusal}
 use Rattle.kb_code.specs.Handler.{HandlerData}
 use Rattle.kb_core.specs.declared.native.Native.{Native}
@@ -13,11 +13,10 @@ use Rattle.kb_base.specs.declared.note.Origin.TheVariants.{User}
 use Rattle.kb_session.specs.Session.{Answers, Does, answered}
 use Rattle.kb_session.specs.State.{State, Told, happens, reload, register, dispose, Answered, step_on, step_unless}
 use Rattle.kb_session.specs.State.{out_of, taken_unless, refusal_of, reloaded, registering, disposing}
-use Rattle.kb_session.specs.State.{disposing_unless, code_updated, is_new, named_in, switched, updated}
-use Rattle.kb_bindings.specs.Sources.{with_enabled}
+use Rattle.kb_session.specs.State.{disposing_unless, code_updated, named_in, switched, switched_to}
+use Rattle.kb_session.specs.State.{switch_target, updated}
 use Rattle.kb_handler_table.specs.Codes.{CodesData}
 use Rattle.kb_lifecycle.specs.Dependencies.{Placed}
-use Rattle.kb_registry.specs.Live.{with_switched}
 use Rattle.kb_stream.specs.Fold.{Traced}
 use Rattle.kb_trace.specs.declared.event.Answer.{Answer}
 use Rattle.kb_trace.specs.declared.event.Event.{Event}
@@ -28,16 +27,12 @@ abbrev pub IsQuiet : Told → Type 0
 IsQuiet (happens (event.Key key)) = ⊥
 IsQuiet told = ⊤
 
-switched_quiet : (enabled : Bool) (p : Option Placed) (s : State) → (switched enabled p s).stopped ≡ s.stopped
-switched_quiet enabled None s = refl
-switched_quiet enabled (Some p) s = by (is_new enabled p.extension)
+pub switched_quiet : (enabled : Bool) (p : Option Placed) (s : State) → (switched enabled p s).stopped ≡ s.stopped
+switched_quiet enabled p s = by (switch_target enabled p)
   where
-    by : (b : Bool) → (if b then record s {
-      sources = with_enabled p.place enabled s.sources;
-      live = with_switched p.extension.number enabled s.live;
-    } else s).stopped ≡ s.stopped
-    by true = refl
-    by false = refl
+    by : (target : Option (ℕ × ℕ)) → (switched_to enabled target s).stopped ≡ s.stopped
+    by None = refl
+    by (Some target) = refl
 
 updated_quiet : (r : Result CodesData Refusal) (p : Option Placed) (s : State)
     → (updated r p s).state.stopped ≡ s.stopped

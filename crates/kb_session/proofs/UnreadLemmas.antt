@@ -1,5 +1,5 @@
 -- The lists of unread patterns of a session: each successful reload adds one, and none changes.
-use Rattle.std.proofs.Common.{◌≡◌, ℕ, Bool, true, false, if◌then◌else◌, List, [], ◌∷◌, ◌++◌, refl, sym, ap, ◌∙◌, append-nil}
+use Rattle.std.proofs.Common.{◌≡◌, ℕ, Bool, true, false, List, [], ◌∷◌, ◌++◌, refl, sym, ap, ◌∙◌, append-nil}
 use Rattle.std.proofs.Common.{append_assoc}
 use Rattle.std.specs.Prelude.{Option, Some, None, Result, Ok, Err}
 use Rattle.kb_base.specs.declared.refusal.Refusal.{Refusal}
@@ -13,11 +13,10 @@ use Rattle.kb_registry.specs.declared.fault.RegistryFault.{RegistryFault}
 use Rattle.kb_session.specs.State.{State, Told, happens, reload, register, dispose, step, step_on}
 use Rattle.kb_session.specs.State.{step_unless}
 use Rattle.kb_session.specs.State.{next, taken_unless, reloaded, refusal_of, registering, disposing}
-use Rattle.kb_session.specs.State.{disposing_unless, code_updated, is_new, named_in, switched, updated}
-use Rattle.kb_bindings.specs.Sources.{with_enabled}
+use Rattle.kb_session.specs.State.{disposing_unless, code_updated, named_in, switched, switched_to}
+use Rattle.kb_session.specs.State.{switch_target, updated}
 use Rattle.kb_handler_table.specs.Codes.{CodesData}
 use Rattle.kb_lifecycle.specs.Dependencies.{Placed}
-use Rattle.kb_registry.specs.Live.{with_switched}
 use Rattle.kb_code.specs.Handler.{HandlerData}
 use Rattle.kb_handler_table.specs.Live.{caller_of}
 use Rattle.kb_base.specs.declared.note.UnreadPattern.{UnreadPattern}
@@ -26,15 +25,11 @@ use Rattle.kb_trace.specs.declared.event.Event.{Event}
 use Rattle.kb_trace.specs.declared.event.Event.TheVariants as event
 
 switched_lists : (enabled : Bool) (p : Option Placed) (s : State) → (switched enabled p s).unread ≡ s.unread
-switched_lists enabled None s = refl
-switched_lists enabled (Some p) s = by (is_new enabled p.extension)
+switched_lists enabled p s = by (switch_target enabled p)
   where
-    by : (b : Bool) → (if b then record s {
-      sources = with_enabled p.place enabled s.sources;
-      live = with_switched p.extension.number enabled s.live;
-    } else s).unread ≡ s.unread
-    by true = refl
-    by false = refl
+    by : (target : Option (ℕ × ℕ)) → (switched_to enabled target s).unread ≡ s.unread
+    by None = refl
+    by (Some target) = refl
 
 updated_lists : (r : Result CodesData Refusal) (p : Option Placed) (s : State)
     → (updated r p s).state.unread ≡ s.unread

@@ -1,5 +1,5 @@
 -- The effect of a session's calls.
-use Rattle.std.specs.Prelude.{◌≡◌, ◌⊎◌, ◌||◌, Bool, true, false, List, [], ◌∷◌}
+use Rattle.std.specs.Prelude.{◌≡◌, ◌⊎◌, ◌||◌, ℕ, Bool, true, false, List, [], ◌∷◌}
 use Rattle.std.specs.Prelude.{Some, Result, Ok, Err}
 use Rattle.kb_base.specs.Failure.{Fails}
 use Rattle.kb_base.specs.Reading.{◌>>=◌, seen}

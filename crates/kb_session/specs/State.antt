@@ -161,15 +161,23 @@ abbrev pub is_new : Bool → Extension → Bool
 is_new true e = not e.enabled
 is_new false e = e.enabled
 
--- the state with an extension enabled or disabled: its rules and enablements count or don't, and its handlers
--- are live or aren't; if it is so already, nothing changes
+-- the place and the number of the extension that is to be enabled or disabled, if it isn't already
+abbrev pub switch_target : Bool → Option Placed → Option (ℕ × ℕ)
+switch_target enabled None = None
+switch_target enabled (Some p) =
+    if is_new enabled p.extension then Some (p.place, p.extension.number) else None
+
+-- the state with the extension of this place and number enabled or disabled: its rules and enablements count or
+-- don't, and its handlers are live or aren't
+abbrev pub switched_to : Bool → Option (ℕ × ℕ) → State → State
+switched_to enabled None s = s
+switched_to enabled (Some target) s = record s {
+  sources = with_enabled target.0 enabled s.sources;
+  live = with_switched target.1 enabled s.live;
+}
+
 abbrev pub switched : Bool → Option Placed → State → State
-switched enabled None s = s
-switched enabled (Some p) s =
-    if is_new enabled p.extension then record s {
-      sources = with_enabled p.place enabled s.sources;
-      live = with_switched p.extension.number enabled s.live;
-    } else s
+switched enabled p s = switched_to enabled (switch_target enabled p) s
 
 -- the line of an extension that is enabled or disabled
 abbrev pub switch_line : Bool → List ℕ → List ℕ

@@ -1,9 +1,9 @@
 //! Theorems about sessions with verified handlers.
 ghost use Rattle.kb_session.specs.State.{RunsOn};
 
-/// If each live handler is verified, as in a session from `Session::load`, then no input stops a
-/// running session, and each live handler stays verified. No handler ever traps, so only refused memory
-/// stops the session.
+/// If a session is safe, as one from `Session::load` is, then no input stops it while it runs, and it stays
+/// safe: each live handler is verified, and what it calls is live as it was declared. No handler ever traps, so
+/// only refused memory stops the session.
 pub fn runs_on_when_verified()
     ensures { RunsOn }
 {}

@@ -117,7 +117,7 @@ impl<C: HostCommand> Session<C> {
     ///   its command and place; and a handler whose name is taken: 70
     ///
     /// On an error the closures are dropped.
-    #[tactic(auto, using(crate::proofs::LoadLemmas::loading, crate::proofs::SoundLoads::loads_sound))]
+    #[tactic(auto, using(crate::proofs::LoadLemmas::loading))]
     pub fn load(
         alloc: Global,
         inputs: Inputs<'_>,

@@ -11,4 +11,4 @@ returns-clause-err g c =
     let failed : c.run_script-ran.result ≡ Err (Fault fault) = search rules in
     answered_fault c.run_script-ran.result fault c.args.script.now _ _ _ _ _ failed
     (loaded_runs _ natives c.in-Ok.session c.in-Ok.ensures.read)
-    c.in-Ok.ensures.sound c.run_script-ran.ensures.left
+    c.in-Ok.ensures.safe c.run_script-ran.ensures.left

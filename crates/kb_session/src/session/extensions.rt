@@ -5,7 +5,7 @@ ghost use Rattle.kb_session.specs.Session.{Does, FailsAt, KeepsFace, Takes, Undo
 ghost use Rattle.kb_session.specs.Session.{has_switched, has_updated};
 ghost use Rattle.kb_session.specs.State.{code_updated, disabling_refusal, enabling_refusal, happens};
 ghost use Rattle.kb_lifecycle.specs.Dependencies.{extension_named};
-ghost use Rattle.kb_session.specs.State.{is_new, left_lines, named_in, spelled, switch_line, switched};
+ghost use Rattle.kb_session.specs.State.{is_new, left_lines, named_in, spelled, switch_line, switch_target, switched};
 ghost use Rattle.kb_trace.specs.declared.event.Event.TheVariants as event;
 
 use crate::fault::{SessionFault, fault_in};
@@ -147,14 +147,25 @@ impl<C: HostCommand> Session<C> {
             ≡ record self.old { state = switched enabled (named_in id.now self.old.state) self.old.state }) }
         ensures err { OnErr result (self.new ≡ self.old) }
     {
-        match extension_named(id, self.bindings.extensions()) {
-            Some(named) if is_new(enabled, named.extension) => {
-                let number = named.extension.number;
-                self.bindings.switch(self.alloc, named.place, enabled)?;
+        match self.switch_target(id, enabled) {
+            Some((place, number)) => {
+                self.bindings.switch(self.alloc, place, enabled)?;
                 self.registry.switch_code(number, enabled);
                 Ok(())
             }
-            _ => Ok(()),
+            None => Ok(()),
+        }
+    }
+
+    /// The place and the number of the extension that is to be enabled or disabled, if it isn't already.
+    fn switch_target(&self, id: &str, enabled: bool) -> Option<(usize, u32)>
+        ensures { result ≡ switch_target enabled (named_in id.now self.now.state) }
+    {
+        match extension_named(id, self.bindings.extensions()) {
+            Some(named) if is_new(enabled, named.extension) => {
+                Some((named.place, named.extension.number))
+            }
+            _ => None,
         }
     }
 

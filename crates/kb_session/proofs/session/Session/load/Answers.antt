@@ -5,7 +5,7 @@ use Rattle.kb_bindings.specs.Unread.{unread_of}
 use Rattle.kb_load_commands.specs.Checked.{LiveChecked}
 use Rattle.kb_session.proofs.FewHandlers.{few_handlers}
 use Rattle.kb_session.proofs.LoadLemmas.{begun_loads}
-use Rattle.kb_session.proofs.SoundLoads.{all_loads_sound}
+use Rattle.kb_session.proofs.SafeLoads.{all_loads_safe}
 use Rattle.kb_session.proofs.session.Session.load.Goals as goal
 
 pub checked_commands-requires : goal.checked_commands-requires
@@ -23,7 +23,7 @@ returns-in-Ok-clause-read g c =
     begun_loads (files_of c.args.inputs) natives l live c.begun.result c.in_ok-scopes.ensures.read checked
     c.begun.ensures.ok c.begun.ensures.err
 
-pub returns-in-Ok-clause-sound : goal.returns-in-Ok-clause-sound
-returns-in-Ok-clause-sound g c =
+pub returns-in-Ok-clause-safe : goal.returns-in-Ok-clause-safe
+returns-in-Ok-clause-safe g c =
     let natives = map g.C.HostCommand.stands_for c.args.natives.items in
-    all_loads_sound (files_of c.args.inputs) natives c.begun.result (returns-in-Ok-clause-read g c)
+    all_loads_safe (files_of c.args.inputs) natives c.begun.result (returns-in-Ok-clause-read g c)
