@@ -14,7 +14,8 @@ use Rattle.kb_core.specs.Declaration.{Declaration}
 use Rattle.kb_files.specs.declared.extension_file.Extension.{Extension}
 use Rattle.kb_handler_table.specs.Codes.{CodesData, checked, raw}
 use Rattle.kb_load_commands.specs.Callable.{callable_of}
-use Rattle.kb_load_commands.specs.Verified.{AllVerified, FirstIsRefused, IsVerified, Verifies, refused_handler}
+use Rattle.kb_load_commands.specs.Verified.{AllVerified, FirstIsRejected, IsVerified, Verifies, rejection}
+use Rattle.kb_load_commands.specs.declared.verifying.Rejection.{Rejection}
 use Rattle.kb_registry.specs.Live.{Live}
 use Rattle.kb_verify.proofs.Decides.{accepted_or_faulty}
 use Rattle.kb_verify.proofs.Refutes.{fault_refutes, fault_unique}
@@ -25,41 +26,41 @@ use Rattle.kb_verify.specs.declared.callees.Callee.{Callee}
 use Rattle.kb_verify.specs.declared.fault.VerifyFault.{VerifyFault}
 use Rattle.kb_verify.specs.declared.fault.VerifyFault.TheVariants.{Wrong, OverBudget, OverDepth}
 use Rattle.kb_lifecycle.specs.Updating.{callee_at, checked_by, checked_unless, code_of, fault_in, first_refusal}
-use Rattle.kb_lifecycle.specs.Updating.{handler_refusal, is_verified, with_callees}
+use Rattle.kb_lifecycle.specs.Updating.{handler_refusal, is_verified, refused_command, rejected_by, with_callees}
 
 -- ---- one handler
 
-same_refusal : (h : HandlerData) (a b : VerifyFault) → IsSameFault a b → refused_handler h a ≡ refused_handler h b
-same_refusal h (Wrong d p) (Wrong e q) same =
-    ap (λ d. refused_handler h (Wrong d p)) same.0 ∙ ap (λ p. refused_handler h (Wrong e p)) same.1
-same_refusal h (Wrong d p) (OverBudget path) same = absurd same
-same_refusal h (Wrong d p) (OverDepth q) same = absurd same
-same_refusal h (OverBudget path) (Wrong d p) same = absurd same
-same_refusal h (OverBudget path) (OverBudget other) same = refl
-same_refusal h (OverBudget path) (OverDepth q) same = absurd same
-same_refusal h (OverDepth p) (Wrong d q) same = absurd same
-same_refusal h (OverDepth p) (OverBudget path) same = absurd same
-same_refusal h (OverDepth p) (OverDepth q) same = ap (λ p. refused_handler h (OverDepth p)) same
+same_rejection : (h : HandlerData) (a b : VerifyFault) → IsSameFault a b → rejection h a ≡ rejection h b
+same_rejection h (Wrong d p) (Wrong e q) same =
+    ap (λ d. rejection h (Wrong d p)) same.0 ∙ ap (λ p. rejection h (Wrong e p)) same.1
+same_rejection h (Wrong d p) (OverBudget path) same = absurd same
+same_rejection h (Wrong d p) (OverDepth q) same = absurd same
+same_rejection h (OverBudget path) (Wrong d p) same = absurd same
+same_rejection h (OverBudget path) (OverBudget other) same = refl
+same_rejection h (OverBudget path) (OverDepth q) same = absurd same
+same_rejection h (OverDepth p) (Wrong d q) same = absurd same
+same_rejection h (OverDepth p) (OverBudget path) same = absurd same
+same_rejection h (OverDepth p) (OverDepth q) same = ap (λ p. rejection h (OverDepth p)) same
 
 module _ (commands : Commands) (h : HandlerData) where
   accepted_none : IsAccepted commands h → handler_refusal commands h ≡ None
   unfolding handler_refusal
   accepted_none accepted = by (accepted_or_faulty commands h)
     where
-      by : (d : IsDecided commands h) → option_map (refused_handler h) (fault_in commands h d) ≡ None
+      by : (d : IsDecided commands h) → option_map (λ fault. refused_command (rejection h fault)) (fault_in commands h d) ≡ None
       by (inl other) = refl
       by (inr faulty) = absurd (fault_refutes commands h (Fault faulty.0) faulty.1 tt accepted)
 
   faulty_some : (fault : VerifyFault) → IsFault commands h fault →
-      handler_refusal commands h ≡ Some (refused_handler h fault)
+      handler_refusal commands h ≡ Some (refused_command (rejection h fault))
   unfolding handler_refusal
   faulty_some fault is = by (accepted_or_faulty commands h)
     where
       by : (d : IsDecided commands h) →
-          option_map (refused_handler h) (fault_in commands h d) ≡ Some (refused_handler h fault)
+          option_map (λ fault. refused_command (rejection h fault)) (fault_in commands h d) ≡ Some (refused_command (rejection h fault))
       by (inl accepted) = absurd (fault_refutes commands h (Fault fault) is tt accepted)
       by (inr faulty) =
-          ap Some (same_refusal h faulty.0 fault (fault_unique commands h faulty.0 fault faulty.1 is))
+          ap (λ r. Some (refused_command r)) (same_rejection h faulty.0 fault (fault_unique commands h faulty.0 fault faulty.1 is))
 
   -- the callees are those at the called indexes
   declared_are : (callees : List Callee) → AreDeclared commands h callees →
@@ -98,15 +99,15 @@ module _ (commands : Commands) where
       (accepted_none commands v.handler first.accepted)
       ∙ none_refused vs (All-tail (IsVerified commands) v vs all)
 
-  first_refused : (hs : List HandlerData) (refusal : Refusal) → FirstIsRefused commands hs refusal →
-      first_refusal commands hs ≡ Some refusal
-  first_refused [] refusal is = absurd is
-  first_refused (h ∷ hs) refusal (inl refused) =
+  first_refused : (hs : List HandlerData) (r : Rejection) → FirstIsRejected commands hs r →
+      first_refusal commands hs ≡ Some (refused_command r)
+  first_refused [] r is = absurd is
+  first_refused (h ∷ hs) r (inl refused) =
       ap (λ o. option_or o (first_refusal commands hs)) (faulty_some commands h refused.0 refused.1)
-      ∙ ap Some (sym refused.2)
-  first_refused (h ∷ hs) refusal (inr later) =
+      ∙ ap (λ r. Some (refused_command r)) (sym refused.2)
+  first_refused (h ∷ hs) r (inr later) =
       ap (λ o. option_or o (first_refusal commands hs)) (accepted_none commands h later.0)
-      ∙ first_refused hs refusal later.1
+      ∙ first_refused hs r later.1
 
   -- all are verified
   pub checked_is : (hs : List HandlerData) (vs : List CheckedHandler) → AllVerified commands hs vs →
@@ -119,16 +120,16 @@ module _ (commands : Commands) where
       (ap (map (with_callees commands)) (sym all.same) ∙ sym (verified_are vs all.each))
 
   -- or one is refused
-  pub refused_is : (hs : List HandlerData) (refusal : Refusal) → FirstIsRefused commands hs refusal →
-      checked_by commands hs ≡ Err refusal
+  pub refused_is : (hs : List HandlerData) (r : Rejection) → FirstIsRejected commands hs r →
+      checked_by commands hs ≡ Err (refused_command r)
   unfolding checked_by
-  refused_is hs refusal first =
-      ap (λ o. checked_unless o commands hs) (first_refused hs refusal first)
+  refused_is hs r first =
+      ap (λ o. checked_unless o commands hs) (first_refused hs r first)
 
-  pub fails_is : (hs : List HandlerData) (failure : Failure Refusal) → Verifies commands hs (Err failure) →
-      Fails failure (checked_by commands hs)
+  pub fails_is : (hs : List HandlerData) (failure : Failure Rejection) → Verifies commands hs (Err failure) →
+      Fails (rejected_by failure) (checked_by commands hs)
   fails_is hs NoMemory is = tt
-  fails_is hs (Fault refusal) is = refused_is hs refusal is
+  fails_is hs (Fault r) is = refused_is hs r is
 
 pub ruleset verdict = (checked_is, fails_is)
 

@@ -6,6 +6,8 @@ use Rattle.std.specs.Option.{option_or, option_map_or}
 use mathlib.Core.Logic.{inl, inr}
 use Rattle.kb_base.specs.Reading.{◌>>=◌, unless}
 use Rattle.kb_base.specs.Refusal.{refused_for}
+use Rattle.kb_base.specs.declared.failure.Failure.{Failure}
+use Rattle.kb_base.specs.declared.failure.Failure.TheVariants.{Fault, NoMemory}
 use Rattle.kb_base.specs.declared.refusal.Refusal.{Refusal}
 use Rattle.kb_code.specs.Callees.{callees_of}
 use Rattle.kb_code.specs.Face.{same_face}
@@ -15,7 +17,8 @@ use Rattle.kb_files.specs.declared.extension_file.Extension.{Extension}
 use Rattle.kb_handler_table.specs.Codes.{CodesData, checked, raw}
 use Rattle.kb_handler_table.specs.Live.{group_of, handlers_of}
 use Rattle.kb_load_commands.specs.Callable.{callable_of}
-use Rattle.kb_load_commands.specs.Verified.{refused_handler}
+use Rattle.kb_load_commands.specs.Verified.{rejection}
+use Rattle.kb_load_commands.specs.declared.verifying.Rejection.{Rejection}
 use Rattle.kb_registry.specs.Live.{Live}
 use Rattle.kb_verify.proofs.Decides.{accepted_or_faulty}
 use Rattle.kb_verify.specs.Accepted.{CheckedHandler}
@@ -31,10 +34,15 @@ abbrev pub fault_in : (commands : Commands) (h : HandlerData) → IsDecided comm
 fault_in commands h (inl accepted) = None
 fault_in commands h (inr faulty) = Some faulty.0
 
+-- the refusal of a handler that isn't accepted: the number of its fault, and its command
+abbrev pub refused_command : Rejection → Refusal
+refused_command r = record { number = r.number; detail = Some r.command }
+
 -- the refusal of a handler with these callable commands, if it isn't accepted
 unfoldable pub handler_refusal : Commands → HandlerData → Option Refusal
 handler_refusal commands h =
-    option_map (refused_handler h) (fault_in commands h (accepted_or_faulty commands h))
+    option_map (λ fault. refused_command (rejection h fault))
+    (fault_in commands h (accepted_or_faulty commands h))
 
 -- the refusal of the first handler that isn't accepted
 abbrev pub first_refusal : Commands → List HandlerData → Option Refusal
@@ -80,3 +88,10 @@ updated_code e es live bytes =
     handlers_in bytes
     >>= λ hs. unless (refused_for 95) (same_face (handlers_of e.number live.code) hs) hs
     >>= λ hs. code_of e es live hs
+
+-- ---- for private functions
+
+-- the failure of an update, by that of its handlers
+abbrev pub rejected_by : Failure Rejection → Failure Refusal
+rejected_by NoMemory = NoMemory
+rejected_by (Fault r) = Fault (refused_command r)

@@ -9,7 +9,7 @@ use kb_base::{Failure, Refusal, Seq};
 use kb_code::{Handler, same_face};
 use kb_files::{Extension, read_handlers};
 use kb_handler_table::Codes;
-use kb_load_commands::{callable_of, verify_all};
+use kb_load_commands::{Rejection, callable_of, verify_all};
 use kb_registry::{HostCommand, Registry, RegistryFault};
 use kb_verify::Callable;
 use std::alloc::Global;
@@ -20,7 +20,7 @@ use std::alloc::Global;
 ///
 /// Errors: the first fault of the file (1 to 4, 40 to 44, 50 to 52); then 95 if the handlers aren't of the same
 /// commands as before, with the same parameters, budgets and depths; then the first handler that isn't accepted
-/// (60 to 69, with its command and place); or `NoMemory`.
+/// (60 to 69, with its command); or `NoMemory`.
 pub fn updated_code<C: HostCommand>(
     alloc: Global,
     extension: &Extension,
@@ -75,7 +75,25 @@ fn checked_by(
 {
     match verify_all(alloc, handlers, callable) {
         Ok(verified) => Ok(Codes::checked(verified)),
-        Err(failure) => Err(failure),
+        Err(failure) => Err(rejected_by(failure)),
+    }
+}
+
+/// The failure of an update, by that of its handlers.
+fn rejected_by(failure: Failure<Rejection>) -> Failure<Refusal>
+    ensures { result ≡ updating.rejected_by failure }
+{
+    match failure {
+        Failure::NoMemory => Failure::NoMemory,
+        Failure::Fault(rejection) => {
+            let Rejection {
+                command, number, ..
+            } = rejection;
+            Failure::Fault(Refusal {
+                number,
+                detail: Some(command),
+            })
+        }
     }
 }
 

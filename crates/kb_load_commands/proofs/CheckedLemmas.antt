@@ -3,15 +3,13 @@ use Rattle.std.proofs.Common.{◌≡◌, List, [], ◌∷◌, ℕ, ◌+◌, refl
 use Rattle.std.specs.Prelude.{Result, Ok, Err}
 use Rattle.kb_files.specs.declared.fault.LoadFault.{LoadFault}
 use Rattle.kb_code.specs.Handler.{HandlerData}
-use Rattle.kb_files.specs.Fault.{failure_of}
-use Rattle.kb_files.specs.declared.fault.LoadFile.TheVariants as file
 use Rattle.kb_base.specs.declared.failure.Failure.{Failure}
 use Rattle.kb_base.specs.declared.failure.Failure.TheVariants.{NoMemory, Fault}
-use Rattle.kb_base.specs.declared.refusal.Refusal.{Refusal}
 use Rattle.kb_files.specs.declared.extension_file.Extension.{Extension}
 use Rattle.kb_load_commands.specs.Callable.{callable_of}
-use Rattle.kb_load_commands.specs.Checked.{JoinAll, Joins, IsAdmitted, IsCode}
-use Rattle.kb_load_commands.specs.Verified.{FirstIsRefused, Verifies}
+use Rattle.kb_load_commands.specs.Checked.{JoinAll, Joins, IsAdmitted, IsCode, IsRejectionAt}
+use Rattle.kb_load_commands.specs.declared.verifying.Rejection.{Rejection}
+use Rattle.kb_load_commands.specs.Verified.{FirstIsRejected, Verifies}
 use Rattle.kb_verify.specs.Callable.{Commands}
 use Rattle.kb_registry.specs.CodeFault.{code_fault}
 use Rattle.kb_registry.specs.Live.{Live, with_code}
@@ -76,14 +74,13 @@ no_code_joins extensions number handlers live (Fault fault) refused = inl refuse
 
 -- handlers that aren't accepted have no code
 pub refused_code : (extensions : List Extension) (number : ℕ) (handlers : List HandlerData) (live : Live)
-    (commands : Commands) (failure : Failure Refusal) (said : Failure LoadFault)
+    (commands : Commands) (failure : Failure Rejection) (said : Failure LoadFault)
     → commands ≡ callable_of extensions number handlers live → Verifies commands handlers (Err failure)
-    → said ≡ failure_of (file.Handlers number) failure → IsCode extensions number handlers live (Err said)
-refused_code extensions number handlers live commands NoMemory said is fails tells =
-    subst (λ (f : Failure LoadFault). IsCode extensions number handlers live (Err f)) (sym tells) tt
-refused_code extensions number handlers live commands (Fault refusal) said is fails tells =
-    subst (λ (f : Failure LoadFault). IsCode extensions number handlers live (Err f)) (sym tells) (record {
-      refusal = refusal;
-      first = subst (λ commands. FirstIsRefused commands handlers refusal) is fails;
-      is = refl;
-    })
+    → IsRejectionAt number failure said → IsCode extensions number handlers live (Err said)
+refused_code extensions number handlers live commands failure NoMemory is fails tells = tt
+refused_code extensions number handlers live commands NoMemory (Fault fault) is fails tells = absurd tells
+refused_code extensions number handlers live commands (Fault r) (Fault fault) is fails tells = record {
+  rejection = r;
+  first = subst (λ commands. FirstIsRejected commands handlers r) is fails;
+  is = tells;
+}

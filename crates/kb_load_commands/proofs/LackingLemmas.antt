@@ -17,7 +17,7 @@ use Rattle.kb_handler_table.specs.declared.fault.CodesFault.TheVariants as codes
 use Rattle.kb_handler_table.proofs.Apart.{put_stays}
 use Rattle.kb_base.specs.Refusal.{numbered}
 use Rattle.kb_base.specs.declared.failure.Failure.TheVariants.{Fault}
-use Rattle.kb_base.specs.declared.refusal.Refusal.{Refusal}
+use Rattle.kb_load_commands.specs.declared.verifying.Rejection.{Rejection}
 use Rattle.kb_core.specs.declared.native.Native.{Native}
 use Rattle.kb_files.specs.declared.extension_file.Extension.{Extension}
 use Rattle.kb_registry.specs.CodeFault.{callee_fault}
@@ -38,7 +38,7 @@ use Rattle.kb_load_commands.specs.Checked.{Admits, Bars, JoinAll, Joins, Refuses
 use Rattle.kb_load_commands.specs.Lacking.{NeverLacksCallees}
 use Rattle.kb_load_commands.proofs.NativesLemmas.{held_alone}
 use Rattle.kb_load_commands.specs.Natives.{natives_held}
-use Rattle.kb_load_commands.specs.Verified.{FirstIsRefused, IsVerified}
+use Rattle.kb_load_commands.specs.Verified.{FirstIsRejected, IsVerified}
 use Rattle.kb_load_commands.proofs.BackedLemmas.{lacks_nothing}
 use Rattle.kb_load_commands.proofs.FoundLemmas.{AreFound, found_with_code}
 
@@ -100,18 +100,18 @@ verify_number (Wrong defect.TooHigh place) e = omega (arith, e)
 verify_number (OverBudget path) e = omega (arith, e)
 verify_number (OverDepth place) e = omega (arith, e)
 
-refused_number : (commands : Commands) (hs : List HandlerData) (refusal : Refusal)
-    → FirstIsRefused commands hs refusal → refusal.number ≡ 74 → ⊥
-refused_number commands [] refusal first number = first
-refused_number commands (h ∷ hs) refusal first number = ⊎_elim
-    (λ is. verify_number is.0 (sym (ap (λ (r : Refusal). r.number) is.2) ∙ number))
-    (λ later. refused_number commands hs refusal later.1 number) first
+refused_number : (commands : Commands) (hs : List HandlerData) (r : Rejection)
+    → FirstIsRejected commands hs r → r.number ≡ 74 → ⊥
+refused_number commands [] r first number = first
+refused_number commands (h ∷ hs) r first number = ⊎_elim
+    (λ is. verify_number is.0 (sym (ap (λ (r : Rejection). r.number) is.2) ∙ number))
+    (λ later. refused_number commands hs r later.1 number) first
 
 module _ (extensions : List Extension) (extension : ℕ) (handlers : List HandlerData) (live : Live) where
   refuses_number : (fault : LoadFault) → Refuses extensions extension handlers live fault
       → fault.refusal.number ≡ 74 → ⊥
   refuses_number fault refuses number =
-      refused_number (callable_of extensions extension handlers live) handlers refuses.refusal refuses.first
+      refused_number (callable_of extensions extension handlers live) handlers refuses.rejection refuses.first
       (sym (ap (λ (f : LoadFault). f.refusal.number) refuses.is) ∙ number)
 
   bars_number : (fault : LoadFault) → AreFound live → Bars extensions extension handlers live fault

@@ -3,7 +3,7 @@ use Rattle.std.proofs.Common.{◌≡◌, ◌∙◌, List, [], ◌∷◌, ◌++�
 use Rattle.std.specs.List.{All}
 use Rattle.std.proofs.lemmas.List.Elements.{All-push}
 use Rattle.kb_code.specs.Handler.{HandlerData}
-use Rattle.kb_base.specs.declared.refusal.Refusal.{Refusal}
+use Rattle.kb_load_commands.specs.declared.verifying.Rejection.{Rejection}
 use Rattle.kb_base.specs.declared.failure.Failure.{Failure}
 use Rattle.kb_base.specs.declared.failure.Failure.TheVariants.{NoMemory, Fault}
 use Rattle.std.specs.Prelude.{Err}
@@ -11,11 +11,11 @@ use Rattle.kb_verify.specs.Accepted.{CheckedHandler, IsAccepted}
 use Rattle.kb_verify.specs.Callable.{Commands}
 use Rattle.kb_verify.specs.Faults.{IsFailure}
 use Rattle.kb_verify.specs.declared.fault.VerifyFault.{VerifyFault}
-use Rattle.kb_load_commands.specs.Verified.{AllVerified, FirstIsRefused, IsFailureOf, IsVerified, Verifies}
+use Rattle.kb_load_commands.specs.Verified.{AllVerified, FirstIsRejected, IsFailureOf, IsVerified, Verifies}
 
 module _ (commands : Commands) where
   abbrev HandsOn : List HandlerData → List HandlerData → Type 0
-  HandsOn left all = (refusal : Refusal) → FirstIsRefused commands left refusal → FirstIsRefused commands all refusal
+  HandsOn left all = (r : Rejection) → FirstIsRejected commands left r → FirstIsRejected commands all r
 
   -- one more handler is verified
   pub verified_more : (vs more : List CheckedHandler) (v : CheckedHandler) → All (IsVerified commands) vs
@@ -35,11 +35,11 @@ module _ (commands : Commands) where
       apart [] = refl
       apart (x ∷ vs) = ap (λ hs. x.handler ∷ hs) (apart vs)
 
-  -- the first refusal among the handlers after an accepted one is the first of all
+  -- the first rejection among the handlers after an accepted one is the first of all
   pub hands_on : (h : HandlerData) (left rest all : List HandlerData) → HandsOn left all → left ≡ h ∷ rest
       → IsAccepted commands h → HandsOn rest all
-  hands_on h left rest all on is accepted refusal first =
-      on refusal (subst (λ hs. FirstIsRefused commands hs refusal) (sym is) (inr (accepted, first)))
+  hands_on h left rest all on is accepted r first =
+      on r (subst (λ hs. FirstIsRejected commands hs r) (sym is) (inr (accepted, first)))
 
   -- all are verified
   pub all_verified : (vs : List CheckedHandler) (left all : List HandlerData)
@@ -53,11 +53,11 @@ module _ (commands : Commands) where
 
   -- or one is refused
   pub one_fails : (h : HandlerData) (left rest all : List HandlerData) (failure : Failure VerifyFault)
-      (said : Failure Refusal) → HandsOn left all → left ≡ h ∷ rest → IsFailure commands h failure
+      (said : Failure Rejection) → HandsOn left all → left ≡ h ∷ rest → IsFailure commands h failure
       → IsFailureOf h failure said → Verifies commands all (Err said)
   one_fails h left rest all failure NoMemory on is fails tells = tt
-  one_fails h left rest all NoMemory (Fault refusal) on is fails tells = absurd tells
-  one_fails h left rest all (Fault fault) (Fault refusal) on is fails tells =
-      on refusal (subst (λ hs. FirstIsRefused commands hs refusal) (sym is) (inl (fault, fails, tells)))
+  one_fails h left rest all NoMemory (Fault r) on is fails tells = absurd tells
+  one_fails h left rest all (Fault fault) (Fault r) on is fails tells =
+      on r (subst (λ hs. FirstIsRejected commands hs r) (sym is) (inl (fault, fails, tells)))
 
 pub ruleset verifying = (verified_more, handlers_more, hands_on, all_verified, one_fails)

@@ -1,5 +1,5 @@
 -- The live commands of a new session whose handlers are verified.
-use Rattle.std.specs.Prelude.{◌≡◌, ◌⊎◌, ℕ, ◌+◌, List, [], ◌∷◌, Some, None, Result, Ok, Err}
+use Rattle.std.specs.Prelude.{◌≡◌, ◌⊎◌, ℕ, ◌+◌, List, [], ◌∷◌, ◌++◌, Some, None, Result, Ok, Err, codes, decimal}
 use Rattle.kb_files.specs.Fault.{refused_file}
 use Rattle.kb_files.specs.declared.fault.LoadFault.{LoadFault}
 use Rattle.kb_files.specs.declared.fault.LoadFile.TheVariants as file
@@ -15,9 +15,10 @@ use Rattle.kb_registry.specs.CodeFault.{code_fault}
 use Rattle.kb_registry.specs.Live.{Live, with_code}
 use Rattle.kb_registry.specs.declared.fault.RegistryFault.{RegistryFault}
 use Rattle.kb_verify.specs.Accepted.{CheckedHandler}
+use Rattle.kb_load_commands.specs.declared.verifying.Rejection.{Rejection}
 use Rattle.kb_load_commands.specs.Callable.{callable_of}
 use Rattle.kb_load_commands.specs.Natives.{natives_held, refused_commands}
-use Rattle.kb_load_commands.specs.Verified.{AllVerified, FirstIsRefused}
+use Rattle.kb_load_commands.specs.Verified.{AllVerified, FirstIsRejected}
 
 -- the handlers of an extension are verified against the commands that they may call
 abbrev pub AreVerified : List Extension → ℕ → List HandlerData → Live → List CheckedHandler → Type 0
@@ -32,12 +33,16 @@ pub record Admits (extensions : List Extension) (number : ℕ) (handlers : List 
   pub free : code_fault (checked verified) live ≡ None
   pub then : next ≡ with_code number (checked verified) live
 
+-- the refusal of a handler that isn't accepted: the number of its fault, its command, and the place
+abbrev pub refused_handler : Rejection → Refusal
+refused_handler r = record { number = r.number; detail = Some (r.command ++ (codes " " ++ decimal r.place)) }
+
 -- a handler isn't accepted
 pub record Refuses (extensions : List Extension) (number : ℕ) (handlers : List HandlerData) (live : Live)
     (fault : LoadFault) : Type 0 where
-  pub refusal : Refusal
-  pub first : FirstIsRefused (callable_of extensions number handlers live) handlers refusal
-  pub is : fault ≡ refused_file (file.Handlers number) refusal
+  pub rejection : Rejection
+  pub first : FirstIsRejected (callable_of extensions number handlers live) handlers rejection
+  pub is : fault ≡ refused_file (file.Handlers number) (refused_handler rejection)
 
 -- the handlers are verified, and the registry refuses them
 pub record Bars (extensions : List Extension) (number : ℕ) (handlers : List HandlerData) (live : Live)
@@ -112,3 +117,9 @@ IsAdmitted number codes live (Err NoMemory) = Unit {0}
 IsAdmitted number codes live (Err (Fault fault)) =
     (why : RegistryFault) × (code_fault codes live ≡ Some why)
     × (fault ≡ refused_commands (file.Handlers number) why)
+
+-- the failure of a load, by that of an extension's handlers; memory may be refused for the detail
+abbrev pub IsRejectionAt : ℕ → Failure Rejection → Failure LoadFault → Type 0
+IsRejectionAt number failure NoMemory = Unit {0}
+IsRejectionAt number NoMemory (Fault fault) = ⊥
+IsRejectionAt number (Fault r) (Fault fault) = fault ≡ refused_file (file.Handlers number) (refused_handler r)

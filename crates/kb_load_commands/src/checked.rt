@@ -1,16 +1,15 @@
 //! The live commands of a new session whose handlers are verified.
-ghost use Rattle.std.specs.Prelude.{◌≡◌, ◌≤◌, ℕ, [], None, length, map};
-ghost use Rattle.kb_files.specs.Fault.{failure_of};
-ghost use Rattle.kb_files.specs.declared.fault.LoadFile.TheVariants as LoadFile;
+ghost use Rattle.std.specs.Prelude.{◌≡◌, ◌≤◌, ℕ, [], None, IfOk, length, map};
 ghost use Rattle.kb_handler_table.specs.Live.{group_of};
-ghost use Rattle.kb_load_commands.specs.Checked.{IsAdmitted, IsCode, JoinAll, Joins, LiveChecked};
+ghost use Rattle.kb_load_commands.specs.Checked.{IsAdmitted, IsCode, IsRejectionAt, JoinAll, Joins, LiveChecked};
+ghost use Rattle.kb_load_commands.specs.Checked.{refused_handler};
 
 use crate::callable::callable_of;
 use crate::natives::{load_failure, register_all};
-use crate::verifying::verify_all;
-use kb_base::{Failure, Refusal, Seq};
+use crate::verifying::{Rejection, verify_all};
+use kb_base::{Failure, NoMemory, Refusal, Seq, Text};
 use kb_code::Handler;
-use kb_files::{Extension, LoadFault, LoadFile, failure_of};
+use kb_files::{Extension, LoadFault, LoadFile};
 use kb_handler_table::Codes;
 use kb_registry::{HostCommand, Registry};
 use std::alloc::Global;
@@ -97,7 +96,7 @@ fn checked_codes<C: HostCommand>(
     let callable = callable_of(alloc, registry, extensions, number, handlers.as_slice())?;
     match verify_all(alloc, handlers, &callable) {
         Ok(verified) => Ok(Codes::checked(verified)),
-        Err(failure) => Err(failure_at(number, failure)),
+        Err(failure) => Err(failure_at(alloc, number, failure)),
     }
 }
 
@@ -117,9 +116,31 @@ fn admit<C: HostCommand>(
     }
 }
 
-/// The fault of a load with a refused file of handlers.
-fn failure_at(number: u32, failure: Failure<Refusal>) -> Failure<LoadFault>
-    ensures { result ≡ failure_of (LoadFile.Handlers number) failure }
+/// The failure of a load whose handlers, of this extension, weren't all accepted.
+fn failure_at(alloc: Global, number: u32, failure: Failure<Rejection>) -> Failure<LoadFault>
+    ensures { IsRejectionAt number failure result }
 {
-    failure_of(LoadFile::Handlers(number as usize), failure)
+    match failure {
+        Failure::NoMemory => Failure::NoMemory,
+        Failure::Fault(rejection) => match refused_handler(alloc, &rejection) {
+            Ok(refusal) => Failure::Fault(LoadFault {
+                file: LoadFile::Handlers(number as usize),
+                refusal,
+            }),
+            Err(_) => Failure::NoMemory,
+        },
+    }
+}
+
+/// The refusal of a handler that isn't accepted, with its command and place.
+fn refused_handler(alloc: Global, rejection: &Rejection) -> Result<Refusal, NoMemory>
+    ensures { IfOk result (λ refusal. refusal ≡ refused_handler rejection.now) }
+{
+    let command = rejection.command.as_str();
+    let place = rejection.place;
+    let detail = format!(in alloc; "{command} {place}")?;
+    Ok(Refusal {
+        number: rejection.number,
+        detail: Some(Text::from_string(detail)),
+    })
 }

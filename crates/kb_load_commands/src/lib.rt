@@ -12,4 +12,4 @@ pub mod verifying;
 pub use callable::callable_of;
 pub use checked::checked_commands;
 pub use raw::raw_commands;
-pub use verifying::verify_all;
+pub use verifying::{Rejection, verify_all};

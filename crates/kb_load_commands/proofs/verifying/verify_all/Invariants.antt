@@ -1,14 +1,14 @@
 use Rattle.std.proofs.Common.{◌≡◌, ◌++◌, map}
 use Rattle.std.specs.List.{All}
 use Rattle.std.specs.Vec.Iter.{into_iter_items}
-use Rattle.kb_base.specs.declared.refusal.Refusal.{Refusal}
-use Rattle.kb_load_commands.specs.Verified.{FirstIsRefused, IsVerified}
+use Rattle.kb_load_commands.specs.declared.verifying.Rejection.{Rejection}
+use Rattle.kb_load_commands.specs.Verified.{FirstIsRejected, IsVerified}
 use Rattle.kb_load_commands.proofs.verifying.verify_all.Given as goal
 
--- the handlers so far are verified, and the first refusal among the remaining ones is the first of all
+-- the handlers so far are verified, and the first rejection among the remaining ones is the first of all
 abbrev pub invariant-loop-handler : goal.invariant-loop-handler
 invariant-loop-handler l =
     (map (λ v. v.handler) l.verified ++ into_iter_items l.handler-iterator ≡ l.fn.handlers)
     × All (IsVerified l.callable) l.verified
-    × ((refusal : Refusal) → FirstIsRefused l.callable (into_iter_items l.handler-iterator) refusal
-    → FirstIsRefused l.callable l.fn.handlers refusal)
+    × ((r : Rejection) → FirstIsRejected l.callable (into_iter_items l.handler-iterator) r
+    → FirstIsRejected l.callable l.fn.handlers r)
