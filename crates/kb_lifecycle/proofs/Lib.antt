@@ -1,1 +1,3 @@
 pub mod UpdatingLemmas
+pub mod Closures
+pub mod Places

@@ -1,0 +1,13 @@
+//! Theorems about extensions that are enabled, disabled and updated. The functions have no effect; their
+//! contracts are the theorems.
+ghost use Rattle.kb_lifecycle.specs.Stays.{DisposedStaysSettled, RegisteredStaysSettled};
+
+/// After a closure is registered, no live handler traps, and the session stays settled.
+pub fn registered_stays_settled()
+    ensures { RegisteredStaysSettled }
+{}
+
+/// After a registration is ended that isn't refused, no live handler traps, and the session stays settled.
+pub fn disposed_stays_settled()
+    ensures { DisposedStaysSettled }
+{}
