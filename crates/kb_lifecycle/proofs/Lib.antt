@@ -1,3 +1,4 @@
 pub mod UpdatingLemmas
 pub mod Closures
 pub mod Places
+pub mod Settles
