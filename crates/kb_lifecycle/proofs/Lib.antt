@@ -2,3 +2,4 @@ pub mod UpdatingLemmas
 pub mod Closures
 pub mod Places
 pub mod Settles
+pub mod Switches

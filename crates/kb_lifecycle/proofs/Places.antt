@@ -45,6 +45,13 @@ module _ {X : Type 0} where
       let same : y ≡ x = cc in ap p (sym same) ∙ (head_fails p y xs none).0
   none_passes p (y ∷ xs) (suc k) x none at = none_passes p xs k x (head_fails p y xs none).1 at
 
+  -- no element passes a test that each one fails
+  pub none_from : (p : X → Bool) (xs : List X) → ((k : ℕ) (x : X) → slice_get xs k ≡ Some x → p x ≡ false) →
+      find p xs ≡ None
+  none_from p [] each = refl
+  none_from p (y ∷ xs) each =
+      ap (λ b. cond b (Some y) (find p xs)) (each 0 y refl) ∙ none_from p xs (λ k x at. each (suc k) x at)
+
   -- a property of all elements, by place
   pub all_at : (P : X → Type 0) (xs : List X) (k : ℕ) (x : X) → All P xs → slice_get xs k ≡ Some x → P x
   all_at P [] k x all at = absurd (cc)
@@ -83,15 +90,17 @@ switched_was zero on (y ∷ es) e (suc k) x at is = inr is
 switched_was (suc place) on (y ∷ es) e zero x at is = inr is
 switched_was (suc place) on (y ∷ es) e (suc k) x at is = switched_was place on es e k x at is
 
--- each extension stays at its place, with its manifest
+-- each extension stays at its place, with its identifier and dependencies
 pub switched_stays : (place : ℕ) (on : Bool) (es : List Extension) (k : ℕ) (x : Extension) →
     slice_get es k ≡ Some x →
-    (y : Extension) × (slice_get (switched_at place on es) k ≡ Some y) × (y.manifest ≡ x.manifest)
+    (y : Extension) × (slice_get (switched_at place on es) k ≡ Some y) × (y.manifest.id ≡ x.manifest.id)
+    × (y.manifest.dependencies ≡ x.manifest.dependencies)
 switched_stays place on [] k x at = absurd (cc)
 switched_stays zero on (y ∷ es) zero x at =
-    let same : y ≡ x = cc in (turned on y, refl, ap (λ (e : Extension). e.manifest) same)
-switched_stays zero on (y ∷ es) (suc k) x at = (x, at, refl)
-switched_stays (suc place) on (y ∷ es) zero x at = (x, at, refl)
+    let same : y ≡ x = cc in
+    (turned on y, refl, ap (λ (e : Extension). e.manifest.id) same, ap (λ (e : Extension). e.manifest.dependencies) same)
+switched_stays zero on (y ∷ es) (suc k) x at = (x, at, refl, refl)
+switched_stays (suc place) on (y ∷ es) zero x at = (x, at, refl, refl)
 switched_stays (suc place) on (y ∷ es) (suc k) x at = switched_stays place on es k x at
 
 pub switched_numbered : (number place : ℕ) (on : Bool) (es : List Extension) → AreNumbered number es →

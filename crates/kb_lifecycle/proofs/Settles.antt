@@ -47,7 +47,7 @@ enabled_by true same e is = refl
 enabled_by false same e is = absurd (cc)
 
 -- if none of these dependencies is missing, each is enabled
-dependency_enabled : (ids : List (List ℕ)) (es : List Extension) (place : ℕ) (d : Extension) →
+pub dependency_enabled : (ids : List (List ℕ)) (es : List Extension) (place : ℕ) (d : Extension) →
     missing_dependency ids es ≡ None → slice_get es place ≡ Some d → is_needed d.manifest.id ids ≡ true →
     d.enabled ≡ true
 dependency_enabled [] es place d none at is = absurd (cc)

@@ -1,6 +1,17 @@
 //! Theorems about extensions that are enabled, disabled and updated. The functions have no effect; their
 //! contracts are the theorems.
+ghost use Rattle.kb_lifecycle.specs.Stays.{DisabledStaysSettled, EnabledStaysSettled};
 ghost use Rattle.kb_lifecycle.specs.Stays.{DisposedStaysSettled, RegisteredStaysSettled};
+
+/// After an extension is enabled, no live handler traps, and the session stays settled.
+pub fn enabled_stays_settled()
+    ensures { EnabledStaysSettled }
+{}
+
+/// After an extension is disabled, no live handler traps, and the session stays settled.
+pub fn disabled_stays_settled()
+    ensures { DisabledStaysSettled }
+{}
 
 /// After a closure is registered, no live handler traps, and the session stays settled.
 pub fn registered_stays_settled()
