@@ -3,3 +3,5 @@ pub mod Closures
 pub mod Places
 pub mod Settles
 pub mod Switches
+pub mod Callables
+pub mod Verdicts
