@@ -5,3 +5,4 @@ pub mod Settles
 pub mod Switches
 pub mod Callables
 pub mod Verdicts
+pub mod Exchanges

@@ -1,6 +1,6 @@
 //! Theorems about extensions that are enabled, disabled and updated. The functions have no effect; their
 //! contracts are the theorems.
-ghost use Rattle.kb_lifecycle.specs.Stays.{DisabledStaysSettled, EnabledStaysSettled};
+ghost use Rattle.kb_lifecycle.specs.Stays.{DisabledStaysSettled, EnabledStaysSettled, UpdatedStaysSettled};
 ghost use Rattle.kb_lifecycle.specs.Stays.{DisposedStaysSettled, RegisteredStaysSettled};
 
 /// After an extension is enabled, no live handler traps, and the session stays settled.
@@ -11,6 +11,11 @@ pub fn enabled_stays_settled()
 /// After an extension is disabled, no live handler traps, and the session stays settled.
 pub fn disabled_stays_settled()
     ensures { DisabledStaysSettled }
+{}
+
+/// After an extension got other handlers, no live handler traps, and the session stays settled.
+pub fn updated_stays_settled()
+    ensures { UpdatedStaysSettled }
 {}
 
 /// After a closure is registered, no live handler traps, and the session stays settled.
