@@ -6,3 +6,4 @@ pub mod Switches
 pub mod Callables
 pub mod Verdicts
 pub mod Exchanges
+pub mod Loads

@@ -1,7 +1,13 @@
-//! Theorems about extensions that are enabled, disabled and updated. The functions have no effect; their
-//! contracts are the theorems.
+//! Theorems about extensions that are loaded, enabled, disabled and updated. The functions have no effect;
+//! their contracts are the theorems.
 ghost use Rattle.kb_lifecycle.specs.Stays.{DisabledStaysSettled, EnabledStaysSettled, UpdatedStaysSettled};
-ghost use Rattle.kb_lifecycle.specs.Stays.{DisposedStaysSettled, RegisteredStaysSettled};
+ghost use Rattle.kb_lifecycle.specs.Stays.{DisposedStaysSettled, LoadedIsSettled, RegisteredStaysSettled};
+
+/// After a load whose handlers are verified, with all extensions enabled, no live handler traps, and the session
+/// is settled.
+pub fn loaded_is_settled()
+    ensures { LoadedIsSettled }
+{}
 
 /// After an extension is enabled, no live handler traps, and the session stays settled.
 pub fn enabled_stays_settled()
