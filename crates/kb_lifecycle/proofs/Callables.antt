@@ -1,11 +1,11 @@
 -- Where the commands that an extension's handlers may call come from.
-use Rattle.std.proofs.Common.{◌≡◌, ◌∙◌, ◌⊎◌, inl, inr, ℕ, suc, ◌+◌, Bool, true, false, cond, List, [], ◌∷◌, ◌++◌, Option}
-use Rattle.std.proofs.Common.{Some, None, refl, sym, ap, subst, arith, find, is_some, bytes_eq, nat_eq}
+use Rattle.std.proofs.Common.{◌≡◌, ◌∙◌, ◌⊎◌, inl, inr, ℕ, suc, Bool, true, false, cond, List, [], ◌∷◌, ◌++◌, Option}
+use Rattle.std.proofs.Common.{Some, None, refl, sym, ap, subst, arith, is_some, bytes_eq, nat_eq}
 use Rattle.std.proofs.Common.{map as map_list, if◌then◌else◌}
-use Rattle.std.specs.Prelude.{slice_get, option_map, not, ◌&&◌}
+use Rattle.std.specs.Prelude.{slice_get, option_map, not}
 use Rattle.std.specs.FinMap as map
 use Rattle.std.specs.List.{All}
-use Rattle.std.specs.Option.{option_map_or, option_or}
+use Rattle.std.specs.Option.{option_map_or}
 use Rattle.std.specs.Ordering.{nat_cmp, eq_by_cmp}
 use Rattle.std.specs.Cmp.Lexicographic.{slice_cmp}
 use Rattle.std.specs.Cmp.Lexicographic.{nat_list_cmp_total}
@@ -20,7 +20,7 @@ use Rattle.kb_core.specs.Native.{declaration_of, name_of, named, natives}
 use Rattle.kb_core.specs.declared.native.Native.{Native}
 use Rattle.kb_core.specs.declared.native.Native.TheVariants as n
 use Rattle.kb_files.specs.declared.extension_file.Extension.{Extension}
-use Rattle.kb_handler_table.specs.Apart.{AreApart, IsApart}
+use Rattle.kb_handler_table.specs.Apart.{AreApart}
 use Rattle.kb_handler_table.specs.Codes.{CodesData}
 use Rattle.kb_handler_table.specs.Live.{Group, found_group, handlers_in, handlers_of}
 use Rattle.kb_handler_table.proofs.Apart.{by-head, past-head}

@@ -1,8 +1,6 @@
 -- Closures that come or go change no extension and no code.
-use Rattle.kb_registry.specs.Live.{disposed, registered}
 use Rattle.kb_soundness.proofs.Disposals.{disposed_stays_sound}
 use Rattle.kb_soundness.proofs.Stays.{registered_stays_sound}
-use Rattle.kb_lifecycle.specs.Settled.{IsSettled}
 use Rattle.kb_lifecycle.specs.Stays.{DisposedStaysSettled, RegisteredStaysSettled}
 
 pub registered_stays_settled : RegisteredStaysSettled

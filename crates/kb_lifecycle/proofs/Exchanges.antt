@@ -1,13 +1,11 @@
 -- Extensions that are updated keep a session settled.
-use Rattle.std.proofs.Common.{◌≡◌, ◌∙◌, ◌⊎◌, inl, inr, ⊎_elim, ℕ, ◌+◌, Bool, true, false, cond, List, [], ◌∷◌}
-use Rattle.std.proofs.Common.{Option, Some, None, refl, sym, ap, subst, arith, find, nat_eq, bytes_eq, is_some}
-use Rattle.std.specs.Prelude.{slice_get, option_map, option_and_then, Ok}
+use Rattle.std.proofs.Common.{◌≡◌, ◌∙◌, ◌⊎◌, inl, inr, ⊎_elim, ℕ, Bool, true, false, cond, List, [], ◌∷◌}
+use Rattle.std.proofs.Common.{Option, Some, None, refl, sym, ap, subst, arith, nat_eq, is_some}
+use Rattle.std.specs.Prelude.{slice_get, option_map, option_and_then}
 use Rattle.std.specs.FinMap as map
-use Rattle.std.specs.List.{All}
 use Rattle.std.specs.Option.{option_map_or}
 use Rattle.kb_code.specs.Face.{declared_among, same_face}
 use Rattle.kb_code.specs.Handler.{HandlerData, handler_named}
-use Rattle.kb_code.specs.Reachable.{Calls}
 use Rattle.kb_code.proofs.FaceLemmas.{same_face_declares_the_same}
 use Rattle.kb_core.specs.Declaration.{Declaration}
 use Rattle.kb_core.specs.Native.{named}
@@ -17,18 +15,17 @@ use Rattle.kb_handler_table.specs.Codes.{CodesData}
 use Rattle.kb_handler_table.specs.Live.{Group, exchanged, found_group, handlers_in, handlers_of}
 use Rattle.kb_handler_table.proofs.Apart.{exchange_declares, exchange_stays, face-parts, none-declared, undeclared}
 use Rattle.kb_load_commands.specs.Callable.{callable_of}
-use Rattle.kb_load_commands.specs.Verified.{IsVerified}
 use Rattle.kb_registry.specs.Live.{Live, is_live, with_exchanged}
 use Rattle.kb_soundness.specs.Stays.{AreFree}
 use Rattle.kb_verify.specs.Accepted.{IsAccepted}
-use Rattle.kb_verify.specs.Callable.{Commands, declaration_at}
+use Rattle.kb_verify.specs.Callable.{Commands}
 use Rattle.kb_lifecycle.specs.Settled.{AreMatched, IsBacked, IsNative, IsNear, IsSettled}
 use Rattle.kb_lifecycle.specs.Stays.{UpdatedStaysSettled}
 use Rattle.kb_lifecycle.specs.Updating.{is_verified}
 use Rattle.kb_lifecycle.proofs.Callables.{ComesFrom, apart_found, callable_comes, distinct_apart, none_of_group}
 use Rattle.kb_lifecycle.proofs.Places.{backed_at, backed_from, changed_was, group_at, its_group, its_verified}
 use Rattle.kb_lifecycle.proofs.Places.{number_at}
-use Rattle.kb_lifecycle.proofs.Settles.{CallsLive, IsBase, NativesLive, called, natives_live, settles}
+use Rattle.kb_lifecycle.proofs.Settles.{CallsLive, NativesLive, called, natives_live, settles}
 use Rattle.kb_lifecycle.proofs.Verdicts.{IsUpdate, update_is}
 
 -- ---- groups

@@ -1,7 +1,7 @@
 -- A loaded session is settled.
 use Rattle.std.proofs.Common.{◌≡◌, ◌∙◌, ◌⊎◌, inl, inr, ⊎_elim, ℕ, zero, suc, ◌+◌, ◌<◌, Bool, true, false, cond}
 use Rattle.std.proofs.Common.{List, [], ◌∷◌, ◌++◌, length, length-append, map, Option, Some, None, refl, sym, ap}
-use Rattle.std.proofs.Common.{subst, arith, find, nat_eq, nat_lt, if◌then◌else◌}
+use Rattle.std.proofs.Common.{subst, arith, nat_eq, nat_lt, if◌then◌else◌}
 use Rattle.std.specs.Prelude.{⊤, slice_get, option_map, Result, Ok, Err, IfOk, not, ◌&&◌}
 use Rattle.std.specs.List.{All}
 use Rattle.std.specs.Option.{option_map_or, option_or}
@@ -12,17 +12,16 @@ use Rattle.std.proofs.lemmas.List.Elements.{All-head, All-tail}
 use Rattle.std.proofs.lemmas.List.Folds.{find-append}
 use Rattle.kb_base.specs.Refusal.{numbered}
 use Rattle.kb_code.specs.Face.{declared_among}
-use Rattle.kb_code.specs.Handler.{HandlerData, handler_named}
+use Rattle.kb_code.specs.Handler.{HandlerData}
 use Rattle.kb_core.specs.Declaration.{Declaration}
 use Rattle.kb_core.specs.declared.native.Native.{Native}
 use Rattle.kb_files.specs.Fault.{refused_by}
 use Rattle.kb_files.specs.declared.extension_file.Extension.{Extension}
-use Rattle.kb_files.specs.declared.fault.LoadFault.{LoadFault}
 use Rattle.kb_files.specs.declared.fault.LoadFile.TheVariants as file
 use Rattle.kb_handler_table.specs.Codes.{CodesData, checked}
 use Rattle.kb_handler_table.specs.Live.{Group, found_group, handlers_in, handlers_of, has_taken, live_group}
 use Rattle.kb_handler_table.specs.Live.{with_codes}
-use Rattle.kb_load_commands.specs.Checked.{Admits, JoinAll, LiveChecked}
+use Rattle.kb_load_commands.specs.Checked.{Admits, JoinAll}
 use Rattle.kb_load_commands.specs.Natives.{natives_held}
 use Rattle.kb_load_commands.specs.Verified.{IsVerified}
 use Rattle.kb_load_commands.proofs.FoundLemmas.{found_among}
@@ -39,9 +38,8 @@ use Rattle.kb_soundness.proofs.Joins.{code_stays_sound}
 use Rattle.kb_soundness.proofs.Stays.{fresh_is_sound, registered_stays_sound}
 use Rattle.kb_verify.specs.Accepted.{CheckedHandler, EachChecked}
 use Rattle.kb_verify.specs.Callable.{Commands}
-use Rattle.kb_lifecycle.specs.Dependencies.{disabled_of, is_disabled, missing_dependency}
+use Rattle.kb_lifecycle.specs.Dependencies.{is_disabled, missing_dependency}
 use Rattle.kb_lifecycle.specs.Settled.{AreBacked, AreMatched, AreNumbered, IsBacked, IsClosed, IsNative, IsNear}
-use Rattle.kb_lifecycle.specs.Settled.{IsSettled}
 use Rattle.kb_lifecycle.specs.Stays.{LoadedIsSettled}
 use Rattle.kb_lifecycle.proofs.Callables.{ComesFrom, callable_comes}
 use Rattle.kb_lifecycle.proofs.Places.{all_at, all_from, equal_number, none_from}

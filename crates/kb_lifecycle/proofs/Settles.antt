@@ -1,12 +1,11 @@
 -- Live handlers are verified if their code is backed, and the native commands that they call are live.
-use Rattle.std.proofs.Common.{◌≡◌, ◌∙◌, ◌⊎◌, inl, inr, ⊎_elim, ℕ, ◌+◌, Bool, true, false, cond, List, [], ◌∷◌}
-use Rattle.std.proofs.Common.{Option, Some, None, refl, sym, ap, subst, arith, bytes_eq, is_some, map as map_list}
-use Rattle.std.specs.Prelude.{slice_get, option_map, option_and_then, not, ◌&&◌, ◌||◌, if◌then◌else◌}
+use Rattle.std.proofs.Common.{◌≡◌, ◌∙◌, ◌⊎◌, inl, inr, ⊎_elim, ℕ, Bool, true, false, List, [], ◌∷◌}
+use Rattle.std.proofs.Common.{Option, Some, None, refl, sym, ap, subst, arith}
+use Rattle.std.specs.Prelude.{slice_get, option_map, option_and_then, not, ◌&&◌, if◌then◌else◌}
 use Rattle.std.specs.FinMap as map
 use Rattle.std.specs.List.{All}
-use Rattle.std.specs.Option.{option_map_or}
 use Rattle.std.specs.Str.{str_eq_ignore_ascii_case}
-use Rattle.kb_code.specs.Commands.{Coded, Plain, declared_by}
+use Rattle.kb_code.specs.Commands.{Plain, declared_by}
 use Rattle.kb_code.specs.Face.{declared_among}
 use Rattle.kb_code.specs.Handler.{HandlerData, handler_named}
 use Rattle.kb_code.specs.Reachable.{Calls}
@@ -15,23 +14,23 @@ use Rattle.kb_core.specs.Native.{named}
 use Rattle.kb_core.specs.declared.native.Native.{Native}
 use Rattle.kb_files.specs.declared.extension_file.Extension.{Extension}
 use Rattle.kb_handler_table.specs.Apart.{AreApart}
-use Rattle.kb_handler_table.specs.Codes.{CodesData, checked, checked_in}
-use Rattle.kb_handler_table.specs.Live.{Group, handlers_in, handlers_of, is_on, live_in}
+use Rattle.kb_handler_table.specs.Codes.{CodesData, checked_in}
+use Rattle.kb_handler_table.specs.Live.{Group, handlers_in, handlers_of, is_on}
 use Rattle.kb_handler_table.proofs.Apart.{live_found, live_whole}
 use Rattle.kb_registry.specs.Live.{Live, callee_by, is_live, table_of}
 use Rattle.kb_soundness.specs.Sound.{AllVerified, live_declaration_at}
 use Rattle.kb_soundness.specs.Sound as sound
-use Rattle.kb_soundness.specs.Stays.{AllChecked, AreFree, IsSound}
+use Rattle.kb_soundness.specs.Stays.{AllChecked, AreFree}
 use Rattle.kb_soundness.proofs.Loads.{both_none}
 use Rattle.kb_soundness.proofs.Stays.{coded_by, coded_live}
 use Rattle.kb_soundness.proofs.Tests.{or_elim}
 use Rattle.kb_verify.specs.Accepted.{IsAccepted, IsCallee}
 use Rattle.kb_verify.specs.Callable.{Commands, declaration_at}
 use Rattle.kb_verify.specs.Provider.{is_needed}
-use Rattle.kb_verify.proofs.Calls.{found_callee, none_undeclared}
+use Rattle.kb_verify.proofs.Calls.{none_undeclared}
 use Rattle.kb_lifecycle.specs.Dependencies.{disabled_of, is_disabled, missing_dependency}
 use Rattle.kb_lifecycle.specs.Settled.{AreBacked, AreMatched, AreNumbered, DependsOn, IsBacked, IsClosed, IsNative}
-use Rattle.kb_lifecycle.specs.Settled.{IsNear, IsSettled}
+use Rattle.kb_lifecycle.specs.Settled.{IsSettled}
 use Rattle.kb_lifecycle.proofs.Places.{all_at, backed_at, group_at, handlers_at, its_extension, its_verified}
 use Rattle.kb_lifecycle.proofs.Places.{live_owner, none_passes, on_is}
 

@@ -1,7 +1,7 @@
 -- Extensions that are enabled or disabled keep a session settled.
-use Rattle.std.proofs.Common.{◌≡◌, ◌∙◌, ◌⊎◌, inl, inr, ⊎_elim, ℕ, zero, suc, ◌+◌, Bool, true, false, cond, List}
+use Rattle.std.proofs.Common.{◌≡◌, ◌∙◌, inl, inr, ⊎_elim, ℕ, zero, suc, Bool, true, false, cond, List}
 use Rattle.std.proofs.Common.{[], ◌∷◌, Option, Some, None, refl, sym, ap, subst, arith, find, nat_eq, bytes_eq, map}
-use Rattle.std.specs.Prelude.{slice_get, option_map, option_and_then, not, ◌&&◌, ◌||◌, if◌then◌else◌}
+use Rattle.std.specs.Prelude.{slice_get, option_map, option_and_then, ◌&&◌, if◌then◌else◌}
 use Rattle.std.specs.List.{All}
 use Rattle.std.specs.Option.{option_map_or, option_or}
 use Rattle.std.specs.Str.{str_eq_ignore_ascii_case}
@@ -9,17 +9,14 @@ use Rattle.std.proofs.lemmas.Bool.{false≢true}
 use Rattle.std.proofs.lemmas.List.Elements.{All-head, All-tail}
 use Rattle.kb_code.specs.Face.{declared_among}
 use Rattle.kb_code.specs.Handler.{HandlerData, handler_named}
-use Rattle.kb_code.specs.Reachable.{Calls}
 use Rattle.kb_core.specs.Declaration.{Declaration}
-use Rattle.kb_core.specs.Native.{named}
-use Rattle.kb_core.specs.declared.native.Native.{Native}
 use Rattle.kb_files.specs.Enabled.{switched_at}
 use Rattle.kb_files.specs.declared.extension_file.Extension.{Extension}
-use Rattle.kb_handler_table.specs.Codes.{CodesData, checked}
+use Rattle.kb_handler_table.specs.Codes.{CodesData}
 use Rattle.kb_handler_table.specs.Live.{Group, found_group, handlers_of, switched}
 use Rattle.kb_handler_table.proofs.Apart.{switch_stays, switched_all}
 use Rattle.kb_load_commands.specs.Verified.{IsVerified}
-use Rattle.kb_registry.specs.Live.{Live, is_live, with_switched}
+use Rattle.kb_registry.specs.Live.{Live, with_switched}
 use Rattle.kb_registry.specs.Missing.{has_closure, missing_from, missing_in, missing_native, native_missing}
 use Rattle.kb_registry.specs.Missing.{native_there, unless_there}
 use Rattle.kb_soundness.proofs.Loads.{both_none}

@@ -1,9 +1,8 @@
 -- Code that an update gives is verified.
 use Rattle.std.proofs.Common.{◌≡◌, ◌∙◌, inl, inr, ℕ, Bool, true, false, List, [], ◌∷◌, ◌++◌, map, refl, sym, ap, subst}
 use Rattle.std.proofs.Common.{Option, Some, None, length}
-use Rattle.std.specs.Prelude.{⊤, option_map, option_to_list, Result, Ok, Err, is_some, if◌then◌else◌}
+use Rattle.std.specs.Prelude.{⊤, option_map, option_to_list, Result, Ok, Err, if◌then◌else◌}
 use Rattle.std.specs.List.{All, flat_map}
-use Rattle.std.specs.Option.{option_or, option_map_or}
 use Rattle.std.proofs.lemmas.List.Elements.{All-cons, All-nil}
 use Rattle.kb_base.specs.Reading.{◌>>=◌, unless}
 use Rattle.kb_base.specs.Refusal.{refused_for}
@@ -17,13 +16,13 @@ use Rattle.kb_core.specs.Declaration.{Declaration}
 use Rattle.kb_files.specs.HandlerFile.{handlers_in}
 use Rattle.kb_files.specs.declared.extension_file.Extension.{Extension}
 use Rattle.kb_handler_table.specs.Codes.{CodesData, checked}
-use Rattle.kb_handler_table.specs.Live.{group_of, handlers_of}
+use Rattle.kb_handler_table.specs.Live.{handlers_of}
 use Rattle.kb_load_commands.specs.Callable.{callable_of}
 use Rattle.kb_load_commands.specs.Verified.{IsVerified, refused_handler}
 use Rattle.kb_registry.specs.Live.{Live}
 use Rattle.kb_soundness.proofs.Loads.{both_none}
 use Rattle.kb_verify.proofs.Decides.{accepted_or_faulty}
-use Rattle.kb_verify.specs.Accepted.{AreCallees, AreDeclared, CheckedHandler, IsAccepted}
+use Rattle.kb_verify.specs.Accepted.{AreDeclared, CheckedHandler, IsAccepted}
 use Rattle.kb_verify.specs.Callable.{Commands, declaration_at}
 use Rattle.kb_verify.specs.Faults.{IsDecided}
 use Rattle.kb_verify.specs.declared.callees.Callee.{Callee}
