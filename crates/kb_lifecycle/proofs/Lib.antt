@@ -1,2 +1,10 @@
 pub mod UpdatingLemmas
 pub mod NamedLemmas
+pub mod Closures
+pub mod Places
+pub mod Settles
+pub mod Switches
+pub mod Callables
+pub mod Verdicts
+pub mod Exchanges
+pub mod Loads

@@ -1,7 +1,7 @@
 -- The verdict on handlers is the one that the definition gives.
-use Rattle.std.proofs.Common.{◌≡◌, ◌∙◌, ⊎_elim, inl, inr, ℕ, suc, Bool, true, false, List, [], ◌∷◌, ◌++◌, map, refl}
-use Rattle.std.proofs.Common.{sym, ap, subst, Option, Some, None, cond, arith}
-use Rattle.std.specs.Prelude.{option_map, option_to_list, Result, Ok, Err, if◌then◌else◌}
+use Rattle.std.proofs.Common.{◌≡◌, ◌∙◌, inl, inr, true, false, List, [], ◌∷◌, ◌++◌, map, refl}
+use Rattle.std.proofs.Common.{sym, ap, Option, Some, None}
+use Rattle.std.specs.Prelude.{option_map, option_to_list, Ok, Err, if◌then◌else◌}
 use Rattle.std.specs.List.{All, flat_map}
 use Rattle.std.specs.Option.{option_or}
 use Rattle.std.proofs.lemmas.List.Elements.{All-head, All-tail}
@@ -12,7 +12,7 @@ use Rattle.kb_base.specs.declared.refusal.Refusal.{Refusal}
 use Rattle.kb_code.specs.Handler.{HandlerData}
 use Rattle.kb_core.specs.Declaration.{Declaration}
 use Rattle.kb_files.specs.declared.extension_file.Extension.{Extension}
-use Rattle.kb_handler_table.specs.Codes.{CodesData, checked, raw}
+use Rattle.kb_handler_table.specs.Codes.{checked, raw}
 use Rattle.kb_load_commands.specs.Callable.{callable_of}
 use Rattle.kb_load_commands.specs.Verified.{AllVerified, FirstIsRejected, IsVerified, Verifies, rejection}
 use Rattle.kb_load_commands.specs.declared.verifying.Rejection.{Rejection}
@@ -20,7 +20,7 @@ use Rattle.kb_registry.specs.Live.{Live}
 use Rattle.kb_verify.proofs.Decides.{accepted_or_faulty}
 use Rattle.kb_verify.proofs.Refutes.{fault_refutes, fault_unique}
 use Rattle.kb_verify.specs.Accepted.{AreCallees, AreDeclared, CheckedHandler, IsAccepted}
-use Rattle.kb_verify.specs.Callable.{Commands, declaration_at}
+use Rattle.kb_verify.specs.Callable.{Commands}
 use Rattle.kb_verify.specs.Faults.{IsDecided, IsFault, IsSameFault}
 use Rattle.kb_verify.specs.declared.callees.Callee.{Callee}
 use Rattle.kb_verify.specs.declared.fault.VerifyFault.{VerifyFault}

@@ -1,13 +1,22 @@
--- Extensions that are enabled, disabled and updated keep a session settled.
-use Rattle.std.specs.Prelude.{◌≡◌, ℕ, true, false, List, Some, None, Ok, slice_get}
+-- A loaded session is settled. Extensions that are enabled, disabled and updated keep it settled.
+use Rattle.std.specs.Prelude.{◌≡◌, ℕ, true, false, List, length, Some, None, Ok, slice_get}
+use Rattle.std.specs.List.{All}
+use Rattle.kb_code.specs.Handler.{HandlerData}
 use Rattle.kb_core.specs.declared.native.Native.{Native}
 use Rattle.kb_files.specs.Enabled.{switched_at}
 use Rattle.kb_files.specs.declared.extension_file.Extension.{Extension}
 use Rattle.kb_handler_table.specs.Codes.{CodesData}
+use Rattle.kb_load_commands.specs.Checked.{LiveChecked}
 use Rattle.kb_registry.specs.Live.{Live, disposal_fault, disposed, registered, with_exchanged, with_switched}
-use Rattle.kb_lifecycle.specs.Settled.{IsSettled}
+use Rattle.kb_lifecycle.specs.Settled.{AreNumbered, IsSettled}
 use Rattle.kb_lifecycle.specs.Switching.{disable_refusal, enable_refusal}
 use Rattle.kb_lifecycle.specs.Updating.{updated_code}
+
+-- a load gives each extension its verified code, and enables all
+abbrev pub LoadedIsSettled : Type 0
+LoadedIsSettled = (natives : List Native) (es : List Extension) (handlers : List (List HandlerData)) (live : Live) →
+    LiveChecked natives es handlers (Ok live) → AreNumbered 0 es → All (λ e. e.enabled ≡ true) es →
+    length handlers ≡ length es → IsSettled es live
 
 -- an extension that may be enabled is, and its handlers become live
 abbrev pub EnabledStaysSettled : Type 0

@@ -1,5 +1,5 @@
 -- The code that an update gives an extension, or why the update is refused.
-use Rattle.std.specs.Prelude.{◌⊎◌, ℕ, Bool, true, List, [], ◌∷◌, map, Option, Some, None, option_map, is_some}
+use Rattle.std.specs.Prelude.{ℕ, Bool, true, List, [], ◌∷◌, map, Option, Some, None, option_map, is_some}
 use Rattle.std.specs.Prelude.{option_to_list, Result, Ok, Err, if◌then◌else◌}
 use Rattle.std.specs.List.{flat_map}
 use Rattle.std.specs.Option.{option_or, option_map_or}

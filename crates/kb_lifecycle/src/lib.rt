@@ -3,6 +3,7 @@
 #![tactic(auto)]
 
 pub mod dependencies;
+pub mod laws;
 pub mod switching;
 pub mod updating;
 

@@ -66,7 +66,10 @@ fn native_obstacle<C: HostCommand>(number: u32, registry: &Registry<C>) -> Optio
 
 /// The reason why one of the extensions can't be disabled, or `None` if it can be: 94 with the first enabled
 /// extension, in load order, that depends on it. What is disabled already can be disabled.
-pub fn disable_obstacle<'a>(extension: &Extension, extensions: &'a [Extension]) -> Option<Obstacle<'a>>
+pub fn disable_obstacle<'a>(
+    extension: &Extension,
+    extensions: &'a [Extension],
+) -> Option<Obstacle<'a>>
     ensures { option_map refusal_of result ≡ disable_refusal extension.now extensions.now }
 {
     if !extension.enabled {

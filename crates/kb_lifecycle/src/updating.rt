@@ -35,9 +35,7 @@ pub fn updated_code<C: HostCommand>(
 {
     let handlers = read_handlers(alloc, bytes)?;
     if !same_face(registry.handlers(extension.number), handlers.as_slice()) {
-        return Err(Failure::Fault(Refusal::of(
-            RegistryFault::SignatureChanged.number(),
-        )));
+        return Err(Failure::Fault(Refusal::of(RegistryFault::SignatureChanged.number())));
     }
     code_of(alloc, extension, extensions, registry, handlers)
 }

@@ -1,0 +1,35 @@
+//! Theorems about extensions that are loaded, enabled, disabled and updated. The functions have no effect;
+//! their contracts are the theorems.
+ghost use Rattle.kb_lifecycle.specs.Stays.{DisabledStaysSettled, EnabledStaysSettled, UpdatedStaysSettled};
+ghost use Rattle.kb_lifecycle.specs.Stays.{DisposedStaysSettled, LoadedIsSettled, RegisteredStaysSettled};
+
+/// After a load whose handlers are verified, with all extensions enabled, no live handler traps, and the session
+/// is settled.
+pub fn loaded_is_settled()
+    ensures { LoadedIsSettled }
+{}
+
+/// After an extension is enabled, no live handler traps, and the session stays settled.
+pub fn enabled_stays_settled()
+    ensures { EnabledStaysSettled }
+{}
+
+/// After an extension is disabled, no live handler traps, and the session stays settled.
+pub fn disabled_stays_settled()
+    ensures { DisabledStaysSettled }
+{}
+
+/// After an extension got other handlers, no live handler traps, and the session stays settled.
+pub fn updated_stays_settled()
+    ensures { UpdatedStaysSettled }
+{}
+
+/// After a closure is registered, no live handler traps, and the session stays settled.
+pub fn registered_stays_settled()
+    ensures { RegisteredStaysSettled }
+{}
+
+/// After a registration is ended that isn't refused, no live handler traps, and the session stays settled.
+pub fn disposed_stays_settled()
+    ensures { DisposedStaysSettled }
+{}
