@@ -37,7 +37,7 @@ use Rattle.kb_lifecycle.specs.Switching.{disable_refusal, enable_refusal}
 use Rattle.kb_lifecycle.proofs.Closures.{disposed_stays_settled, registered_stays_settled}
 use Rattle.kb_lifecycle.proofs.NamedLemmas.{named_there}
 use Rattle.kb_lifecycle.proofs.Switches.{disabled_stays_settled, enabled_stays_settled}
-use Rattle.kb_lifecycle.proofs.Updates.{updated_stays_settled}
+use Rattle.kb_lifecycle.proofs.Exchanges.{updated_stays_settled}
 use Rattle.kb_soundness.specs.Sound.{IsDone}
 use Rattle.kb_soundness.specs.Stays.{IsSound}
 use Rattle.kb_soundness.proofs.NeverStuck.{starts_never_stuck}
