@@ -9,36 +9,34 @@ use Rattle.kb_base.specs.declared.note.UnreadPattern.{UnreadPattern}
 use Rattle.kb_bindings.specs.Load.{Files, Held, held_by, sources_by}
 use Rattle.kb_bindings.specs.declared.load.Loaded.{Loaded}
 use Rattle.kb_core.specs.declared.native.Native.{Native}
-use Rattle.kb_files.specs.Extension.{extension_by}
 use Rattle.kb_files.specs.Extensions.{HeldExtension, extensions_by, handlers_of, outlines_of}
 use Rattle.kb_files.specs.declared.extension_file.Extension.{Extension}
 use Rattle.kb_files.specs.declared.fault.LoadFault.{LoadFault}
 use Rattle.kb_keys.specs.declared.platform.Platform.{Platform}
-use Rattle.kb_manifest.specs.Manifest.{Outline}
 use Rattle.kb_lifecycle.specs.Settled.{AreNumbered}
 use Rattle.kb_lifecycle.proofs.Loads.{loaded_is_settled}
-use Rattle.kb_session.specs.Session.{IsOf, Loads, Seen}
+use Rattle.kb_session.specs.Session.{IsOf, Loads, Seen, marks_by}
 use Rattle.kb_session.specs.State.{IsSafe}
 
 -- ---- the extensions of a load
 
 module _ (unread : List UnreadPattern) (platform : Platform) where
-  numbered : (number : ℕ) (outlines : List Outline)
-      → AreNumbered number (extensions_by unread platform number outlines)
+  abbrev read : ℕ → List HeldExtension → List Extension
+  read number held = extensions_by unread platform number (outlines_of held)
+
+  numbered : (number : ℕ) (held : List HeldExtension) → AreNumbered number (read number held)
   numbered number [] = tt
-  numbered number (o ∷ outlines) = (refl, numbered (number + 1) outlines)
+  numbered number (e ∷ held) = (refl, numbered (number + 1) held)
 
   abbrev IsOn : Extension → Type 0
   IsOn e = e.enabled ≡ true
 
-  enabled : (number : ℕ) (outlines : List Outline) → All IsOn (extensions_by unread platform number outlines)
+  enabled : (number : ℕ) (held : List HeldExtension) → All IsOn (read number held)
   enabled number [] = All-nil IsOn
-  enabled number (o ∷ outlines) =
-      All-cons IsOn (extension_by unread number platform o)
-      (extensions_by unread platform (number + 1) outlines) refl (enabled (number + 1) outlines)
+  enabled number (e ∷ held) = All-cons IsOn _ (read (number + 1) held) refl (enabled (number + 1) held)
 
   as_many : (number : ℕ) (held : List HeldExtension)
-      → length (handlers_of held) ≡ length (extensions_by unread platform number (outlines_of held))
+      → length (handlers_of held) ≡ length (read number held)
   as_many number [] = refl
   as_many number (e ∷ held) = ap suc (as_many (number + 1) held)
 
@@ -58,8 +56,8 @@ module _ (marks : List UnreadPattern) (platform : Platform) where
 
   fresh_made : (held : Held) → AreFresh (made held)
   fresh_made held = record {
-    numbers = numbered marks platform 0 (outlines_of held.rules.extensions);
-    all_on = enabled marks platform 0 (outlines_of held.rules.extensions);
+    numbers = numbered marks platform 0 held.rules.extensions;
+    all_on = enabled marks platform 0 held.rules.extensions;
     many = as_many marks platform 0 held.rules.extensions;
   }
 
@@ -73,7 +71,7 @@ pub loads_safe : (files : Files) (natives : List Native) (session : Seen) → Is
     → IsSafe session.state
 loads_safe files natives session is =
     let l = is.loaded in
-    let its = fresh _ files.platform (held_by files) l is.held in
+    let its = fresh (marks_by session) files.platform (held_by files) l is.held in
     subst (λ (s : Seen). IsSafe s.state) (sym is.is)
     (loaded_is_settled natives l.bindings.extensions l.handlers session.state.live is.live its.numbers its.all_on
     its.many)

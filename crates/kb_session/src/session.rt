@@ -42,8 +42,8 @@ mod extensions;
 
 /// A session of the engine, with the host's closures for native commands. Contracts see its state and
 /// its trace. The state consists of the core with its text and scopes, the sources of the key bindings with
-/// the extensions that are enabled, the commands that are live or not, the keystrokes of the open chord, whether the session is stopped, and the unread
-/// patterns of the load and of each reload.
+/// the extensions and which of them are enabled, the commands that are live or not, the keystrokes of the open
+/// chord, whether the session is stopped, and the unread patterns of the load and of each reload.
 ///
 /// Refused memory or a trap of a handler stops the session for good. Each later call returns `Stopped`.
 /// The trace then ends with the line of the trap, or with the last line before the call that was
@@ -101,7 +101,7 @@ impl<C: HostCommand> Session<C> {
     /// closures in order, with tickets from 1 on, and then the handlers of the extensions' handler
     /// files, in load order. Each handler is verified against the commands that its extension may call:
     /// the live native commands, the handlers of the extensions that it depends on, and its own
-    /// handlers. All extensions are enabled. A session allows at most 1,000,000 registrations of
+    /// handlers. All extensions are enabled at first. A session allows at most 1,000,000 registrations of
     /// closures. (The verification, the limit and the order of the errors are our decisions.)
     ///
     /// Errors: refused memory, or the first fault, with its file, in this order:

@@ -178,7 +178,13 @@ impl<C: HostCommand> Session<C> {
         let extensions = self.bindings.extensions();
         match extension_named(id, extensions) {
             Some(named) => {
-                updated_code(self.alloc, named.extension, extensions, &self.registry, bytes)
+                updated_code(
+                    self.alloc,
+                    named.extension,
+                    extensions,
+                    &self.registry,
+                    bytes,
+                )
             }
             None => Err(Failure::Fault(Refusal::of(92))),
         }
@@ -193,9 +199,7 @@ impl<C: HostCommand> Session<C> {
     {
         lines::updated_line(&mut self.trace, spelled_in(id, self.bindings.extensions()))?;
         match extension_named(id, self.bindings.extensions()) {
-            Some(named) => self
-                .registry
-                .exchange_code(named.extension.number, codes),
+            Some(named) => self.registry.exchange_code(named.extension.number, codes),
             None => Ok(()),
         }
     }
