@@ -197,7 +197,11 @@ impl Group {
     pub(crate) fn user_of(&self, own: &Group) -> Option<&Handler>
         ensures { option_copied result ≡ find (calls_one own.now.codes.handlers) (checked_live self.now) }
     {
-        if self.live { user_among(own, &self.codes) } else { None }
+        if self.live {
+            user_among(own, &self.codes)
+        } else {
+            None
+        }
     }
 
     /// The first live handler that calls the native command.

@@ -85,7 +85,9 @@ fn rejected_by(failure: Failure<Rejection>) -> Failure<Refusal>
         Failure::NoMemory => Failure::NoMemory,
         Failure::Fault(rejection) => {
             let Rejection {
-                command, number, ..
+                command,
+                number,
+                ..
             } = rejection;
             Failure::Fault(Refusal {
                 number,
