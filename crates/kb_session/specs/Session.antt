@@ -13,7 +13,7 @@ use Rattle.kb_bindings.specs.Load.{Files, held_by}
 use Rattle.kb_files.specs.Extensions.{handlers_of}
 use Rattle.kb_bindings.specs.Sources.{Sources}
 use Rattle.kb_session.specs.State.{State, Told, happens, Answered, did, refused, step, step_on, out_of, next}
-use Rattle.kb_session.specs.State.{loaded_state, named_in, switching, updated}
+use Rattle.kb_session.specs.State.{IsSafe, loaded_state, named_in, switching, updated}
 use Rattle.kb_code.specs.Face.{same_face}
 use Rattle.kb_handler_table.specs.Codes.{CodesData}
 use Rattle.kb_handler_table.specs.Live as table
@@ -144,6 +144,11 @@ is_left (told ∷ rest) s = s.stopped || is_left rest (next told s).state
 -- whether the session is stopped before the inputs or before the last of them
 abbrev pub is_late : List Told → State → Bool
 is_late told s = s.stopped || is_left told s
+
+-- a running session that is safe is stopped neither before the inputs nor before the last of them, so a run of
+-- them fails for refused memory alone
+abbrev pub RunsThrough : Type 0
+RunsThrough = (told : List Told) (s : State) → s.stopped ≡ false → IsSafe s → is_late told s ≡ false
 
 -- the fault of a run of events: memory was refused in one of them, or the session was stopped before
 -- the last one

@@ -1,4 +1,5 @@
 //! Theorems about sessions with verified handlers.
+ghost use Rattle.kb_session.specs.Session.{RunsThrough};
 ghost use Rattle.kb_session.specs.State.{RunsOn};
 
 /// If a session is safe, as one from `Session::load` is, then no input stops it while it runs, and it stays
@@ -6,4 +7,10 @@ ghost use Rattle.kb_session.specs.State.{RunsOn};
 /// only refused memory stops the session.
 pub fn runs_on_when_verified()
     ensures { RunsOn }
+{}
+
+/// If a session is safe and not stopped, a run of events never ends with `Stopped`: it handles all of them, or
+/// memory is refused.
+pub fn runs_through_when_verified()
+    ensures { RunsThrough }
 {}
