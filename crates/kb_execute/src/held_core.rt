@@ -1,8 +1,10 @@
 //! A core that commands change in place.
-ghost use Rattle.std.specs.Prelude.{◌≡◌, ◌≤◌, OnOk, OnErr, IfOk};
+ghost use Rattle.std.specs.Prelude.{◌≡◌, ◌≤◌, OnOk, OnErr, IfOk, IfSome};
+ghost use Rattle.kb_code.specs.Commands.{declared_by};
 ghost use Rattle.kb_core.specs.Core.{core_after};
 ghost use Rattle.kb_core.specs.Native.{Fits, budget_of};
 ghost use Rattle.kb_execute.specs.HeldCore.{outcome};
+ghost use Rattle.kb_soundness.specs.Sound as verified;
 ghost use Rattle.kb_vm.specs.Meaning.{start_of};
 ghost use Rattle.kb_vm.specs.Outcome.{Gives};
 
@@ -81,7 +83,8 @@ impl HeldCore {
         cost
     }
 
-    /// Runs a live command with arguments on this core, as `kb_soundness::start` does.
+    /// Runs a live command with arguments on this core, as `kb_soundness::start` does: it costs at most the
+    /// command's budget, and among verified handlers fitting arguments never end with a trap.
     pub fn start<'r, L: Commands>(
         &mut self,
         alloc: Global,
@@ -89,8 +92,12 @@ impl HeldCore {
         command: &'r str,
         args: Args,
     ) -> Ended<'r>
-        ensures { Gives (start_of (L.live commands.now) command.now args self.old) self.old
+        ensures answer { Gives (start_of (L.live commands.now) command.now args self.old) self.old
             (outcome self.new result) }
+        ensures bound { IfSome (L.live commands.now command.now)
+            (λ callee. result.spent ≤ (declared_by callee).budget) }
+        ensures sound { verified.AllVerified (L.live commands.now)
+            → verified.Fits (L.live commands.now) command.now args → verified.IsNoTrap result.finish }
     {
         let Outcome {
             core,

@@ -14,7 +14,7 @@ note_end-requires g c = (
       (first_world c.args.core.now),
   rw c.core.ensures
       (handler_ends (table_of c.args.registry.now) c.args.command.now c.args.handler.now c.in-Some.args
-      c.args.core.now _ c.requires c.start-ended.ensures),
+      c.args.core.now _ c.requires c.start-ended.ensures.answer),
 )
 
 pub returns-clause-ok : goal.returns-clause-ok
@@ -23,7 +23,7 @@ returns-clause-ok g c =
     let answer = start_callee table c.args.command.now (Coded c.args.handler.now) c.in-Some.args
     (first_world c.args.core.now) in
     let ends = handler_ends table c.args.command.now c.args.handler.now c.in-Some.args c.args.core.now _ c.requires
-    c.start-ended.ensures in
+    c.start-ended.ensures.answer in
     let read = rw c.signature.ensures.signature at (sym c.in-Some.is ∙ c.in_ok-args.ensures.value) in
     let fit = rw (c.in-Some.is, c.signature.ensures.signature) at c.in_ok-args.ensures.fits in
     let is = handler_started c.args.registry.now c.args.command.now c.args.handler.now
