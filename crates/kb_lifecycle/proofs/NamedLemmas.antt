@@ -1,6 +1,6 @@
 -- An extension is at the place where its identifier finds it.
-use Rattle.std.proofs.Common.{◌≡◌, ◌∙◌, sym, subst, ℕ, zero, suc, ◌+◌, Bool, true, false, cond, List, [], ◌∷◌, Some}
-use Rattle.std.proofs.Common.{None, Option, ap, refl, arith}
+use Rattle.std.proofs.Common.{◌≡◌, ◌∙◌, sym, subst, ℕ, suc, ◌+◌, Bool, true, false, List, [], ◌∷◌, Some}
+use Rattle.std.proofs.Common.{ap, arith}
 use Rattle.std.specs.Prelude.{slice_get, if◌then◌else◌}
 use Rattle.kb_files.specs.declared.extension_file.Extension.{Extension}
 use Rattle.kb_lifecycle.specs.Dependencies.{Placed, extension_named, has_id, named_from}

@@ -8,7 +8,6 @@ use Rattle.std.proofs.lemmas.List.Elements.{All-head, All-tail}
 use Rattle.kb_base.specs.Failure.{Fails}
 use Rattle.kb_base.specs.declared.failure.Failure.{Failure}
 use Rattle.kb_base.specs.declared.failure.Failure.TheVariants.{Fault, NoMemory}
-use Rattle.kb_base.specs.declared.refusal.Refusal.{Refusal}
 use Rattle.kb_code.specs.Handler.{HandlerData}
 use Rattle.kb_core.specs.Declaration.{Declaration}
 use Rattle.kb_files.specs.declared.extension_file.Extension.{Extension}

@@ -21,7 +21,7 @@ use Rattle.kb_core.specs.Native.{name_of, named, natives, declaration_of}
 use Rattle.kb_core.specs.declared.native.Native.{Native}
 use Rattle.kb_core.specs.declared.native.Native.TheVariants as n
 use Rattle.kb_files.specs.declared.extension_file.Extension.{Extension}
-use Rattle.kb_registry.specs.Live.{Live, callee, callee_by, is_live, where_live}
+use Rattle.kb_registry.specs.Live.{Live, callee, callee_by, is_live}
 use Rattle.kb_registry.specs.Missing.{declared_live, is_there, unless_there}
 use Rattle.kb_code.specs.Face.{declares}
 use Rattle.kb_registry.specs.Missing.{missing_in, missing_from}

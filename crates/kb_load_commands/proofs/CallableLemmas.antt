@@ -1,8 +1,8 @@
 -- Native commands that are added one after the other.
-use Rattle.std.proofs.Common.{◌≡◌, ◌∙◌, Bool, true, false, List, [], ◌∷◌, ◌++◌, refl, sym, append_assoc, append-nil}
+use Rattle.std.proofs.Common.{◌≡◌, ◌∙◌, Bool, true, false, List, [], ◌∷◌, ◌++◌, sym, append_assoc, append-nil}
 use Rattle.std.proofs.Common.{if◌then◌else◌}
 use Rattle.kb_core.specs.declared.native.Native.{Native}
-use Rattle.kb_load_commands.specs.Callable.{live_among, with_native, with_natives}
+use Rattle.kb_load_commands.specs.Callable.{live_among, with_natives}
 use Rattle.kb_registry.specs.Live.{Live, is_live}
 
 -- the live ones come after those from before

@@ -2,7 +2,6 @@
 use Rattle.std.proofs.Common.{◌≡◌, List, [], ◌∷◌, Option, Some, None, ap, ◌∙◌, sym}
 use Rattle.std.specs.Prelude.{Result, Ok, Err}
 use Rattle.kb_files.specs.Fault.{refused_by}
-use Rattle.kb_files.specs.declared.fault.LoadFault.{LoadFault}
 use Rattle.kb_files.specs.declared.fault.LoadFile.TheVariants as file
 use Rattle.kb_base.specs.Failure.{Fails, IsRefusalOrMemory}
 use Rattle.kb_base.specs.Refusal.{numbered}

@@ -1,4 +1,4 @@
-use Rattle.std.proofs.Common.{◌≡◌, ◌∙◌, ◌+◌, [], sym, ap, is_some, take, subst}
+use Rattle.std.proofs.Common.{◌∙◌, ◌+◌, [], sym, ap, is_some, take, subst}
 use Rattle.kb_code.specs.Handler.{handler_named}
 use Rattle.kb_handler_table.specs.Group.{FindsFirst}
 use Rattle.kb_handler_table.proofs.Taken.{kept_here, skipped_here}

@@ -1,4 +1,4 @@
-use Rattle.std.proofs.Common.{◌∙◌, refl, sym, ap, set}
+use Rattle.std.proofs.Common.{◌∙◌, refl, ap, set}
 use Rattle.std.specs.Vec.{with_item}
 use Rattle.kb_handler_table.specs.Live.{switched}
 use Rattle.kb_handler_table.proofs.Apart.{switch_stays}
