@@ -10,7 +10,7 @@ use Rattle.kb_registry.specs.Live.{registration_fault, holder}
 use Rattle.kb_registry.specs.declared.fault.RegistryFault.{RegistryFault}
 use Rattle.kb_rules.specs.RuleList.{Listed}
 use Rattle.kb_base.specs.declared.note.Origin.TheVariants.{User}
-use Rattle.kb_session.specs.Session.{Answers, Does, answered}
+use Rattle.kb_session.specs.Session.{Answers, Does}
 use Rattle.kb_session.specs.State.{State, Told, happens, reload, register, dispose, Answered, step_on, step_unless}
 use Rattle.kb_session.specs.State.{out_of, taken_unless, refusal_of, reloaded, registering, disposing}
 use Rattle.kb_session.specs.State.{disposing_unless, code_updated, named_in, switched, switched_to}
