@@ -267,6 +267,21 @@ fn dispose(
     }
 }
 
+// Gives an extension the handlers of these bytes: `EXTENSION BYTES`. The trace has what it answers.
+fn update(
+    alloc: Global,
+    session: &mut Session<Command>,
+    rest: &str,
+    actual: &mut String,
+) -> Result<(), NoMemory> {
+    let (id, text) = rest.split_once(' ').unwrap_or((rest, ""));
+    let bytes = unescape(alloc, &[], text)?;
+    match session.update_extension(id, bytes.as_slice()) {
+        Ok(_) => Ok(()),
+        Err(fault) => add_fault(fault, actual),
+    }
+}
+
 // Disposes of a ticket, and registers its closure again.
 fn turn(session: &mut Session<Command>, ticket: Ticket) -> Result<Ticket, SessionFault> {
     let command = session.dispose(ticket)?;
@@ -302,6 +317,7 @@ fn stop(session: &mut Session<Command>, actual: &mut String) -> Result<(), NoMem
 // - `handle KEY` and `run KEY ..` are calls with key presses.
 // - `register NATIVE`, `dispose N` and `stop` are calls of the host; `stop` prints `is_stopped` before and
 //   after it.
+// - `update EXTENSION BYTES` is a call of the host too.
 // - `lacking NATIVE` registers a closure that is refused memory in each call.
 // - `turns N COUNT` disposes of a ticket and registers its closure again, `COUNT` times.
 // - `read N SCRIPT` runs a script whose reader fails after N bytes, `write N SCRIPT` one whose writer fails
@@ -323,6 +339,7 @@ fn run_query(
         "register" => register(session, rest, false, actual),
         "lacking" => register(session, rest, true, actual),
         "dispose" => dispose(session, rest, actual),
+        "update" => update(alloc, session, rest, actual),
         "turns" => turns(session, rest, actual),
         "stop" => stop(session, actual),
         "read" | "write" | "fill" => run_with_failing_stream(
