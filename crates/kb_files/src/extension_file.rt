@@ -31,8 +31,9 @@ pub struct Extension {
     pub rules: RuleList,
 }
 
-/// The extension of a `package.json`, enabled, with its number in load order: JSON with comments whose value is a
-/// package (`Package::read` gives the format), with its key rules for a platform (`read_list` gives theirs).
+/// The extension of a `package.json`, enabled, with its number in load order: JSON with comments whose value
+/// is a package (`Package::read` gives the format), with its key rules for a platform (`read_list` gives
+/// theirs).
 ///
 /// Errors: the first fault of the file: those of its text (1 to 4), then an object without `name` (40), then
 /// another shape (41). A blank text reads as the empty list, and so is refused with 41. Or `NoMemory`.

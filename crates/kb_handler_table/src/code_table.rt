@@ -9,7 +9,8 @@ ghost use Rattle.kb_handler_table.specs.Group.{IsGroup, FindsFirst, is_kept};
 ghost use Rattle.kb_handler_table.specs.Live.{handlers_in, is_reserved, codes_fault};
 ghost use Rattle.kb_code.specs.Handler.{handler_named};
 ghost use Rattle.kb_handler_table.specs.Live.{group_of, with_group, without_group, caller_of, user_of};
-ghost use Rattle.kb_handler_table.specs.Live.{calls_one, checked_handlers, exchanged, handlers_of, live_group};
+ghost use Rattle.kb_handler_table.specs.Live.{calls_one, checked_handlers, exchanged, handlers_of};
+ghost use Rattle.kb_handler_table.specs.Live.{live_group};
 ghost use Rattle.kb_handler_table.specs.Live.{live_in, switched};
 ghost use Rattle.kb_handler_table.specs.Live.{Group as GroupData};
 ghost use Rattle.kb_handler_table.specs.Place.{IsPlaceOf};
@@ -184,9 +185,9 @@ impl CodeTable {
         }
     }
 
-    /// Puts the code of a prepared group in the place of the extension's code, and returns that, or `None` if the
-    /// extension has no group in the table; then nothing changes. Both declare the same commands. The handlers
-    /// stay live, or not live. It takes no memory.
+    /// Puts the code of a prepared group in the place of the extension's code, and returns that, or `None` if
+    /// the extension has no group in the table; then nothing changes. Both declare the same commands. The
+    /// handlers stay live, or not live. It takes no memory.
     pub fn exchange(&mut self, group: Group) -> Option<Codes>
         requires { same_face (handlers_of group.extension self.old) group.codes.handlers ≡ true }
         ensures codes { result ≡ group_of group.extension self.old }

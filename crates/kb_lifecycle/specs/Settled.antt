@@ -54,8 +54,8 @@ pub record IsNear (es : List Extension) (number : ℕ) (code : List Group) (name
   pub near : (owner ≡ number) ⊎ DependsOn es number owner
   pub declares : declared_among (handlers_of owner code) name ≡ Some d
 
--- the code of the extension of a number was verified against native commands and handlers of the extension and
--- of those that it depends on, which declare the same now
+-- the code of the extension of a number was verified against native commands and handlers of the extension
+-- and of those that it depends on, which declare the same now
 pub record IsBacked (es : List Extension) (number : ℕ) (code : List Group) (codes : CodesData) : Type 0 where
   pub commands : Commands
   pub verified : List CheckedHandler
@@ -69,8 +69,8 @@ abbrev pub AreBacked : List Extension → List Group → List Group → Type 0
 AreBacked es code [] = ⊤
 AreBacked es code (g ∷ gs) = IsBacked es g.extension code g.codes × AreBacked es code gs
 
--- extensions and live commands of a session whose handlers are verified: no live handler traps, and it stays so
--- whichever extensions are enabled, disabled or updated
+-- extensions and live commands of a session whose handlers are verified: no live handler traps, and it stays
+-- so whichever extensions are enabled, disabled or updated
 pub record IsSettled (es : List Extension) (live : Live) : Type 0 where
   pub sound : IsSound live
   pub numbered : AreNumbered 0 es

@@ -14,7 +14,8 @@ use Rattle.kb_lifecycle.specs.Updating.{updated_code}
 
 -- a load gives each extension its verified code, and enables all
 abbrev pub LoadedIsSettled : Type 0
-LoadedIsSettled = (natives : List Native) (es : List Extension) (handlers : List (List HandlerData)) (live : Live) →
+LoadedIsSettled =
+    (natives : List Native) (es : List Extension) (handlers : List (List HandlerData)) (live : Live) →
     LiveChecked natives es handlers (Ok live) → AreNumbered 0 es → All (λ e. e.enabled ≡ true) es →
     length handlers ≡ length es → IsSettled es live
 

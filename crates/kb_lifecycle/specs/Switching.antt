@@ -12,8 +12,8 @@ use Rattle.kb_lifecycle.specs.declared.switching.Obstacle.{Obstacle}
 abbrev pub refused_with : ℕ → List ℕ → Refusal
 refused_with number name = record { number = number; detail = Some name }
 
--- an extension that isn't enabled can't be while one of its dependencies isn't (93), or while its verified code
--- calls a native command without a registered closure (74)
+-- an extension that isn't enabled can't be while one of its dependencies isn't (93), or while its verified
+-- code calls a native command without a registered closure (74)
 abbrev pub enable_refusal : Extension → List Extension → Live → Option Refusal
 enable_refusal e es live =
     if e.enabled then None

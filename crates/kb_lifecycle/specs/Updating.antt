@@ -80,9 +80,9 @@ unfoldable pub code_of : Extension → List Extension → Live → List HandlerD
 code_of e es live hs =
     if is_verified e.number live then checked_by (callable_of es e.number hs live) hs else Ok (raw hs)
 
--- the code of the handlers that the bytes of a file hold: a fault of the file comes first, then other commands
--- than before, or a change of their parameters, budgets or depths (95), and then the first handler that isn't
--- accepted
+-- the code of the handlers that the bytes of a file hold: a fault of the file comes first, then other
+-- commands than before, or a change of their parameters, budgets or depths (95), and then the first handler
+-- that isn't accepted
 abbrev pub updated_code : Extension → List Extension → Live → List ℕ → Result CodesData Refusal
 updated_code e es live bytes =
     handlers_in bytes

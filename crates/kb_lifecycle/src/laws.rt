@@ -3,8 +3,8 @@
 ghost use Rattle.kb_lifecycle.specs.Stays.{DisabledStaysSettled, EnabledStaysSettled, UpdatedStaysSettled};
 ghost use Rattle.kb_lifecycle.specs.Stays.{DisposedStaysSettled, LoadedIsSettled, RegisteredStaysSettled};
 
-/// After a load whose handlers are verified, with all extensions enabled, no live handler traps, and the session
-/// is settled.
+/// After a load whose handlers are verified, with all extensions enabled, no live handler traps, and the
+/// session is settled.
 pub fn loaded_is_settled()
     ensures { LoadedIsSettled }
 {}

@@ -11,8 +11,8 @@ use kb_registry::{HostCommand, Registry, RegistryFault};
 /// The reason why an extension can't be enabled or disabled.
 #[derive(Clone, Copy)]
 pub struct Obstacle<'a> {
-    /// The number of the fault: 93 if a dependency isn't enabled, 74 if a native command that the verified code
-    /// calls has no registered closure, 94 if an enabled extension depends on this one.
+    /// The number of the fault: 93 if a dependency isn't enabled, 74 if a native command that the verified
+    /// code calls has no registered closure, 94 if an enabled extension depends on this one.
     pub number: u32,
     /// The identifier of the extension, or the name of the native command.
     pub name: &'a Text,
@@ -30,10 +30,10 @@ impl Obstacle<'_> {
     }
 }
 
-/// The reason why one of the extensions can't be enabled, or `None` if it can be. 93 with its first dependency
-/// that isn't enabled, as that one's manifest spells it; else 74 with the first native command without a
-/// registered closure that its verified code calls, in file order and order of place. What is enabled already
-/// can be enabled.
+/// The reason why one of the extensions can't be enabled, or `None` if it can be. 93 with its first
+/// dependency that isn't enabled, as that one's manifest spells it; else 74 with the first native command
+/// without a registered closure that its verified code calls, in file order and order of place. What is
+/// enabled already can be enabled.
 pub fn enable_obstacle<'a, C: HostCommand>(
     extension: &Extension,
     extensions: &'a [Extension],
@@ -50,7 +50,8 @@ pub fn enable_obstacle<'a, C: HostCommand>(
     }
 }
 
-/// 74 with the first native command without a registered closure that the verified code of an extension calls.
+/// 74 with the first native command without a registered closure that the verified code of an extension
+/// calls.
 fn native_obstacle<C: HostCommand>(number: u32, registry: &Registry<C>) -> Option<Obstacle<'_>>
     ensures { option_map refusal_of result
         ≡ option_map (refused_with 74) (native_missing number registry.now) }

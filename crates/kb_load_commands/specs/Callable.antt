@@ -1,6 +1,6 @@
 -- The commands that the handlers of an extension may call: the live native commands, the handlers of the
--- extensions that it depends on, in load order, live or not, and those of its own file. Of equal names the first
--- counts.
+-- extensions that it depends on, in load order, live or not, and those of its own file. Of equal names the
+-- first counts.
 use Rattle.std.specs.Prelude.{ℕ, List, [], ◌∷◌, ◌++◌, map, slice_get, if◌then◌else◌}
 use Rattle.std.specs.Option.{option_map_or}
 use Rattle.kb_code.specs.Handler.{HandlerData}

@@ -1,5 +1,6 @@
 -- The live commands of a new session whose handlers are verified.
-use Rattle.std.specs.Prelude.{◌≡◌, ◌⊎◌, ℕ, ◌+◌, List, [], ◌∷◌, ◌++◌, Some, None, Result, Ok, Err, codes, decimal}
+use Rattle.std.specs.Prelude.{◌≡◌, ◌⊎◌, ℕ, ◌+◌, List, [], ◌∷◌, ◌++◌, Some, None, Result, Ok, Err, codes}
+use Rattle.std.specs.Prelude.{decimal}
 use Rattle.kb_files.specs.Fault.{refused_file}
 use Rattle.kb_files.specs.declared.fault.LoadFault.{LoadFault}
 use Rattle.kb_files.specs.declared.fault.LoadFile.TheVariants as file

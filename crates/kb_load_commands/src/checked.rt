@@ -1,7 +1,8 @@
 //! The live commands of a new session whose handlers are verified.
 ghost use Rattle.std.specs.Prelude.{◌≡◌, ◌≤◌, ℕ, [], None, IfOk, length, map};
 ghost use Rattle.kb_handler_table.specs.Live.{group_of};
-ghost use Rattle.kb_load_commands.specs.Checked.{IsAdmitted, IsCode, IsRejectionAt, JoinAll, Joins, LiveChecked};
+ghost use Rattle.kb_load_commands.specs.Checked.{IsAdmitted, IsCode, IsRejectionAt, JoinAll, Joins};
+ghost use Rattle.kb_load_commands.specs.Checked.{LiveChecked};
 ghost use Rattle.kb_load_commands.specs.Checked.{refused_handler};
 
 use crate::callable::callable_of;

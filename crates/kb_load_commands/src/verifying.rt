@@ -18,8 +18,8 @@ pub struct Rejection {
     pub place: usize,
 }
 
-/// The handlers of a file, verified in order against the commands that they may call. Errors: the first handler
-/// that isn't accepted, or `NoMemory`. On an error all handlers are dropped.
+/// The handlers of a file, verified in order against the commands that they may call. Errors: the first
+/// handler that isn't accepted, or `NoMemory`. On an error all handlers are dropped.
 #[tactic(auto, using(crate::proofs::VerifiedLemmas::verifying))]
 pub fn verify_all(
     alloc: Global,

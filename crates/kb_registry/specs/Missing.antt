@@ -25,10 +25,12 @@ missing_in there h (c ∷ callees) =
     option_or (unless_there there c.signature (slice_get h.calls c.index)) (missing_in there h callees)
 
 -- the same for several handlers
-abbrev pub missing_from : (Declaration → List ℕ → Bool) → List HandlerData → List (List Callee) → Option (List ℕ)
+abbrev pub missing_from : (Declaration → List ℕ → Bool) → List HandlerData → List (List Callee) →
+    Option (List ℕ)
 missing_from there [] all = None
 missing_from there (h ∷ hs) [] = None
-missing_from there (h ∷ hs) (callees ∷ all) = option_or (missing_in there h callees) (missing_from there hs all)
+missing_from there (h ∷ hs) (callees ∷ all) =
+    option_or (missing_in there h callees) (missing_from there hs all)
 
 -- code that wasn't verified has no missing callee
 abbrev pub missing_by : (Declaration → List ℕ → Bool) → Option (List (List Callee)) → List HandlerData
@@ -69,4 +71,5 @@ missing_native codes live = missing_by (native_there live) codes.callees codes.h
 
 -- the same for the code of an extension
 abbrev pub native_missing : ℕ → Live → Option (List ℕ)
-native_missing extension live = option_and_then (λ codes. missing_native codes live) (group_of extension live.code)
+native_missing extension live =
+    option_and_then (λ codes. missing_native codes live) (group_of extension live.code)

@@ -4,7 +4,8 @@ ghost use Rattle.std.specs.Prelude.{◌≡◌, ◌||◌, option_copied, slice_ge
 ghost use Rattle.kb_registry.specs.Among.{there_by};
 ghost use Rattle.kb_code.specs.Face.{declared_among, declares};
 ghost use Rattle.kb_registry.specs.Missing.{declared_live, has_closure, unless_there};
-ghost use Rattle.kb_registry.specs.Missing.{missing_by, missing_callee, missing_from, missing_in, native_missing};
+ghost use Rattle.kb_registry.specs.Missing.{missing_by, missing_callee, missing_from, missing_in};
+ghost use Rattle.kb_registry.specs.Missing.{native_missing};
 
 use crate::command::HostCommand;
 use crate::registry::Registry;

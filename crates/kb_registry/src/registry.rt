@@ -369,11 +369,12 @@ impl<C: HostCommand> Registry<C> {
         self.code.handler(command)
     }
 
-    /// Adds the code of an extension, whose handlers are live then; extensions are numbered in load order, and
-    /// the extension has no code yet. On an error the code is returned and the registry is unchanged. 70 if a
-    /// handler has the name of a native command, of `runCommands`, of a handler of another extension, live or
-    /// not, or of another handler of the code; else 74 if a callee of verified code is neither live nor one of
-    /// the code's own handlers, with the signature that it had when the code was verified; or `NoMemory`.
+    /// Adds the code of an extension, whose handlers are live then; extensions are numbered in load order,
+    /// and the extension has no code yet. On an error the code is returned and the registry is unchanged. 70
+    /// if a handler has the name of a native command, of `runCommands`, of a handler of another extension,
+    /// live or not, or of another handler of the code; else 74 if a callee of verified code is neither live
+    /// nor one of the code's own handlers, with the signature that it had when the code was verified; or
+    /// `NoMemory`.
     pub fn register_code(
         &mut self,
         extension: u32,
@@ -441,8 +442,8 @@ impl<C: HostCommand> Registry<C> {
         self.code.user_of(extension)
     }
 
-    /// Removes the code of an extension, live or not, and returns it. 73 if a live verified handler of another
-    /// extension calls one of its handlers (`user_of_code`); then the registry is unchanged.
+    /// Removes the code of an extension, live or not, and returns it. 73 if a live verified handler of
+    /// another extension calls one of its handlers (`user_of_code`); then the registry is unchanged.
     pub fn dispose_code(&mut self, extension: u32) -> Result<Codes, RegistryFault>
         requires { IsSome (group_of extension self.old.code) }
         ensures codes { IfOk result (λ codes. group_of extension self.old.code ≡ Some codes) }
@@ -494,8 +495,8 @@ impl<C: HostCommand> Registry<C> {
     }
 
     /// Exchanges the code of an extension, live or not, for code with the same commands, parameters, budgets
-    /// and depths. Nothing else is checked. Without code of the extension nothing changes. On refused memory the
-    /// registry is unchanged.
+    /// and depths. Nothing else is checked. Without code of the extension nothing changes. On refused memory
+    /// the registry is unchanged.
     pub fn exchange_code(&mut self, extension: u32, codes: Codes) -> Result<(), NoMemory>
         requires { same_face (handlers_of extension self.old.code) codes.handlers ≡ true }
         ensures ok { OnOk result (self.new ≡ with_exchanged extension codes self.old) }
@@ -511,7 +512,8 @@ impl<C: HostCommand> Registry<C> {
     }
 
     /// Makes the handlers of an extension live, or not live. Nothing is checked: whether a handler that stays
-    /// live calls one of them, or whether what they call is live, is the caller's concern. It takes no memory.
+    /// live calls one of them, or whether what they call is live, is the caller's concern. It takes no
+    /// memory.
     pub fn switch_code(&mut self, extension: u32, live: bool)
         ensures { self.new ≡ with_switched extension live self.old }
     {

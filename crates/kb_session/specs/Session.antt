@@ -145,8 +145,8 @@ is_left (told ∷ rest) s = s.stopped || is_left rest (next told s).state
 abbrev pub is_late : List Told → State → Bool
 is_late told s = s.stopped || is_left told s
 
--- a running session that is safe is stopped neither before the inputs nor before the last of them, so a run of
--- them fails for refused memory alone
+-- a running session that is safe is stopped neither before the inputs nor before the last of them, so a run
+-- of them fails for refused memory alone
 abbrev pub RunsThrough : Type 0
 RunsThrough = (told : List Told) (s : State) → s.stopped ≡ false → IsSafe s → is_late told s ≡ false
 

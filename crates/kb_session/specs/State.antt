@@ -167,8 +167,8 @@ switch_target enabled None = None
 switch_target enabled (Some p) =
     if is_new enabled p.extension then Some (p.place, p.extension.number) else None
 
--- the state with the extension of this place and number enabled or disabled: its rules and enablements count or
--- don't, and its handlers are live or aren't
+-- the state with the extension of this place and number enabled or disabled: its rules and enablements count
+-- or don't, and its handlers are live or aren't
 abbrev pub switched_to : Bool → Option (ℕ × ℕ) → State → State
 switched_to enabled None s = s
 switched_to enabled (Some target) s = record s {

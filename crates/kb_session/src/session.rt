@@ -40,9 +40,9 @@ use std::marker::Model;
 mod closures;
 mod extensions;
 
-/// A session of the engine, with the host's closures for native commands. Contracts see its state and
-/// its trace. The state consists of the core with its text and scopes, the sources of the key bindings with
-/// the extensions and which of them are enabled, the commands that are live or not, the keystrokes of the open
+/// A session of the engine, with the host's closures for native commands. Contracts see its state and its
+/// trace. The state consists of the core with its text and scopes, the sources of the key bindings with the
+/// extensions and which of them are enabled, the commands that are live or not, the keystrokes of the open
 /// chord, whether the session is stopped, and the unread patterns of the load and of each reload.
 ///
 /// Refused memory or a trap of a handler stops the session for good. Each later call returns `Stopped`.
@@ -268,10 +268,10 @@ impl<C: HostCommand> Session<C> {
     /// and stops the session. (These are our decisions.)
     ///
     /// Refusals: a scope that doesn't exist (20); a key too many (22); an extension that doesn't exist (92);
-    /// enabling it while it depends on one that isn't enabled (93), or while a native command that its handlers
-    /// call has no registered closure (74); disabling it while an enabled one depends on it (94); an update by a
-    /// file with a fault (1 to 4, 40 to 44, 50 to 52), with other commands than before (95), or with a handler
-    /// that isn't accepted (60 to 69).
+    /// enabling it while it depends on one that isn't enabled (93), or while a native command that its
+    /// handlers call has no registered closure (74); disabling it while an enabled one depends on it (94); an
+    /// update by a file with a fault (1 to 4, 40 to 44, 50 to 52), with other commands than before (95), or
+    /// with a handler that isn't accepted (60 to 69).
     ///
     /// Errors: `Stopped` if the session was already stopped; `NoMemory` if memory was refused. Then the
     /// session is stopped and otherwise unchanged, except for the core and the chord if the event is a

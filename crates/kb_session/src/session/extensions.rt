@@ -5,7 +5,8 @@ ghost use Rattle.kb_session.specs.Session.{Does, FailsAt, KeepsFace, Takes, Undo
 ghost use Rattle.kb_session.specs.Session.{has_switched, has_updated};
 ghost use Rattle.kb_session.specs.State.{code_updated, disabling_refusal, enabling_refusal, happens};
 ghost use Rattle.kb_lifecycle.specs.Dependencies.{extension_named};
-ghost use Rattle.kb_session.specs.State.{is_new, left_lines, named_in, spelled, switch_line, switch_target, switched};
+ghost use Rattle.kb_session.specs.State.{is_new, left_lines, named_in, spelled, switch_line, switch_target};
+ghost use Rattle.kb_session.specs.State.{switched};
 ghost use Rattle.kb_trace.specs.declared.event.Event.TheVariants as event;
 
 use crate::fault::{SessionFault, fault_in};
@@ -18,8 +19,8 @@ use kb_registry::HostCommand;
 use kb_trace::{Answer, lines};
 
 impl<C: HostCommand> Session<C> {
-    /// Gives an extension the handlers of the bytes of a `handlers.json`, as `Event::Update` does. The bytes are
-    /// lent.
+    /// Gives an extension the handlers of the bytes of a `handlers.json`, as `Event::Update` does. The bytes
+    /// are lent.
     ///
     /// Errors: those of `handle`.
     #[tactic(auto, using(crate::proofs::Stopping::stopping))]
