@@ -35,6 +35,19 @@ unset_line scope key = codes "unset " ++ (scope ++ (codes " " ++ key))
 abbrev pub reloaded_line : List ℕ
 reloaded_line = codes "reloaded"
 
+-- palette 2
+abbrev pub palette_line : ℕ → List ℕ
+palette_line count = codes "palette " ++ decimal count
+
+-- 1. Hello: Hello World [x.hello]
+abbrev pub entry_line : ℕ → List ℕ → List ℕ → List ℕ
+entry_line number label command =
+    decimal number ++ (codes ". " ++ (label ++ (codes " [" ++ (command ++ codes "]"))))
+
+-- choose 1
+abbrev pub choose_text : ℕ → List ℕ
+choose_text number = codes "choose " ++ decimal number
+
 -- enabled publisher.name
 abbrev pub enabled_line : List ℕ → List ℕ
 enabled_line id = codes "enabled " ++ id

@@ -14,6 +14,10 @@ pub enum Event {
     SetKey(Text, Text, ContextValue),
     /// In the scope with the first name, the context key with the second name is removed.
     UnsetKey(Text, Text),
+    /// The palette lists the commands that this query finds.
+    Palette(Text),
+    /// The entry with this number, counted from 1, is chosen in the list of the last palette.
+    Choose(u32),
     /// The extension with this identifier is enabled. ASCII letter case doesn't matter (our decision).
     Enable(Text),
     /// The extension with this identifier is disabled.

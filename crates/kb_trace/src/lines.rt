@@ -103,6 +103,41 @@ pub fn reloaded_line(lines: &mut Lines) -> Result<(), NoMemory>
     lines.push(text)
 }
 
+/// `palette COUNT`: the palette lists so many entries.
+pub fn palette_line(lines: &mut Lines, count: usize) -> Result<(), NoMemory>
+    ensures ok { OnOk result (lines.new ≡ lines.old ++ line.palette_line count ∷ []) }
+    ensures err { OnErr result (lines.new ≡ lines.old) }
+{
+    let mut text = lines.begin_line();
+    write!(text, "palette {count}")?;
+    lines.push(text)
+}
+
+/// `NUMBER. LABEL [COMMAND]`: an entry of the palette.
+pub fn entry_line(
+    lines: &mut Lines,
+    number: usize,
+    label: &str,
+    command: &str,
+) -> Result<(), NoMemory>
+    ensures ok { OnOk result (lines.new ≡ lines.old ++ line.entry_line number label.now command.now ∷ []) }
+    ensures err { OnErr result (lines.new ≡ lines.old) }
+{
+    let mut text = lines.begin_line();
+    write!(text, "{number}. {label} [{command}]")?;
+    lines.push(text)
+}
+
+/// `choose NUMBER`, the beginning of the line for a choice.
+pub fn choose_text(lines: &mut Lines, number: u32) -> Result<String, NoMemory>
+    ensures text { IfOk result (λ made. string_bytes made ≡ line.choose_text number) }
+    ensures same { lines.new ≡ lines.old }
+{
+    let mut text = lines.begin_line();
+    write!(text, "choose {number}")?;
+    Ok(text)
+}
+
 /// `enabled EXTENSION`: an extension is enabled.
 pub fn enabled_line(lines: &mut Lines, id: &str) -> Result<(), NoMemory>
     ensures ok { OnOk result (lines.new ≡ lines.old ++ line.enabled_line id.now ∷ []) }

@@ -1,0 +1,3 @@
+pub mod Contributed
+pub mod Items
+pub mod Palette
