@@ -6,13 +6,16 @@ use Rattle.kb_bindings.specs.Sources.{Sources, rules_of, enablement, with_user_r
 use Rattle.kb_bindings.specs.Warning.{warnings_of}
 use Rattle.kb_bindings.specs.declared.bindings.Renewed.{Renewed}
 use Rattle.kb_base.specs.declared.note.Warning.{Warning}
+use Rattle.kb_palette.specs.Command.{CommandData}
+use Rattle.kb_palette_commands.specs.Palette.{palette_commands}
 use Rattle.kb_when.specs.Marks.{MarkedClause}
 
--- the searched rules, the enablements and the warnings are derived from what binds keys
+-- the searched rules, the enablements, the palette's commands and the warnings are derived from what binds keys
 pub record IsSearched (sources : Sources) (rules : List Rule) (enabled : List ℕ → Option MarkedClause)
-    (warnings : List Warning) : Type 0 where
+    (palette : List CommandData) (warnings : List Warning) : Type 0 where
   pub rules_are : rules ≡ rules_of sources
   pub enabled_is : enabled ≡ enablement sources
+  pub palette_are : palette ≡ palette_commands sources.extensions
   pub warnings_are : warnings ≡ warnings_of sources
 
 -- what other rules of the user make of the search

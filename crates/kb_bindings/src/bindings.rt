@@ -1,4 +1,4 @@
-//! What binds keys, and the search among it.
+//! What binds keys, and what follows from it: the search, and the commands of the palette.
 ghost use Rattle.std.specs.Prelude.{◌≡◌, ◌++◌, IfOk, OnOk, OnErr, map};
 ghost use Rattle.std.specs.List.{flat_map};
 ghost use Rattle.kb_resolve.specs.Enablements.{enablement_in, enablement_of};
@@ -9,6 +9,7 @@ ghost use Rattle.kb_files.specs.Enabled.{is_enabled_at, switched_at};
 ghost use Rattle.kb_bindings.specs.Unread as unread;
 ghost use Rattle.kb_bindings.specs.Warning.{warnings_of};
 ghost use Rattle.kb_bindings.specs.Bindings.{IsRenewed, IsSearched};
+ghost use Rattle.kb_palette_commands.specs.Palette.{palette_commands};
 
 use crate::unread::all_unread;
 use crate::warning::all_warnings;
@@ -17,13 +18,15 @@ use kb_context::Scopes;
 use kb_files::Extension;
 use kb_keys::Keystroke;
 use kb_manifest::{Command, CommandTable};
+use kb_palette::PaletteCommand;
+use kb_palette_commands::palette_commands;
 use kb_resolve::{ChordState, Contribution, Enablements, Pressed, Resolver};
 use kb_rules::{Origin, RuleList, RuleSet};
 use std::alloc::Global;
 use std::marker::Model;
 
-/// The default rules, the extensions and the user's rules, with the search among them and the warnings about
-/// their entries. Contracts see the first three.
+/// The default rules, the extensions and the user's rules, with the search among them, the commands of the
+/// palette, and the warnings about their entries. Contracts see the first three.
 #[derive(Drop)]
 pub struct Bindings {
     defaults: RuleList,
@@ -31,6 +34,7 @@ pub struct Bindings {
     user: RuleList,
     resolver: Resolver,
     enablements: Enablements,
+    palette: Vec<PaletteCommand>,
     warnings: Seq<Warning>,
 }
 
@@ -59,10 +63,11 @@ impl Model for Bindings {
 
     ghost view = { λ b. record { defaults = b.defaults; extensions = b.extensions.items; user = b.user } };
 
-    // The resolver, the enablements and the warnings are derived from these rules and extensions.
+    // The resolver, the enablements, the palette's commands and the warnings are derived from these rules and
+    // extensions.
     ghost invariant = { λ b.
         IsSearched (record { defaults = b.defaults; extensions = b.extensions.items; user = b.user })
-        b.resolver (enablement_in b.enablements) b.warnings };
+        b.resolver (enablement_in b.enablements) b.palette.items b.warnings };
 }
 
 /// Other rules of the user, with the search among all rules and the warnings about all entries.
@@ -87,8 +92,11 @@ impl Bindings {
         match derive_all(alloc, &defaults, extensions.as_slice(), &user) {
             Ok(
                 Derived {
-                    resolver,
-                    enablements,
+                    in_force: InForce {
+                        resolver,
+                        enablements,
+                        palette,
+                    },
                     warnings,
                 },
             ) => Ok(Bindings {
@@ -97,6 +105,7 @@ impl Bindings {
                 user,
                 resolver,
                 enablements,
+                palette,
                 warnings,
             }),
             Err(refused) => {
@@ -133,6 +142,13 @@ impl Bindings {
         ensures { result.now ≡ self.now.extensions }
     {
         self.extensions.as_slice()
+    }
+
+    /// The commands of the palette: those of the enabled extensions, in load order.
+    pub fn palette(&self) -> &[PaletteCommand]
+        ensures { result.now ≡ palette_commands self.now.extensions }
+    {
+        self.palette.as_slice()
     }
 
     /// The unread patterns of the entries of all files, in the order of the files.
@@ -206,9 +222,16 @@ impl Bindings {
             self.extensions.as_slice(),
             &self.user,
         ) {
-            Ok((resolver, enablements)) => {
+            Ok(
+                InForce {
+                    resolver,
+                    enablements,
+                    palette,
+                },
+            ) => {
                 self.resolver = resolver;
                 self.enablements = enablements;
+                self.palette = palette;
                 Ok(())
             }
             Err(refused) => {
@@ -234,12 +257,19 @@ fn set_enabled(extensions: &mut Vec<Extension>, place: usize, enabled: bool) -> 
     before
 }
 
-/// What is derived from rules and extensions: the search among the rules, the enablements of commands, and the
-/// warnings about entries.
+/// What rules and extensions have in force: the search among the rules, the enablements of commands, and the
+/// commands of the palette.
 #[derive(Drop)]
-struct Derived {
+struct InForce {
     resolver: Resolver,
     enablements: Enablements,
+    palette: Vec<PaletteCommand>,
+}
+
+/// What is derived from rules and extensions: what is in force, and the warnings about entries.
+#[derive(Drop)]
+struct Derived {
+    in_force: InForce,
     warnings: Seq<Warning>,
 }
 
@@ -254,38 +284,41 @@ fn derive_all(
       defaults = defaults.now;
       extensions = extensions.now;
       user = user.now;
-    }) made.resolver (enablement_in made.enablements) made.warnings) }
+    }) made.in_force.resolver (enablement_in made.in_force.enablements) made.in_force.palette.items
+        made.warnings) }
 {
-    let enablements = all_enablements(alloc, extensions)?;
-    let (resolver, warnings) = searched(alloc, defaults, extensions, user)?;
-    Ok(Derived {
-        resolver,
-        enablements,
-        warnings,
-    })
+    let warnings = all_warnings(alloc, defaults, extensions, user)?;
+    let in_force = search_all(alloc, defaults, extensions, user)?;
+    Ok(Derived { in_force, warnings })
 }
 
-/// The search among all rules, and the enablements of the extensions' commands.
+/// The search among all rules, the enablements of the extensions' commands, and the commands of the palette.
 fn search_all(
     alloc: Global,
     defaults: &RuleList,
     extensions: &[Extension],
     user: &RuleList,
-) -> Result<(Resolver, Enablements), NoMemory>
-    ensures rules { IfOk result (λ made. made.0 ≡ rules_of (record {
+) -> Result<InForce, NoMemory>
+    ensures rules { IfOk result (λ made. made.resolver ≡ rules_of (record {
       defaults = defaults.now;
       extensions = extensions.now;
       user = user.now;
     })) }
-    ensures enablements { IfOk result (λ made. enablement_in made.1 ≡ enablement (record {
+    ensures enablements { IfOk result (λ made. enablement_in made.enablements ≡ enablement (record {
       defaults = defaults.now;
       extensions = extensions.now;
       user = user.now;
     })) }
+    ensures palette { IfOk result (λ made. made.palette.items ≡ palette_commands extensions.now) }
 {
     let enablements = all_enablements(alloc, extensions)?;
+    let palette = palette_commands(alloc, extensions)?;
     let resolver = search_among(alloc, defaults, extensions, user)?;
-    Ok((resolver, enablements))
+    Ok(InForce {
+        resolver,
+        enablements,
+        palette,
+    })
 }
 
 /// The enablements of the extensions' commands.

@@ -1,5 +1,5 @@
-//! What binds keys: the default rules, the extensions and the user's rules, read from their files, and the
-//! search among them. A load also reads the scopes and the handlers of extensions.
+//! What binds keys: the default rules, the extensions and the user's rules, read from their files, the search
+//! among them, and the commands of the palette. A load also reads the scopes and the handlers of extensions.
 #![tactic(auto)]
 
 pub mod bindings;

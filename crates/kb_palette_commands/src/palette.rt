@@ -19,7 +19,6 @@ use std::alloc::Global;
 /// command belong to it.
 ///
 /// Error: `NoMemory`.
-#[tactic(auto, using(crate::proofs::PaletteLemmas::all_with))]
 pub fn palette_commands(
     alloc: Global,
     extensions: &[Extension],
@@ -54,7 +53,7 @@ fn palette_command(
     contributed: Contributed<'_>,
     items: &ItemTable,
 ) -> Result<PaletteCommand, NoMemory>
-    ensures { IfOk result (λ made. made ≡ with_clauses (clauses_in items.now) (named_of contributed)) }
+    ensures { IfOk result (λ made. made ≡ with_clauses (clauses_in items.now) (named_of contributed.entry)) }
 {
     let Contributed { name, command } = contributed;
     let label = label_of(alloc, command)?;

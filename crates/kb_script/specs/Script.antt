@@ -103,7 +103,22 @@ enable_event id = if is_word id then Some (event.Enable id) else None
 abbrev pub disable_event : List ℕ → Option Event
 disable_event id = if is_word id then Some (event.Disable id) else None
 
--- an event, by the first word of its line and the text after the first space
+-- a number below 2 ^ 64 of at least one decimal digit and nothing else
+abbrev pub number_of : List ℕ → Option ℕ
+number_of digits =
+    if list_all is_ascii_digit digits
+    && (not (nat_eq (length digits) 0) && nat_lt (digits_value 10 digits) (2 ^ 64))
+    then Some (digits_value 10 digits) else None
+
+-- choose N, where N is below 2 ^ 32
+abbrev pub choice_of : Option ℕ → Option Event
+choice_of None = None
+choice_of (Some number) = if nat_lt number (2 ^ 32) then Some (event.Choose number) else None
+
+abbrev pub choice : List ℕ → Option Event
+choice digits = choice_of (number_of digits)
+
+-- an event, by the first word of its line and the text after the first space; a query is all of that text
 abbrev pub event_told : List ℕ → List ℕ → Option Event
 event_told word rest =
     if bytes_eq word (codes "key") then key_event rest
@@ -111,18 +126,13 @@ event_told word rest =
     else (if bytes_eq word (codes "set") then set_event (split_word rest)
     else (if bytes_eq word (codes "unset") then unset_event (split_word rest)
     else (if bytes_eq word (codes "enable") then enable_event rest
-    else (if bytes_eq word (codes "disable") then disable_event rest else None)))))
+    else (if bytes_eq word (codes "disable") then disable_event rest
+    else (if bytes_eq word (codes "palette") then Some (event.Palette rest)
+    else (if bytes_eq word (codes "choose") then choice rest else None)))))))
 
 -- register NATIVE, by one of the nine identifiers
 abbrev pub registration : List ℕ → Option Said
 registration name = option_map takes (named name)
-
--- a number below 2 ^ 64 of at least one decimal digit and nothing else
-abbrev pub number_of : List ℕ → Option ℕ
-number_of digits =
-    if list_all is_ascii_digit digits
-    && (not (nat_eq (length digits) 0) && nat_lt (digits_value 10 digits) (2 ^ 64))
-    then Some (digits_value 10 digits) else None
 
 -- dispose N
 abbrev pub disposal : List ℕ → Option Said
@@ -140,9 +150,11 @@ update rest (Some parts) = update_of parts.0 parts.1
 abbrev pub event_said : Option Event → Option Said
 event_said event = option_map (λ e. tells (happens e)) event
 
--- a line of one word: `reload` alone has the empty text
+-- a line of one word: `reload` alone has the empty text, and `palette` alone the empty query
 abbrev pub lone_said : List ℕ → Option Said
-lone_said word = if bytes_eq word (codes "reload") then Some (tells (reload [] [])) else None
+lone_said word =
+    if bytes_eq word (codes "reload") then Some (tells (reload [] []))
+    else (if bytes_eq word (codes "palette") then Some (tells (happens (event.Palette []))) else None)
 
 -- a line, by its first word and the text after the first space
 abbrev pub word_said : List ℕ → List ℕ → Option Said

@@ -22,8 +22,8 @@ use std::str;
 /// A parsed line of a script.
 #[derive(Drop)]
 pub enum ScriptLine<'a> {
-    /// An event: `key KEY`, `focus SCOPE`, `set SCOPE KEY JSON`, `unset SCOPE KEY`, `enable EXTENSION` or
-    /// `disable EXTENSION`; or `Unread` for a line that doesn't parse.
+    /// An event: `key KEY`, `focus SCOPE`, `set SCOPE KEY JSON`, `unset SCOPE KEY`, `palette [QUERY]`,
+    /// `choose N`, `enable EXTENSION` or `disable EXTENSION`; or `Unread` for a line that doesn't parse.
     Event(Event),
     /// `reload BYTES`: a reload of the user's rules from these bytes, which may be empty.
     Reload(&'a str),
@@ -111,7 +111,7 @@ fn read_words<'a>(alloc: Global, text: &'a str) -> Result<Option<ScriptLine<'a>>
 {
     match split_word(text) {
         Some((word, rest)) => read_word(alloc, word, rest),
-        None => Ok(read_lone(text)),
+        None => Ok(read_lone(alloc, text)),
     }
 }
 
@@ -146,6 +146,8 @@ fn read_event(alloc: Global, word: &str, rest: &str) -> Result<Option<Event>, No
         "unset" => read_unset(alloc, rest),
         "enable" => read_enable(alloc, rest),
         "disable" => read_disable(alloc, rest),
+        "palette" => Ok(Some(Event::Palette(Text::from_str(alloc, rest)?))),
+        "choose" => Ok(read_choice(rest)),
         _ => Ok(None),
     }
 }
@@ -157,11 +159,12 @@ fn split_word(text: &str) -> Option<(&str, &str)>
     text.split_once(' ')
 }
 
-fn read_lone(word: &str) -> Option<ScriptLine<'_>>
+fn read_lone(alloc: Global, word: &str) -> Option<ScriptLine<'_>>
     ensures { option_map said_by result ≡ script.lone_said word.now }
 {
     match word {
         "reload" => Some(ScriptLine::Reload("")),
+        "palette" => Some(ScriptLine::Event(Event::Palette(Text::new(alloc)))),
         _ => None,
     }
 }
@@ -225,6 +228,17 @@ fn is_digit(byte: u8) -> bool
     ensures { result ≡ is_ascii_digit byte }
 {
     byte.is_ascii_digit()
+}
+
+/// The choice of an entry, or `None` if the number isn't one below 2^32.
+fn read_choice(digits: &str) -> Option<Event>
+    ensures { result ≡ script.choice digits.now }
+{
+    let number = read_number(digits)?;
+    match u32::try_from(number) {
+        Ok(number) => Some(Event::Choose(number)),
+        Err(_) => None,
+    }
 }
 
 fn read_key(key: &str) -> Option<Event>

@@ -62,6 +62,10 @@ halt_halts old new is = (
       (λ (s : Traced State). s.trace) is,
 )
 
+-- an incomplete choice leaves the keystrokes
+choice_halts : (old new : State) → new ≡ half_done new.core old.pressed old → Halts old new
+choice_halts old new is = is ∙ ap (λ (s : State). half_done new.core s.pressed old) (sym is)
+
 -- refused memory stops a session, also after an incomplete input
 pub halts_at : (told : Told) (old new : Traced State) → HaltsAt told old new
     → Halts old.state new.state × (new.trace ≡ old.trace)
@@ -69,6 +73,8 @@ halts_at (happens (event.Key key)) old new h = h
 halts_at (happens (event.Focus name)) old new h = halt_halts old new h
 halts_at (happens (event.SetKey name key value)) old new h = halt_halts old new h
 halts_at (happens (event.UnsetKey name key)) old new h = halt_halts old new h
+halts_at (happens (event.Palette query)) old new h = halt_halts old new h
+halts_at (happens (event.Choose number)) old new h = (choice_halts old.state new.state h.0, h.1)
 halts_at (happens (event.Enable id)) old new h = halt_halts old new h
 halts_at (happens (event.Disable id)) old new h = halt_halts old new h
 halts_at (happens (event.Update id bytes)) old new h = halt_halts old new h

@@ -24,11 +24,13 @@ use Rattle.kb_resolve.specs.Pressed as press
 use Rattle.kb_resolve.specs.Pressed.{Step}
 use Rattle.kb_rules.specs.RuleList.{Listed}
 use Rattle.kb_base.specs.declared.note.Origin.TheVariants.{User}
+use Rattle.kb_palette.specs.declared.listing.Entry.{Entry}
+use Rattle.kb_session.specs.Palette.{entry_at}
 use Rattle.kb_session.specs.Press.{press_started, rule_started}
 use Rattle.kb_session.specs.State.{State, Told, Stepped, happens, reload, register, dispose, stops}
 use Rattle.kb_session.specs.State.{taken_unless, refusal_of, reloaded, registering, disposing}
 use Rattle.kb_session.specs.State.{disposing_unless, code_updated, disabling_refusal, enabling_refusal}
-use Rattle.kb_session.specs.State.{extension_refusal, is_new, named_in, switched, switched_to, updated}
+use Rattle.kb_session.specs.State.{choosing, extension_refusal, is_new, named_in, switched, switched_to, updated}
 use Rattle.kb_session.specs.State.{step_on, step_unless, IsSafe, RunsOn}
 use Rattle.kb_session.proofs.Stopping.{switched_quiet}
 use Rattle.kb_handler_table.specs.Codes.{CodesData}
@@ -171,6 +173,12 @@ updated_goes id bytes s (Some p) (Ok codes) is made running safe = (
 )
 updated_goes id bytes s p (Err refusal) is made running safe = (running, safe)
 
+-- an entry of the palette is chosen, if there is one
+choosing_goes : (e : Option Entry) (number : ℕ) (s : State) → s.stopped ≡ false → IsSafe s
+    → GoesOn (choosing e number s)
+choosing_goes (Some e) number s running safe = (command_starts s.live safe.sound e.command None s.core, safe)
+choosing_goes None number s running safe = (running, safe)
+
 taken_goes : (refusal : Option Refusal) (e : Event) (s : State) → refusal_of e s ≡ refusal → s.stopped ≡ false
     → IsSafe s → GoesOn (taken_unless refusal e s)
 taken_goes (Some refusal) e s is running safe = (running, safe)
@@ -182,6 +190,9 @@ taken_goes None (event.Key key) s is running safe = (
 taken_goes None (event.Focus name) s is running safe = (running, safe)
 taken_goes None (event.SetKey name key value) s is running safe = (running, safe)
 taken_goes None (event.UnsetKey name key) s is running safe = (running, safe)
+taken_goes None (event.Palette query) s is running safe = (running, safe)
+taken_goes None (event.Choose number) s is running safe =
+    choosing_goes (entry_at number s.listed) number s running safe
 taken_goes None (event.Enable id) s is running safe = (
   switched_quiet true (named_in id s) s ∙ running,
   enabled_safe id s (named_in id s) refl is safe,

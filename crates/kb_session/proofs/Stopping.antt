@@ -1,4 +1,4 @@
--- Only a key press can stop a running session.
+-- Only a key press and a choice can stop a running session.
 use Rattle.std.specs.Prelude.{⊤}
 use Rattle.std.proofs.Common.{◌≡◌, ◌∙◌, Bool, true, false, Option, Some, None, Result, Ok, Err, ℕ, ap, refl}
 use Rattle.kb_base.specs.declared.refusal.Refusal.{Refusal}
@@ -22,9 +22,10 @@ use Rattle.kb_trace.specs.declared.event.Answer.{Answer}
 use Rattle.kb_trace.specs.declared.event.Event.{Event}
 use Rattle.kb_trace.specs.declared.event.Event.TheVariants as event
 
--- the input is no key press
+-- the input is neither a key press nor a choice
 abbrev pub IsQuiet : Told → Type 0
 IsQuiet (happens (event.Key key)) = ⊥
+IsQuiet (happens (event.Choose number)) = ⊥
 IsQuiet told = ⊤
 
 pub switched_quiet : (enabled : Bool) (p : Option Placed) (s : State) → (switched enabled p s).stopped ≡ s.stopped
@@ -47,6 +48,8 @@ taken_quiet None (event.Key key) s quiet = absurd quiet
 taken_quiet None (event.Focus name) s quiet = refl
 taken_quiet None (event.SetKey name key value) s quiet = refl
 taken_quiet None (event.UnsetKey name key) s quiet = refl
+taken_quiet None (event.Palette query) s quiet = refl
+taken_quiet None (event.Choose number) s quiet = absurd quiet
 taken_quiet None (event.Enable id) s quiet = switched_quiet true (named_in id s) s
 taken_quiet None (event.Disable id) s quiet = switched_quiet false (named_in id s) s
 taken_quiet None (event.Update id bytes) s quiet =

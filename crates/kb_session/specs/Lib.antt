@@ -1,4 +1,5 @@
 pub mod Fault
+pub mod Palette
 pub mod Press
 pub mod Session
 pub mod State

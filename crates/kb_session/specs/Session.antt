@@ -111,16 +111,19 @@ Takes told old a new = Answers told old (answered a) new
 abbrev pub halt : Seen → Seen
 halt old = record old { state = record old.state { stopped = true } }
 
--- the same after an incomplete key press: the core and the keystrokes of the chord may have changed
+-- the same after an incomplete key press: the core and the keystrokes of the chord may have changed; or after
+-- an incomplete choice, where the keystrokes stay
 abbrev pub half_done : Core → List Keystroke → State → State
 half_done core pressed s = record s { core = core; pressed = pressed; stopped = true }
 
 abbrev pub Halts : State → State → Type 0
 Halts old new = new ≡ half_done new.core new.pressed old
 
--- only a key press can be incomplete, and the trace never has lines of an incomplete input
+-- only a key press and a choice can be incomplete, and the trace never has lines of an incomplete input
 abbrev pub HaltsAt : Told → Seen → Seen → Type 0
 HaltsAt (happens (event.Key key)) old new = Halts old.state new.state × (new.trace ≡ old.trace)
+HaltsAt (happens (event.Choose number)) old new =
+    (new.state ≡ half_done new.state.core old.state.pressed old.state) × (new.trace ≡ old.trace)
 HaltsAt told old new = new ≡ halt old
 
 -- the fault of a call that returns a refusal as an answer: refused memory, which stops the session, or
@@ -173,6 +176,11 @@ abbrev pub HalfDone : Seen → Seen → Type 0
 HalfDone old new =
     (new.state ≡ record old.state { core = new.state.core; pressed = new.state.pressed })
     × Begins old.trace new.trace
+
+-- a choice is incomplete
+abbrev pub HalfChosen : Seen → Seen → Type 0
+HalfChosen old new =
+    (new.state ≡ record old.state { core = new.state.core }) × Begins old.trace new.trace
 
 -- an extension was enabled or disabled, with its lines
 abbrev pub has_switched : Bool → List ℕ → Seen → Seen

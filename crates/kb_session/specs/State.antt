@@ -5,7 +5,7 @@ use Rattle.std.specs.Prelude.{Result, Ok, Err}
 use Rattle.std.specs.Option.{option_map_or}
 use Rattle.kb_base.specs.Refusal.{refused_for}
 use Rattle.kb_context.specs.ScopeFault.{number_of}
-use Rattle.kb_context.specs.Scopes.{ScopesData, place_of, set_fault, with_value, without_value}
+use Rattle.kb_context.specs.Scopes.{ScopesData, context, place_of, set_fault, with_value, without_value}
 use Rattle.kb_context.specs.Scopes.{with_focus}
 use Rattle.kb_context.specs.declared.fault.ScopeFault.{ScopeFault}
 use Rattle.kb_context.specs.declared.fault.ScopeFault.TheVariants.{UnknownScope}
@@ -32,6 +32,11 @@ use Rattle.kb_rules.specs.RuleList.{Listed}
 use Rattle.kb_base.specs.declared.note.Origin.TheVariants.{User}
 use Rattle.kb_base.specs.declared.note.UnreadPattern.{UnreadPattern}
 use Rattle.kb_bindings.specs.Sources.{Sources, with_enabled, with_user_rules, pressed, still_pressed}
+use Rattle.kb_palette.specs.History.{noted}
+use Rattle.kb_palette.specs.Listing.{palette_list}
+use Rattle.kb_palette.specs.declared.listing.Entry.{Entry}
+use Rattle.kb_palette_commands.specs.Palette.{palette_commands}
+use Rattle.kb_session.specs.Palette.{choice_started, entry_at, palette_lines}
 use Rattle.kb_session.specs.Press.{press_started}
 use Rattle.kb_execute.specs.Start.{Started}
 use Rattle.kb_execute.specs.declared.start.Finish.{Finish}
@@ -42,7 +47,8 @@ use Rattle.kb_trace.specs.Lines as line
 use Rattle.kb_trace.specs.declared.event.Event.{Event}
 use Rattle.kb_trace.specs.declared.event.Event.TheVariants as event
 
--- the unread patterns have one list for the load and one for each successful reload
+-- the unread patterns have one list for the load and one for each successful reload; `history` has the last
+-- choices, and `listed` the entries of the last palette, until one of them is chosen
 pub record State : Type 0 where
   pub core : Core
   pub sources : Sources
@@ -50,6 +56,8 @@ pub record State : Type 0 where
   pub pressed : List Keystroke
   pub stopped : Bool
   pub unread : List (List UnreadPattern)
+  pub history : List (List ℕ)
+  pub listed : Option (List Entry)
 
 -- an input of a session: an event; the bytes of the user's rules for a reload, with the marks of their
 -- unread patterns; a native whose closure is registered; or a ticket to dispose of
@@ -204,8 +212,27 @@ abbrev pub updated : Result CodesData Refusal → Option Placed → State → St
 updated (Ok codes) p s = stepped (with_code_of p codes s) (line.updated_line (spelled p) ∷ []) did
 updated (Err r) p s = refuse r s
 
--- the effect of an event without a refusal: a change of the focus ends a chord, and changes of keys don't; an
--- update may be refused yet, and a registration without a closure of the host is
+-- the entries of the palette for a query: the commands in force that it finds
+abbrev pub entries_for : List ℕ → State → List Entry
+entries_for query s =
+    palette_list (context s.core.scopes) query (palette_commands s.sources.extensions) s.history
+
+-- the palette lists entries; an open chord stays
+abbrev pub listing : List Entry → State → Stepped
+listing entries s = stepped (record s { listed = Some entries }) (palette_lines entries) did
+
+-- the state after a choice: the command is in the history, and the list is closed
+abbrev pub with_choice : List ℕ → State → State
+with_choice command s = record s { history = noted command s.history; listed = None }
+
+-- a choice starts the command of an entry without arguments, enabled or not; an open chord stays
+abbrev pub choosing : Option Entry → ℕ → State → Stepped
+choosing (Some e) number s =
+    begun (choice_started number e.command s.live s.core) s.pressed (with_choice e.command s)
+choosing None number s = refuse (refused_for 96) s
+
+-- the effect of an event without a refusal: a change of the focus ends a chord, and changes of keys don't; a
+-- choice and an update may be refused yet, and a registration without a closure of the host is
 abbrev pub taken : Event → State → Stepped
 taken (event.Key key) s = press key s
 taken (event.Focus name) s = leave (line.focus_line name) (in_scopes (with_focus s.core.scopes name) s)
@@ -213,6 +240,8 @@ taken (event.SetKey name key value) s =
     stepped (in_scopes (with_value s.core.scopes name key value) s) (line.set_line name key ∷ []) did
 taken (event.UnsetKey name key) s =
     stepped (in_scopes (without_value s.core.scopes name key) s) (line.unset_line name key ∷ []) did
+taken (event.Palette query) s = listing (entries_for query s) s
+taken (event.Choose number) s = choosing (entry_at number s.listed) number s
 taken (event.Enable id) s = switching true id s
 taken (event.Disable id) s = switching false id s
 taken (event.Update id bytes) s = updated (code_updated (named_in id s) bytes s) (named_in id s) s
@@ -282,6 +311,8 @@ loaded_state scopes sources live = record {
   pressed = [];
   stopped = false;
   unread = unread_of sources ∷ [];
+  history = [];
+  listed = None;
 }
 
 -- all handlers of a session are verified, and it is settled: no live handler traps

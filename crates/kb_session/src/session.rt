@@ -28,6 +28,7 @@ use kb_execute::{Finish, HeldCore};
 use kb_files::{Inputs, LoadFault, read_rules};
 use kb_keys::Keystroke;
 use kb_load_commands::{checked_commands, raw_commands};
+use kb_palette::{Entry, History};
 use kb_registry::{HostCommand, Registry};
 use kb_resolve::ChordState;
 use kb_rules::{Origin, RuleList};
@@ -39,11 +40,13 @@ use std::marker::Model;
 
 mod closures;
 mod extensions;
+mod palette;
 
 /// A session of the engine, with the host's closures for native commands. Contracts see its state and its
 /// trace. The state consists of the core with its text and scopes, the sources of the key bindings with the
 /// extensions and which of them are enabled, the commands that are live or not, the keystrokes of the open
-/// chord, whether the session is stopped, and the unread patterns of the load and of each reload.
+/// chord, whether the session is stopped, the unread patterns of the load and of each reload, the history of
+/// choices in the palette, and the entries of the last palette.
 ///
 /// Refused memory or a trap of a handler stops the session for good. Each later call returns `Stopped`.
 /// The trace then ends with the line of the trap, or with the last line before the call that was
@@ -56,6 +59,8 @@ pub struct Session<C: HostCommand> {
     chord: ChordState,
     stopped: bool,
     unread: Seq<Seq<UnreadPattern>>,
+    history: History,
+    listed: Option<Seq<Entry>>,
     trace: Lines,
     alloc: Global,
 }
@@ -91,6 +96,8 @@ impl<C: HostCommand> Model for Session<C> {
         pressed = s.chord;
         stopped = s.stopped;
         unread = s.unread;
+        history = s.history;
+        listed = s.listed;
       };
       trace = s.trace;
     } };
@@ -185,7 +192,7 @@ impl<C: HostCommand> Session<C> {
         ensures ok { IfOk result (λ session. session ≡ loaded_session scopes bindings registry) }
         ensures err { IfErr result (λ why. why ≡ failure.NoMemory) }
     {
-        let Ok(unread) = first_list(alloc, &bindings) else {
+        let Ok((unread, history)) = first_lists(alloc, &bindings) else {
             drop(bindings);
             return Err(Failure::NoMemory);
         };
@@ -196,6 +203,8 @@ impl<C: HostCommand> Session<C> {
             chord: ChordState::new(alloc),
             stopped: false,
             unread,
+            history,
+            listed: None,
             trace: Lines::new(alloc),
             alloc,
         })
@@ -264,10 +273,13 @@ impl<C: HostCommand> Session<C> {
     }
 
     /// Handles one event. A change of the focus, and an extension that is enabled or disabled, end an open
-    /// chord; a change of a key and an update of an extension don't. A handler that traps has its trace line,
-    /// and stops the session. (These are our decisions.)
+    /// chord; a change of a key, a palette, a choice and an update of an extension don't. The list of a palette
+    /// stays until an entry of it is chosen, or until the next palette. A chosen command starts without
+    /// arguments, also if it was disabled or hidden since. A handler that traps has its trace line, and stops
+    /// the session. (These are our decisions.)
     ///
-    /// Refusals: a scope that doesn't exist (20); a key too many (22); an extension that doesn't exist (92);
+    /// Refusals: a scope that doesn't exist (20); a key too many (22); a choice of an entry that the last
+    /// palette doesn't have, or without a palette (96); an extension that doesn't exist (92);
     /// enabling it while it depends on one that isn't enabled (93), or while a native command that its
     /// handlers call has no registered closure (74); disabling it while an enabled one depends on it (94); an
     /// update by a file with a fault (1 to 4, 40 to 44, 50 to 52), with other commands than before (95), or
@@ -275,7 +287,7 @@ impl<C: HostCommand> Session<C> {
     ///
     /// Errors: `Stopped` if the session was already stopped; `NoMemory` if memory was refused. Then the
     /// session is stopped and otherwise unchanged, except for the core and the chord if the event is a
-    /// key press.
+    /// key press, and for the core if it is a choice.
     pub fn handle(&mut self, event: Event) -> Result<Answer, SessionFault>
         ensures ok { IfOk result (λ answer. Takes (happens event) self.old answer self.new) }
         ensures err { IfErr result (λ fault. FailsAt fault (happens event) self.old self.new) }
@@ -309,6 +321,8 @@ impl<C: HostCommand> Session<C> {
                 scope.as_str(),
                 key.as_str(),
             )),
+            Event::Palette(query) => started_nothing(self.list_palette(query.as_str())),
+            Event::Choose(number) => self.choose(number),
             Event::Enable(id) => started_nothing(self.enable(id.as_str())),
             Event::Disable(id) => started_nothing(self.disable(id.as_str())),
             Event::Update(id, bytes) => {
@@ -561,13 +575,17 @@ impl<C: HostCommand> Session<C> {
     }
 }
 
-/// The lists of unread patterns of a new session: one list, for the load.
-fn first_list(alloc: Global, bindings: &Bindings) -> Result<Seq<Seq<UnreadPattern>>, NoMemory>
-    ensures { IfOk result (λ lists. lists ≡ unread_of bindings.now ∷ []) }
+/// The lists of a new session: of unread patterns one list, for the load; and of choices none.
+fn first_lists(
+    alloc: Global,
+    bindings: &Bindings,
+) -> Result<(Seq<Seq<UnreadPattern>>, History), NoMemory>
+    ensures unread { IfOk result (λ lists. lists.0 ≡ unread_of bindings.now ∷ []) }
+    ensures history { IfOk result (λ lists. lists.1 ≡ []) }
 {
     let mut lists = Seq::new(alloc);
     lists.push(bindings.unread(alloc)?)?;
-    Ok(lists)
+    Ok((lists, History::new(alloc)?))
 }
 
 /// Whether a command that ended in this way stops the session.

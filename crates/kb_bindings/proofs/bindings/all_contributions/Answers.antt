@@ -1,7 +1,7 @@
 use Rattle.std.proofs.Common.{◌≡◌, ◌∷◌, ◌+◌, drop, arith}
 use Rattle.std.proofs.lemmas.Grind.{common_steps}
 use Rattle.kb_bindings.specs.Sources.{contributions_of}
-use Rattle.kb_bindings.proofs.BindingLemmas.{one_more_list}
+use Rattle.kb_palette_commands.proofs.ListLemmas.{one_more_list}
 use Rattle.kb_bindings.proofs.bindings.all_contributions.Goals as goal
 
 pub loop-extension-preserved : goal.loop-extension-preserved

@@ -2,7 +2,8 @@ use Rattle.std.proofs.Common.{◌≡◌, ◌++◌, ◌∷◌, [], arith, Some, N
 use Rattle.std.specs.List.{slice_get}
 use Rattle.kb_manifest.specs.declared.command_table.Named.{Named}
 use Rattle.kb_bindings.specs.Sources.{contribution_of}
-use Rattle.kb_bindings.proofs.BindingLemmas.{one_contributed, none_left}
+use Rattle.kb_palette_commands.proofs.ListLemmas.{none_left}
+use Rattle.kb_bindings.proofs.BindingLemmas.{one_contributed}
 use Rattle.kb_bindings.proofs.bindings.contribute.Goals as goal
 use Rattle.kb_bindings.proofs.bindings.contribute.Goals.{in-Some+in_ok-contribution+in_ok-push, in_default}
 

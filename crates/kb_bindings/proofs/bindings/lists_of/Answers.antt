@@ -1,6 +1,6 @@
 use Rattle.std.proofs.Common.{◌≡◌, ◌∷◌, ◌++◌, ◌+◌, [], map, drop, arith}
 use Rattle.std.proofs.lemmas.Grind.{common_steps}
-use Rattle.kb_bindings.proofs.BindingLemmas.{one_more}
+use Rattle.kb_palette_commands.proofs.ListLemmas.{one_more}
 use Rattle.kb_bindings.proofs.bindings.lists_of.Goals as goal
 
 pub loop-extension-preserved : goal.loop-extension-preserved

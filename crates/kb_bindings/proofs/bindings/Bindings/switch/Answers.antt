@@ -3,6 +3,7 @@ use Rattle.kb_files.specs.declared.extension_file.Extension.{Extension}
 use Rattle.kb_bindings.specs.Sources.{Sources, enablement, rules_of}
 use Rattle.kb_files.specs.Enabled.{is_enabled_at, switched_at}
 use Rattle.kb_bindings.specs.Warning.{warnings_of}
+use Rattle.kb_palette_commands.specs.Palette.{palette_commands}
 use Rattle.kb_bindings.proofs.BindingLemmas.{same_warnings, switched_back}
 use Rattle.kb_bindings.proofs.bindings.Bindings.switch.Goals as goal
 
@@ -17,6 +18,7 @@ invariant_of-self c =
     record {
       rules_are = c.in-Ok.ensures.rules ∙ ap (λ es. rules_of (at es)) c.as_slice.ensures.value;
       enabled_is = c.in-Ok.ensures.enablements ∙ ap (λ es. enablement (at es)) c.as_slice.ensures.value;
+      palette_are = c.in-Ok.ensures.palette ∙ ap palette_commands c.as_slice.ensures.value;
       warnings_are = c.self.invariant.warnings_are ∙ sym (same_warnings c.args.place c.args.enabled old)
           ∙ ap (λ es. warnings_of (at es)) (sym c.set_enabled-before.ensures.set);
     }
@@ -37,6 +39,7 @@ invariant_of-self-in-Err c =
     record {
       rules_are = c.self.invariant.rules_are ∙ ap (λ es. rules_of (at es)) (sym back);
       enabled_is = c.self.invariant.enabled_is ∙ ap (λ es. enablement (at es)) (sym back);
+      palette_are = c.self.invariant.palette_are ∙ ap palette_commands (sym back);
       warnings_are = c.self.invariant.warnings_are ∙ ap (λ es. warnings_of (at es)) (sym back);
     }
 
