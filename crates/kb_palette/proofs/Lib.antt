@@ -1,6 +1,0 @@
-pub mod HistoryLaws
-pub mod HistoryLemmas
-pub mod ListingLemmas
-pub mod RowsLemmas
-pub mod SortedLemmas
-pub mod WordsLemmas
