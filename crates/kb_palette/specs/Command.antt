@@ -17,17 +17,14 @@ abbrev pub holds : Keys → Option MarkedClause → Bool
 holds keys None = true
 holds keys (Some clause) = value keys clause.marks clause.tree
 
--- there are no items, or one of them holds
-abbrev pub has_place : Keys → List (Option MarkedClause) → Bool
-has_place keys items = (length items == 0) || list_any (holds keys) items
-
 -- no item names the command, or one that names it holds
 abbrev pub is_visible : Keys → CommandData → Bool
-is_visible keys c = has_place keys c.items
+is_visible keys c = (length c.items == 0) || list_any (holds keys) c.items
 
 -- the command has no enablement, or its enablement holds
 abbrev pub is_enabled : Keys → CommandData → Bool
 is_enabled keys c = holds keys c.enablement
 
+-- the command is visible and enabled
 abbrev pub is_shown : Keys → CommandData → Bool
 is_shown keys c = is_visible keys c && is_enabled keys c

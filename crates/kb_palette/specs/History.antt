@@ -10,7 +10,7 @@ abbrev pub without : List ℕ → List (List ℕ) → List (List ℕ)
 without text [] = []
 without text (t ∷ ts) = if bytes_eq text t then ts else t ∷ without text ts
 
--- after a choice it is the first one, and at most 50 are kept
+-- the history after a choice: the choice comes first, and at most 50 are kept
 abbrev pub noted : List ℕ → List (List ℕ) → List (List ℕ)
 noted text ts = take 50 (text ∷ without text ts)
 
@@ -19,6 +19,7 @@ abbrev pub history_of : List (List ℕ) → List (List ℕ)
 history_of [] = []
 history_of (text ∷ past) = noted text (history_of past)
 
+-- the texts that don't equal `text`
 abbrev pub others : List ℕ → List (List ℕ) → List (List ℕ)
 others text = filter (λ t. not (bytes_eq text t))
 
@@ -33,6 +34,6 @@ distinct (text ∷ past) = text ∷ others text (distinct past)
 abbrev pub texts_of : {Z X : Type 0} → List (String Z × X) → List (List ℕ)
 texts_of = map (λ e. string_bytes e.0)
 
--- a table with room for 50 entries, and no more of them
+-- the table has room for 50 entries, and holds no more
 abbrev pub IsKept : {Z X : Type 0} → LruCache (String Z) X → Type 0
 IsKept cache = (cache.cap ≡ 50) × (length cache.entries ≤ 50)

@@ -4,7 +4,7 @@ use Rattle.std.specs.Char.{is_whitespace, encode_utf8}
 use Rattle.std.specs.List.{list_all, list_any, starts_with}
 use Rattle.caseless.specs.Caseless.{default_case_fold}
 
--- the words, behind the bytes of one that was begun
+-- these words, behind one that has begun with these bytes, if there are any
 abbrev pub closed : List ℕ → List (List ℕ) → List (List ℕ)
 closed [] words = words
 closed (b ∷ bs) words = (b ∷ bs) ∷ words

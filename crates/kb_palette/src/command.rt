@@ -2,7 +2,7 @@
 ghost use Rattle.std.specs.Prelude.{◌≡◌, IfOk, option_copied};
 ghost use Rattle.std.specs.List.{list_any};
 ghost use Rattle.kb_context.specs.Scopes.{context};
-ghost use Rattle.kb_palette.specs.Command.{holds, has_place, is_shown};
+ghost use Rattle.kb_palette.specs.Command.{holds, is_visible, is_shown};
 ghost use Rattle.kb_palette.specs.Listing.{is_found};
 
 use crate::words::{folded_words, matches};
@@ -12,9 +12,12 @@ use kb_when::SharedClause;
 use std::alloc::Global;
 use std::marker::Model;
 
-/// A command that the palette may list. It is visible if no item of the palette names it or at least one of
-/// its items holds, as VS Code's documentation of the menu `commandPalette` says. It is enabled if its
-/// enablement holds. A missing clause holds. Contracts see all but the folded words of its label.
+/// A command that the palette may list. It is shown if it is visible and enabled:
+/// - It is visible if no item of the palette names it, or if one of the items that name it holds (VS Code's
+///   documentation of the menu `commandPalette`; that one of several items is enough is our decision).
+/// - It is enabled if it has no enablement or its enablement holds (VS Code's documentation of commands).
+///
+/// An item without a clause holds. Contracts see all but the folded words of the label.
 #[derive(Drop)]
 pub struct PaletteCommand {
     command: Text,
@@ -43,7 +46,7 @@ impl Model for PaletteCommand {
 
 impl PaletteCommand {
     /// A command with its identifier, its label, its enablement, if it has one, and the clauses of the
-    /// palette's items that name it. The label's words are folded here, once. Error: `NoMemory`.
+    /// palette's items that name it. The words of the label are folded here, once. Error: `NoMemory`.
     pub fn new(
         alloc: Global,
         command: Text,
@@ -64,7 +67,7 @@ impl PaletteCommand {
         })
     }
 
-    /// The identifier.
+    /// The identifier of the command.
     pub fn command(&self) -> &str
         ensures { result.now ≡ self.now.command }
     {
@@ -93,21 +96,22 @@ impl PaletteCommand {
     fn is_shown(&self, scopes: &Scopes) -> Result<bool, NoMemory>
         ensures { IfOk result (λ answer. answer ≡ is_shown (context scopes.now) self.now) }
     {
-        if !has_place(self.items.as_slice(), scopes)? {
+        if !self.is_visible(scopes)? {
             return Ok(false);
         }
         holds(self.enablement.as_ref(), scopes)
     }
-}
 
-/// Whether there are no items, or one of them holds.
-fn has_place(items: &[Option<SharedClause>], scopes: &Scopes) -> Result<bool, NoMemory>
-    ensures { IfOk result (λ answer. answer ≡ has_place (context scopes.now) items.now) }
-{
-    if items.is_empty() {
-        return Ok(true);
+    /// Whether no item names the command, or one that names it holds.
+    fn is_visible(&self, scopes: &Scopes) -> Result<bool, NoMemory>
+        ensures { IfOk result (λ answer. answer ≡ is_visible (context scopes.now) self.now) }
+    {
+        let items = self.items.as_slice();
+        if items.is_empty() {
+            return Ok(true);
+        }
+        one_holds(items, scopes)
     }
-    one_holds(items, scopes)
 }
 
 /// Whether one of the items holds.

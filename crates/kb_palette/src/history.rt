@@ -9,8 +9,8 @@ use std::alloc::Global;
 use std::marker::Model;
 use std::num::NonZeroUsize;
 
-/// The last 50 distinct commands that were chosen in the palette (our decision). Contracts see their
-/// identifiers, the most recent first.
+/// The last 50 distinct commands that were chosen in the palette (our decision). Contracts see the list of
+/// their identifiers, the most recent choice first.
 #[derive(Drop)]
 pub struct History {
     cache: LruCache<String, ()>,
@@ -38,9 +38,9 @@ impl History {
         })
     }
 
-    /// Notes that a command was chosen: it is now the most recent choice. If 50 others were chosen since it
-    /// was last chosen, or it never was, the least recent of 50 choices is forgotten. Error: `NoMemory`, only
-    /// if the command is not among the choices; the history is then unchanged.
+    /// Notes that a command was chosen: it is then the most recent choice. If it is not among the choices and
+    /// there are 50, the least recent one is forgotten. Error: `NoMemory`, only if the command is not among
+    /// the choices; the history is then unchanged.
     pub fn note(&mut self, command: &str) -> Result<(), NoMemory>
         ensures ok { OnOk result (self.new ≡ noted command.now self.old) }
         ensures err { OnErr result (self.new ≡ self.old) }
@@ -53,7 +53,7 @@ impl History {
         Ok(())
     }
 
-    /// The place of a command, which is 0 for the most recent choice.
+    /// The place of a command among the choices, which is 0 for the most recent one, or `None`.
     pub(crate) fn place(&self, command: &str) -> Option<usize>
         ensures { result ≡ position (bytes_eq command.now) self.now }
     {

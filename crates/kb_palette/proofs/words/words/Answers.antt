@@ -15,7 +15,8 @@ loop-c-preserved-in-Continue-1 c =
       text = IsUtf8-past_char _ _ c.in-Some.c held.text parts;
       words = white-step c.loop-c.words.items c.close.new.words.items c.loop-c.word c.replace.result
           c.replace.new.dest (chars (chars_rest c.next.new.self)) c.in-Some.c (words c.args.text.now)
-          c.in_ok-close.ensures c.replace.ensures.value (c.replace.ensures.after ∙ c.new.ensures) white whole;
+          c.in_ok-close.ensures c.replace.ensures.value (c.replace.ensures.after ∙ c.new.ensures) white
+          whole;
     }
 
 pub loop-c-preserved : goal.loop-c-preserved
@@ -27,9 +28,11 @@ loop-c-preserved c =
     record {
       text = IsUtf8-past_char _ _ c.in-Some.c held.text parts;
       words = other-step c.loop-c.words.items c.loop-c.word c.push.new.self
-          (chars (chars_rest c.next.new.self)) c.in-Some.c (words c.args.text.now) c.in_ok-push.ensures.ok other
-          whole;
+          (chars (chars_rest c.next.new.self)) c.in-Some.c (words c.args.text.now) c.in_ok-push.ensures.ok
+          other whole;
     }
 
 pub returns : goal.returns
-returns c = c.in_ok-close-2.ensures ∙ (rw (chars-empty _ c.in-None.ensures.steps.0.0) at c.loop-c.invariant.words)
+returns c =
+    let held = c.loop-c.invariant in
+    c.in_ok-close-2.ensures ∙ (rw (chars-empty (chars_rest c.loop-c.c-iterator) c.in-None.ensures.steps.0.0) at held.words)
