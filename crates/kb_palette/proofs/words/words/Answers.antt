@@ -35,4 +35,5 @@ loop-c-preserved c =
 pub returns : goal.returns
 returns c =
     let held = c.loop-c.invariant in
-    c.in_ok-close-2.ensures ∙ (rw (chars-empty (chars_rest c.loop-c.c-iterator) c.in-None.ensures.steps.0.0) at held.words)
+    let none = chars-empty (chars_rest c.loop-c.c-iterator) c.in-None.ensures.steps.0.0 in
+    c.in_ok-close-2.ensures ∙ (rw none at held.words)
