@@ -23,11 +23,12 @@ fn words(alloc: Global, text: &str) -> Result<Vec<Text>, NoMemory>
     let mut words = Vec::new(alloc);
     let mut word = Text::new(alloc);
     for c in text.chars() {
-        if c.is_whitespace() {
-            close(&mut words, mem::replace(&mut word, Text::new(alloc)))?;
-        } else {
+        if !c.is_whitespace() {
             word.push(c)?;
+            continue;
         }
+        let ended = mem::replace(&mut word, Text::new(alloc));
+        close(&mut words, ended)?;
     }
     close(&mut words, word)?;
     Ok(words)
