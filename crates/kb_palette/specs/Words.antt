@@ -15,7 +15,7 @@ words_from begun [] = closed begun []
 words_from begun (c ∷ cs) =
     if is_whitespace c then closed begun (words_from [] cs) else words_from (begun ++ encode_utf8 c) cs
 
--- the parts of a text between white space
+-- the parts of a text between white space, without empty ones
 abbrev pub words : List ℕ → List (List ℕ)
 words text = words_from [] (chars text)
 

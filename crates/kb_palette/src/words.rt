@@ -16,7 +16,7 @@ pub(crate) fn folded_words(alloc: Global, text: &str) -> Result<Vec<Text>, NoMem
     words(alloc, folded.as_str())
 }
 
-/// The parts of a text between white space.
+/// The parts of a text between white space, without empty ones.
 fn words(alloc: Global, text: &str) -> Result<Vec<Text>, NoMemory>
     ensures { IfOk result (λ made. made.items ≡ words text.now) }
 {
