@@ -1,0 +1,5 @@
+pub mod Command
+pub mod History
+pub mod Listing
+pub mod Rows
+pub mod Words
