@@ -13,3 +13,4 @@ pub mod Joins
 pub mod SoundRows
 pub mod Removals
 pub mod Exchanges
+pub mod Switches

@@ -11,7 +11,7 @@ use Rattle.kb_core.specs.declared.native.Native.{Native}
 use Rattle.kb_core.specs.Declaration.{Declaration}
 use Rattle.kb_core.specs.Native.{named}
 use Rattle.kb_code.specs.Handler.{HandlerData, handler_named}
-use Rattle.kb_code.specs.Commands.{Callee, Coded, declared_by}
+use Rattle.kb_code.specs.Commands.{Callee, Coded, Table, declared_by}
 use Rattle.kb_handler_table.specs.Apart.{AreApart}
 use Rattle.kb_handler_table.specs.Codes.{CodesData, checked_in}
 use Rattle.kb_handler_table.specs.Live.{Group, handlers_in, is_reserved, is_taken, has_taken, live_group, live_in}
@@ -145,6 +145,36 @@ unreserved above (x ∷ hs) e name h is =
         ap named its ∙ nothing (named x.command) (or_false (is_some (named x.command)) _ plain).0
     by false same plain rest is = rest is
 
+-- ---- handlers that become live
+
+-- if live commands stay live and some handlers become live, those that may join are verified then
+module _ (live : Live) (handlers : List HandlerData) (new : Table) (stay : Stays (table_of live) new)
+    (come : (name : List ℕ) (h : HandlerData) → handler_named name handlers ≡ Some h →
+    new name ≡ Some (Coded h)) where
+  -- the declaration of one of the handlers is that of the live command afterwards
+  declared_comes : (o : Option (List ℕ)) (d : Declaration) →
+      option_map (λ (g : HandlerData). g.signature)
+      (option_and_then (λ name. handler_named name handlers) o) ≡ Some d →
+      option_map declared_by (option_and_then new o) ≡ Some d
+  declared_comes None d e = absurd (cc)
+  declared_comes (Some name) d e = by (handler_named name handlers) refl e
+    where
+      by : (o : Option HandlerData) → handler_named name handlers ≡ o →
+          option_map (λ (g : HandlerData). g.signature) o ≡ Some d →
+          option_map declared_by (new name) ≡ Some d
+      by None is e = absurd (cc)
+      by (Some h) is e = ap (option_map declared_by) (come name h is) ∙ e
+
+  -- a handler that may join is verified afterwards
+  pub joins : (h : HandlerData) → MayJoin live handlers h → IsVerified new h
+  joins h may = record {
+    commands = may.commands;
+    accepted = may.accepted;
+    callees = λ p n d c. ⊎_elim
+        (declared_stays (table_of live) new (slice_get h.calls n) (λ name c is. stay name c) d)
+        (declared_comes (slice_get h.calls n) d) (may.callees p n d c);
+  }
+
 -- ---- the live commands after the addition
 
 -- an added handler has another name than those that are there, also those that aren't live
@@ -194,32 +224,7 @@ module _ (extension : ℕ) (codes : CodesData) (live : Live)
       coded_live name then_live h (unreserved (handlers_in live.code) codes.handlers untaken name h is)
       (comes name h is)
 
-  -- the declaration of an added handler is that of the live command afterwards
-  declared_comes : (o : Option (List ℕ)) (d : Declaration) →
-      option_map (λ (g : HandlerData). g.signature)
-      (option_and_then (λ name. handler_named name codes.handlers) o) ≡ Some d →
-      option_map declared_by (option_and_then (table_of then_live) o) ≡ Some d
-  declared_comes None d e = absurd (cc)
-  declared_comes (Some name) d e = by (handler_named name codes.handlers) refl e
-    where
-      by : (o : Option HandlerData) → handler_named name codes.handlers ≡ o →
-          option_map (λ (g : HandlerData). g.signature) o ≡ Some d →
-          option_map declared_by (table_of then_live name) ≡ Some d
-      by None is e = absurd (cc)
-      by (Some h) is e = ap (option_map declared_by) (comes_live name h is) ∙ e
-
-  -- a handler that may join is verified afterwards
-  joins : (h : HandlerData) → MayJoin live codes.handlers h → IsVerified (table_of then_live) h
-  joins h may = record {
-    commands = may.commands;
-    accepted = may.accepted;
-    callees = λ p n d c. ⊎_elim
-        (declared_stays (table_of live) (table_of then_live) (slice_get h.calls n)
-        (λ name c is. stays name c) d)
-        (declared_comes (slice_get h.calls n) d) (may.callees p n d c);
-  }
-
-  -- and so is each live handler
+  -- each live handler is verified afterwards, if the added ones may join
   verified_then : All (MayJoin live codes.handlers) codes.handlers → IsSound live →
       (name : List ℕ) (h : HandlerData) → named name ≡ None →
       handler_named name (live_in then_live.code) ≡ Some h →
@@ -230,7 +235,8 @@ module _ (extension : ℕ) (codes : CodesData) (live : Live)
       (sym (old_found (λ g. bytes_eq name g.command) extension codes live.code before) ∙ is)))
   verified_then all sound name h none is (Some g) before =
       let same : g ≡ h = cc (comes name g before, is) in
-      joins h (found_all (MayJoin live codes.handlers) (λ g. bytes_eq name g.command) codes.handlers h
+      joins live codes.handlers (table_of then_live) stays comes_live h
+      (found_all (MayJoin live codes.handlers) (λ g. bytes_eq name g.command) codes.handlers h
       all (before ∙ ap Some same))
 
 -- ---- a registry with more code

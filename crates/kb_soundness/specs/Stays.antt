@@ -1,14 +1,15 @@
 -- Changes of the live commands keep each live handler verified.
-use Rattle.std.specs.Prelude.{◌≡◌, ℕ, List, [], ◌∷◌, Some, None}
+use Rattle.std.specs.Prelude.{◌≡◌, ℕ, true, false, List, [], ◌∷◌, Some, None, IfSome}
 use Rattle.kb_core.specs.declared.native.Native.{Native}
 use Rattle.kb_core.specs.Native.{named}
 use Rattle.kb_code.specs.Handler.{handler_named}
 use Rattle.kb_handler_table.specs.Apart.{AreApart}
-use Rattle.kb_handler_table.specs.Codes.{CodesData, AreChecked, checked_in}
-use Rattle.kb_handler_table.specs.Live.{Group, handlers_in}
+use Rattle.kb_handler_table.specs.Codes.{CodesData, AreChecked, CalleesAreChecked, checked_in}
+use Rattle.kb_handler_table.specs.Live.{Group, group_of, handlers_in}
 use Rattle.kb_registry.specs.Live.{Live, table_of, fresh, registered, disposed, disposal_fault, with_code}
-use Rattle.kb_registry.specs.Live.{with_exchanged, without_code}
+use Rattle.kb_registry.specs.Live.{with_exchanged, with_switched, without_code}
 use Rattle.kb_registry.specs.CodeFault.{code_fault, code_disposal_fault, exchange_fault}
+use Rattle.kb_registry.specs.Missing.{missing_callee}
 use Rattle.kb_soundness.specs.Sound.{AllVerified}
 
 -- all handlers of the groups are of verified code
@@ -61,3 +62,15 @@ abbrev pub CodeExchangedStaysSound : Type 0
 CodeExchangedStaysSound = (extension : ℕ) (codes : CodesData) (live : Live) →
     exchange_fault extension codes live ≡ None → AreChecked codes → IsSound live →
     IsSound (with_exchanged extension codes live)
+
+-- so does switching code off whose removal isn't refused: no other live handler calls one of its handlers
+abbrev pub CodeSwitchedOffStaysSound : Type 0
+CodeSwitchedOffStaysSound = (extension : ℕ) (live : Live) → code_disposal_fault extension live ≡ None →
+    IsSound live → IsSound (with_switched extension false live)
+
+-- so does switching code on of which no callee is missing; that its callees were checked holds of all code
+abbrev pub CodeSwitchedOnStaysSound : Type 0
+CodeSwitchedOnStaysSound = (extension : ℕ) (live : Live) →
+    IfSome (group_of extension live.code)
+    (λ codes. CalleesAreChecked codes.handlers codes.callees × (missing_callee codes live ≡ None)) →
+    IsSound live → IsSound (with_switched extension true live)

@@ -4,6 +4,7 @@ ghost use Rattle.kb_soundness.specs.Callees.{VerifiedByCallees};
 ghost use Rattle.kb_soundness.specs.Stays.{FreshIsSound, RegisteredStaysSound, DisposedStaysSound};
 ghost use Rattle.kb_soundness.specs.Stays.{CodeStaysSound, NoCodeStaysSound};
 ghost use Rattle.kb_soundness.specs.Stays.{CodeDisposedStaysSound, CodeExchangedStaysSound};
+ghost use Rattle.kb_soundness.specs.Stays.{CodeSwitchedOffStaysSound, CodeSwitchedOnStaysSound};
 
 /// The run of a verified handler with fitting arguments ends without a trap, in each state of the core.
 pub fn never_stuck()
@@ -60,4 +61,16 @@ pub fn code_disposed_stays_sound()
 /// verified code, unless the registry refuses it.
 pub fn code_exchanged_stays_sound()
     ensures { CodeExchangedStaysSound }
+{}
+
+/// If each live handler is verified, this still holds after the code of an extension is switched off,
+/// unless the registry would refuse its removal.
+pub fn code_switched_off_stays_sound()
+    ensures { CodeSwitchedOffStaysSound }
+{}
+
+/// If each live handler is verified, this still holds after the code of an extension is switched on, if it
+/// has no missing callee. That its callees were checked is what `Codes::callees` says of all code.
+pub fn code_switched_on_stays_sound()
+    ensures { CodeSwitchedOnStaysSound }
 {}

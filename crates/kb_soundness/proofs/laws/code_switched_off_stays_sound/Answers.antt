@@ -1,0 +1,5 @@
+use Rattle.kb_soundness.proofs.Switches.{code_switched_off_stays_sound}
+use Rattle.kb_soundness.proofs.laws.code_switched_off_stays_sound.Goals as goal
+
+pub returns : goal.returns
+returns c = code_switched_off_stays_sound
