@@ -1,53 +1,35 @@
 -- Why a script over memory fails in a session that was just loaded.
-use Rattle.std.proofs.Common.{◌≡◌, ◌∙◌, sym, ap, subst, true, false, List, [], ◌∷◌, ℕ}
+use Rattle.std.proofs.Common.{◌≡◌, ap, false, List, ℕ}
 use Rattle.std.specs.Prelude.{Option, Some, Result, Err}
 use Rattle.kb_base.specs.declared.failure.Failure.{Failure}
 use Rattle.kb_base.specs.declared.failure.Failure.TheVariants.{Fault}
 use Rattle.kb_core.specs.declared.native.Native.{Native}
 use Rattle.kb_end_to_end.specs.Transcript.{FailsToRun}
 use Rattle.kb_script.specs.ScriptRun.{Answers, Fails}
-use Rattle.kb_script.specs.Shelf.{Said, Stand, move, move_unless, told_by}
+use Rattle.kb_script.proofs.SafeScripts.{memory_alone_stops}
+use Rattle.kb_script.specs.Shelf.{Stand}
 use Rattle.kb_script.specs.declared.fault.ScriptFault.{ScriptFault}
 use Rattle.kb_script.specs.declared.fault.ScriptFault.TheVariants as script
 use Rattle.kb_bindings.specs.Load.{Files}
-use Rattle.kb_session.proofs.Sound.{runs_on}
 use Rattle.kb_session.specs.Session.{IsOf}
 use Rattle.kb_session.specs.State.{IsSafe, State}
-use Rattle.kb_stream.specs.Fold.{Traced, fold}
+use Rattle.kb_stream.specs.Fold.{Traced}
 
 -- a session that was just loaded isn't stopped
 pub loaded_runs : (files : Files) (natives : List Native) (session : Traced State) → IsOf files natives session
     → session.state.stopped ≡ false
 loaded_runs files natives session is = ap (λ (s : Traced State). s.state.stopped) is.is
 
--- no line of a script stops it, since no verified handler traps
-moves_on : (said : Said) (s : Stand) → s.state.stopped ≡ false → IsSafe s.state
-    → ((move said s).state.state.stopped ≡ false) × IsSafe (move said s).state.state
-moves_on said s running safe =
-    subst
-    (λ b. ((move_unless b said s).state.state.stopped ≡ false) × IsSafe (move_unless b said s).state.state)
-    (sym running) (runs_on (told_by said s.shelf) s.state running safe)
-
-folds_on : (said : List Said) (s : Stand) → s.state.stopped ≡ false → IsSafe s.state
-    → (fold move said s).state.state.stopped ≡ false
-folds_on [] s running safe = running
-folds_on (x ∷ xs) s running safe =
-    let p = moves_on x s running safe in folds_on xs (move x s).state p.0 p.1
-
-apart : false ≡ true → ⊥
-apart e = cc
-
 pub fails_to_run : (fault : ScriptFault) (text : List ℕ) (left : Option (List ℕ)) (old new : Traced Stand)
     (before after : Option (List ℕ)) → old.state.state.stopped ≡ false → IsSafe old.state.state
     → Fails (Fault fault) (Some text) left old new before after → FailsToRun fault text
 fails_to_run script.Stopped text left old new before after running safe fails =
-    absurd (apart (sym running ∙ fails.stopped))
+    memory_alone_stops (Err (Fault script.Stopped)) (Some text) left old new before after running safe fails
 fails_to_run script.TooLong text left old new before after running safe fails = fails.reader
 fails_to_run script.ReadFailed text left old new before after running safe fails = tt
 fails_to_run script.WriteFailed text left old new before after running safe fails = tt
 fails_to_run script.Trapped text left old new before after running safe fails =
-    apart (sym (folds_on fails.said old.state running safe)
-    ∙ sym (ap (λ (s : Traced Stand). s.state.state.stopped) fails.ran.session) ∙ fails.stopped)
+    memory_alone_stops (Err (Fault script.Trapped)) (Some text) left old new before after running safe fails
 
 -- the same for the result of the script
 pub answered_fault : (ran : Result (Unit {0}) (Failure ScriptFault)) (fault : ScriptFault) (text : List ℕ)

@@ -12,8 +12,13 @@ pub use Rattle.kb_core.specs.Ran
 pub use Rattle.kb_core.specs.Signature
 pub use Rattle.kb_keys.specs.Keystroke
 pub use Rattle.kb_keys.specs.Platform
+pub use Rattle.kb_palette.specs.Command
+pub use Rattle.kb_palette.specs.History
+pub use Rattle.kb_palette.specs.Listing
+pub use Rattle.kb_palette_commands.specs.Palette
 pub use Rattle.kb_script.specs.ScriptRun
 pub use Rattle.kb_script.specs.Shelf
+pub use Rattle.kb_session.specs.Headline
 pub use Rattle.kb_session.specs.Press
 pub use Rattle.kb_session.specs.Session
 pub use Rattle.kb_session.specs.State

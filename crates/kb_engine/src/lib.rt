@@ -18,6 +18,9 @@ pub use kb_trace::{Answer, Event};
 pub use kb_core::{Arg, Args, Buffer, Core, NATIVES, Native, Ran, Signature, at_budget, plain};
 pub use kb_registry::{HostCommand, NativeCommand, Run, Ticket};
 
+// The command palette.
+pub use kb_palette::{Entry, History, PaletteCommand, list};
+
 // Scripts.
 pub use kb_script::{SCRIPT_LIMIT, ScriptFault, run_script};
 

@@ -1,3 +1,4 @@
 pub mod DirectoryLemmas
+pub mod HeadlineLemmas
 pub mod ReportLemmas
 pub mod RunLemmas

@@ -1,13 +1,13 @@
 -- The exit statuses of runs.
-use Rattle.std.proofs.Common.{◌≡◌, ◌⊎◌, ℕ, Bool, true, false, List, Result, Ok, Err, refl, sym, subst, inl, inr}
+use Rattle.std.proofs.Common.{◌≡◌, ◌⊎◌, ℕ, Bool, true, false, List, Result, Ok, Err, ◌∙◌, refl, sym, subst, inl, inr}
 use Rattle.std.specs.Prelude.{Option, if◌then◌else◌}
 use Rattle.std.specs.Borrow.{Bor}
-use Rattle.kb_disk.specs.Files.{Held}
+use Rattle.kb_disk.specs.Files.{Held, unknown}
 use Rattle.kb_exit.specs.Report.{stop_status}
 use Rattle.kb_exit.specs.declared.outcome.Stop.{Stop}
 use Rattle.kb_exit.specs.declared.outcome.Stop.TheVariants.{Unread, Load, Script, NoMemory}
 use Rattle.kb_options.specs.declared.given.Options.{Options}
-use Rattle.kb_run.specs.Report.{IsStatus, RunsAndReports, is_trap, is_trapped, status_by}
+use Rattle.kb_run.specs.Report.{IsStatus, RunsAndReports, RunsOnSystem, is_trap, is_trapped, status_by}
 use Rattle.kb_run.specs.Run.{Closures, Outputs}
 use Rattle.kb_run.specs.declared.setup.Verification.{Verification}
 use Rattle.kb_run.specs.declared.setup.Verification.TheVariants.{Verified, Raw}
@@ -47,3 +47,21 @@ is_reported verification held given closures input o status runs =
     is_status verification runs.end status runs.status_is
 
 pub ruleset status = (is_status, is_reported)
+
+refused_status : (verification : Verification) → status_by verification (Err NoMemory) ≡ 4
+refused_status Verified = refl
+refused_status Raw = refl
+
+-- memory was refused before a run over the system
+pub refused_on_system : (verification : Verification) (given : Options) (closures : Closures) (status : ℕ)
+    → status ≡ status_by verification (Err NoMemory) → RunsOnSystem verification given closures status
+refused_on_system verification given closures status is = inl (is ∙ refused_status verification)
+
+-- a run over the system was carried out and reported
+pub ran_on_system : (verification : Verification) (given : Options) (closures : Closures)
+    (input : Option (List ℕ)) (o : Outputs) (status : ℕ)
+    → RunsAndReports verification (λ path. unknown) given closures input o status
+    → RunsOnSystem verification given closures status
+ran_on_system verification given closures input o status runs = inr (input, (o, runs))
+
+pub ruleset on_system = (refused_on_system, ran_on_system)

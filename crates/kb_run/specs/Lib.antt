@@ -1,3 +1,4 @@
 pub mod Directory
+pub mod Headline
 pub mod Run
 pub mod Report

@@ -2,7 +2,7 @@
 use Rattle.std.specs.Prelude.{◌≡◌, ◌⊎◌, ◌∷◌, ◌++◌, [], ℕ, Bool, true, false, List, Option, Result, Ok, Err}
 use Rattle.std.specs.Prelude.{codes, if◌then◌else◌}
 use Rattle.std.specs.Borrow.{Bor}
-use Rattle.kb_disk.specs.Files.{Held}
+use Rattle.kb_disk.specs.Files.{Held, unknown}
 use Rattle.kb_exit.specs.Report.{stop_line, stop_status}
 use Rattle.kb_exit.specs.Voice.{Heard, Says}
 use Rattle.kb_exit.specs.declared.outcome.Stop.{Stop}
@@ -62,3 +62,11 @@ pub record RunsAndReports (verification : Verification) (held : List ℕ → Hel
 abbrev pub IsStatus : Verification → ℕ → Type 0
 IsStatus verification status = (status ≡ 0) ⊎ ((status ≡ 2) ⊎ ((status ≡ 3) ⊎ ((status ≡ 4)
     ⊎ ((verification ≡ Raw) × (status ≡ 5)))))
+
+-- a run over the system, of whose files, streams and console contracts know nothing: it is carried out, and its
+-- end is reported; or memory was refused before it began
+abbrev pub RunsOnSystem : Verification → Options → Closures → ℕ → Type 0
+RunsOnSystem verification given closures status =
+    (status ≡ 4)
+    ⊎ ((input : Option (List ℕ)) × ((o : Outputs)
+    × RunsAndReports verification (λ path. unknown) given closures input o status))

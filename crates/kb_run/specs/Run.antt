@@ -13,6 +13,7 @@ use Rattle.kb_exit.specs.Voice.{Heard, Says}
 use Rattle.kb_exit.specs.declared.outcome.Stop.{Stop}
 use Rattle.kb_exit.specs.declared.outcome.Stop.TheVariants.{Unread, Load, Script, NoMemory}
 use Rattle.kb_run.specs.Directory.{HasDirectories, FailsInDirectories, bytes_held}
+use Rattle.kb_run.specs.Headline.{KeepsHeadline}
 use Rattle.kb_run.specs.declared.run.FileBytes.{FileBytes}
 use Rattle.kb_options.specs.declared.given.Options.{Options}
 use Rattle.kb_script.specs.ScriptRun.{Answers}
@@ -95,7 +96,7 @@ HasLoadFault Verified files natives fault =
 HasLoadFault Raw files natives fault = raw_load_held files natives ≡ Err fault
 
 -- a session was loaded with the host's closures, a line was written for each of its warnings, and the script
--- was run
+-- was run: what was written is the plain model's text for the session and the script, as far as the run came
 pub record Played (verification : Verification) (files : Files) (closures : Closures)
     (script : Option (List ℕ)) (o : Outputs) (end : Result (Unit {0}) Stop) : Type 0 where
   pub session : Traced State
@@ -104,6 +105,7 @@ pub record Played (verification : Verification) (files : Files) (closures : Clos
       (warning_text session.state.sources (warnings_of session.state.sources))
   pub new : Traced Stand
   pub plays : PlaysAny script (beside session closures.shelf) new o.had o.has end
+  pub headline : KeepsHeadline verification session.state end
 
 -- why nothing was loaded
 abbrev pub FailsToLoad : Verification → Files → List Native → Stop → Type 0

@@ -8,6 +8,7 @@ ghost use Rattle.kb_run.specs.Run.{closures_of, script_bytes, warning_text};
 ghost use Rattle.kb_run.specs.Run.{HasFiles, FailsReadingFiles, files_in};
 ghost use Rattle.kb_bindings.specs.Load.{files_of};
 ghost use Rattle.kb_script.specs.Shelf.{beside};
+ghost use Rattle.kb_run.specs.Headline.{IsSound};
 ghost use Rattle.kb_run.specs.Run.{LoadsBy};
 ghost use Rattle.kb_bindings.specs.Warning.{warnings_of};
 
@@ -77,13 +78,15 @@ fn play_any<'a, S: Read + Drop, I: Read, O: Write + Drop, H: HostCommand>(
 }
 
 /// Loads a session from the files, with the host's closures.
+#[tactic(auto, using(crate::proofs::HeadlineLemmas::is_sound))]
 fn load<H: HostCommand>(
     alloc: Global,
     verification: Verification,
     inputs: Inputs<'_>,
     natives: Vec<H>,
 ) -> Result<Session<H>, Failure<LoadFault>>
-    ensures { LoadsBy verification (files_of inputs.entry) (map H.stands_for natives.items) result }
+    ensures read { LoadsBy verification (files_of inputs.entry) (map H.stands_for natives.items) result }
+    ensures sound { IfOk result (λ session. IsSound verification session.state) }
 {
     match verification {
         Verification::Verified => Session::load(alloc, inputs, natives),
@@ -92,7 +95,7 @@ fn load<H: HostCommand>(
 }
 
 /// Loads a session, writes its warnings, and runs the script.
-#[tactic(auto, using(crate::proofs::RunLemmas::loading))]
+#[tactic(auto, using(crate::proofs::RunLemmas::loading, crate::proofs::HeadlineLemmas::keeps_headline))]
 fn run_loaded<
     'a,
     S: Read + Drop,
@@ -224,6 +227,10 @@ fn run_files<
 /// script. The first file that cannot be read or opened ends the run; a directory need not have handlers.
 /// The load registers the host's closures, and the script takes more of them from the shelf. Warnings of the
 /// load are written before the script runs.
+///
+/// With verified handlers the headline of the product holds (`KeepsHeadline`): the trace is the plain model's, each
+/// key starts exactly the command of the last rule whose keystrokes, clause and enablement match, or opens, keeps
+/// or leaves a chord, no handler gets stuck, and nothing but refused memory stops the session.
 ///
 /// Errors: why the run stopped before its end.
 #[tactic(auto, using(crate::proofs::RunLemmas::files))]

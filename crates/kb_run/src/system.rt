@@ -1,7 +1,8 @@
 //! Runs a program over the system. Golden tests of the built programs cover what no contract says of it.
-ghost use Rattle.std.specs.Prelude.{◌≡◌};
+ghost use Rattle.std.specs.Prelude.{◌≡◌, map};
 ghost use Rattle.std.specs.Process.{exit_status};
-ghost use Rattle.kb_run.specs.Report.{IsStatus};
+ghost use Rattle.kb_run.specs.Report.{IsStatus, RunsOnSystem};
+ghost use Rattle.kb_run.specs.Run.{closures_of};
 
 use crate::report::{report, run_and_report};
 use crate::setup::{Setup, Verification};
@@ -16,16 +17,19 @@ use std::io::BufWriter;
 use std::process::ExitCode;
 use std::rt::Files;
 
-/// Runs what the options ask for, over the system's files and streams, and returns the exit status: 0, 2, 3
-/// or 4, or 5 with raw handlers.
-#[tactic(auto, using(crate::proofs::ReportLemmas::status))]
+/// Runs what the options ask for, over the system's files and streams, as `run_and_report` does, and returns the
+/// exit status: 0, 2, 3 or 4, or 5 with raw handlers.
+#[tactic(auto, using(crate::proofs::ReportLemmas::status, crate::proofs::ReportLemmas::on_system))]
 pub fn run_on_system<R: Files + Print + Eprint + Input, H: HostCommand>(
     rt: &R,
     alloc: Global,
     setup: Setup<H>,
     given: Options<'_>,
 ) -> u8
-    ensures { IsStatus setup.verification result }
+    ensures run { RunsOnSystem setup.verification given.entry
+        (closures_of (map H.stands_for setup.closures.natives.items)
+        (map H.stands_for setup.closures.shelf.items)) result }
+    ensures status { IsStatus setup.verification result }
 {
     let mut voice = Voice::new(SystemConsole { rt });
     let Ok(trace) = BufWriter::new(alloc, io::writer(rt)) else {

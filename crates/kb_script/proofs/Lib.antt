@@ -1,4 +1,5 @@
 pub mod BareLemmas
 pub mod LineLemmas
+pub mod SafeScripts
 pub mod ScriptRuns
 pub mod ShelfLemmas

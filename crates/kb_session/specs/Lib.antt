@@ -1,4 +1,5 @@
 pub mod Fault
+pub mod Headline
 pub mod Palette
 pub mod Press
 pub mod Session

@@ -17,6 +17,17 @@ use kb_trace::{Answer, lines};
 use std::alloc::Global;
 
 impl<C: HostCommand> Session<C> {
+    /// The entries of the last palette, in the order of their numbers from 1, until one of them is chosen. `None`
+    /// before any palette and behind a choice.
+    pub fn listed(&self) -> Option<&[Entry]>
+        ensures { option_map (λ entries. entries.now) result ≡ self.now.state.listed }
+    {
+        match &self.listed {
+            Some(entries) => Some(entries.as_slice()),
+            None => None,
+        }
+    }
+
     /// Lists the commands that a query finds, and keeps their list. An open chord stays open.
     #[tactic(auto, using(kb_stream::proofs::Undoing::undoing))]
     pub(super) fn list_palette(&mut self, query: &str) -> Result<Answer, NoMemory>

@@ -1,0 +1,54 @@
+-- The headline holds of each run with verified handlers.
+use Rattle.std.proofs.Common.{◌≡◌, sym, ap, subst, Bool, true, false, List, ℕ}
+use Rattle.std.specs.Prelude.{Option, Result, Ok, Err}
+use Rattle.kb_base.specs.declared.failure.Failure.{Failure}
+use Rattle.kb_base.specs.declared.failure.Failure.TheVariants.{NoMemory, Fault}
+use Rattle.kb_bindings.specs.Load.{Files}
+use Rattle.kb_core.specs.declared.native.Native.{Native}
+use Rattle.kb_exit.specs.Report.{script_stop}
+use Rattle.kb_exit.specs.declared.outcome.Stop.{Stop}
+use Rattle.kb_run.specs.Headline.{IsSound, KeepsHeadline, MemoryAloneStops}
+use Rattle.kb_run.specs.Run.{PlaysAny}
+use Rattle.kb_run.specs.declared.setup.Verification.{Verification}
+use Rattle.kb_run.specs.declared.setup.Verification.TheVariants.{Verified, Raw}
+use Rattle.kb_script.proofs.SafeScripts.{memory_alone_stops}
+use Rattle.kb_script.specs.Headline as script
+use Rattle.kb_script.specs.Shelf.{beside, Stand}
+use Rattle.kb_script.specs.declared.fault.ScriptFault.{ScriptFault}
+use Rattle.kb_script.specs.declared.fault.ScriptFault.TheVariants as fault
+use Rattle.kb_session.proofs.Headlines.{headline_holds}
+use Rattle.kb_session.specs.Session.{IsOf}
+use Rattle.kb_session.specs.State.{IsSafe, State}
+use Rattle.kb_stream.specs.Fold.{Traced}
+
+-- a session that was just loaded isn't stopped
+pub is_sound : (files : Files) (natives : List Native) (session : Traced State) → IsOf files natives session
+    → IsSafe session.state → IsSound Verified session.state
+is_sound files natives session is safe = (ap (λ (s : Traced State). s.state.stopped) is.is, safe)
+
+-- the end of a run, by the result of its script
+ends : (ran : Result (Unit {0}) (Failure ScriptFault)) (is_flushed : Bool) → script.MemoryAloneStops ran
+    → MemoryAloneStops (script_stop ran is_flushed)
+ends (Ok done) true alone = tt
+ends (Ok done) false alone = tt
+ends (Err NoMemory) true alone = tt
+ends (Err NoMemory) false alone = tt
+ends (Err (Fault fault.TooLong)) is_flushed alone = tt
+ends (Err (Fault fault.ReadFailed)) is_flushed alone = tt
+ends (Err (Fault fault.WriteFailed)) is_flushed alone = tt
+ends (Err (Fault fault.Stopped)) is_flushed alone = absurd alone
+ends (Err (Fault fault.Trapped)) is_flushed alone = absurd alone
+
+pub keeps_headline : (verification : Verification) (session : Traced State) (shelf : List Native)
+    (bytes : Option (List ℕ)) (new : Traced Stand) (had has : Option (List ℕ)) (end : Result (Unit {0}) Stop)
+    → IsSound verification session.state → PlaysAny bytes (beside session shelf) new had has end
+    → KeepsHeadline verification session.state end
+keeps_headline Verified session shelf bytes new had has end sound plays =
+    let p = plays.1 in
+    (
+      headline_holds session.state sound.0 sound.1,
+      subst MemoryAloneStops (sym p.end_is)
+          (ends p.ran p.is_flushed (memory_alone_stops p.ran bytes plays.0 (beside session shelf) new had p.written
+          sound.0 sound.1 p.answers)),
+    )
+keeps_headline Raw session shelf bytes new had has end sound plays = tt
