@@ -17,7 +17,7 @@ use Rattle.kb_keys.specs.declared.platform.Platform.{Platform}
 use Rattle.kb_load_commands.specs.Checked.{LiveChecked}
 use Rattle.kb_load_commands.specs.Raw.{raw_held}
 use Rattle.kb_registry.specs.Live.{Live}
-use Rattle.kb_session.specs.Session.{CommandsFail, IsOf, Loads, Seen, loaded_raw, loaded_session, marks_by}
+use Rattle.kb_session.specs.Session.{CommandsFail, IsOf, Loads, LoadsRaw, Seen, loaded_raw, loaded_session, marks_by}
 use Rattle.kb_session.specs.Session.{raw_load_held}
 
 -- ---- verified handlers
@@ -65,6 +65,18 @@ raw_is_loaded files natives l live session h g is =
     rw is
     (ap (λ r. r >>= λ (l : Loaded). seen (loaded_session l.scopes l.bindings) (raw_held natives l.handlers)) h
     ∙ ap (seen (loaded_session l.scopes l.bindings)) g)
+
+-- a new session, or refused memory
+pub raw_begun_loads : (files : Files) (natives : List Native) (l : Loaded) (live : Live)
+    (r : Result Seen (Failure LoadFault))
+    → load.loaded (unread_of l.bindings) files ≡ Ok l
+    → raw_held natives l.handlers ≡ Ok live
+    → IfOk r (λ session. session ≡ loaded_session l.scopes l.bindings live)
+    → IfErr r (λ why. why ≡ failure.NoMemory) → LoadsRaw files natives r
+raw_begun_loads files natives l live (Ok session) held raw is fails =
+    raw_is_loaded files natives l live session held raw is
+raw_begun_loads files natives l live (Err why) held raw is fails =
+    subst (λ (f : Failure LoadFault). Fails f (raw_load_held files natives)) (sym fails) tt
 
 abbrev live_behind : List Native → Held → Result Live LoadFault
 live_behind natives held = raw_held natives (handlers_of held.rules.extensions)

@@ -1,6 +1,7 @@
 -- Only a key press and a choice can stop a running session.
 use Rattle.std.specs.Prelude.{⊤}
 use Rattle.std.proofs.Common.{◌≡◌, ◌∙◌, Bool, true, false, Option, Some, None, Result, Ok, Err, ℕ, ap, refl}
+use Rattle.std.proofs.Common.{length, sym, take}
 use Rattle.kb_base.specs.declared.refusal.Refusal.{Refusal}
 use Rattle.kb_code.specs.Handler.{HandlerData}
 use Rattle.kb_core.specs.declared.native.Native.{Native}
@@ -10,14 +11,14 @@ use Rattle.kb_registry.specs.Live.{registration_fault, holder}
 use Rattle.kb_registry.specs.declared.fault.RegistryFault.{RegistryFault}
 use Rattle.kb_rules.specs.RuleList.{Listed}
 use Rattle.kb_base.specs.declared.note.Origin.TheVariants.{User}
-use Rattle.kb_session.specs.Session.{Answers, Does}
+use Rattle.kb_session.specs.Session.{Answers, Does, half_done, halt, HaltsAt, IsHalf, Takes, Undone}
 use Rattle.kb_session.specs.State.{State, Told, happens, reload, register, dispose, Answered, step_on, step_unless}
 use Rattle.kb_session.specs.State.{out_of, taken_unless, refusal_of, reloaded, registering, disposing}
 use Rattle.kb_session.specs.State.{disposing_unless, code_updated, named_in, switched, switched_to}
 use Rattle.kb_session.specs.State.{switch_target, updated}
 use Rattle.kb_handler_table.specs.Codes.{CodesData}
 use Rattle.kb_lifecycle.specs.Dependencies.{Placed}
-use Rattle.kb_stream.specs.Fold.{Traced}
+use Rattle.kb_stream.specs.Fold.{after, Traced}
 use Rattle.kb_trace.specs.declared.event.Answer.{Answer}
 use Rattle.kb_trace.specs.declared.event.Event.{Event}
 use Rattle.kb_trace.specs.declared.event.Event.TheVariants as event
@@ -95,3 +96,45 @@ answers_quietly told old new a quiet answers =
     ∙ step_quiet told old.state quiet ∙ answers.0
 
 pub ruleset stopping = (does_quietly)
+
+-- ---- a call takes an event, or is refused memory
+
+pub takes_done : (told : Told) (old new : Traced State) (a : Answer) → old.state.stopped ≡ false
+    → Does told old a new → Takes told old a new
+takes_done told old new a running does = (
+  running,
+  ap (λ b. (step_unless b told old.state).answer) running ∙ does.0,
+  does.1 ∙ ap (λ b. after (out_of (step_unless b told old.state)) old) (sym running),
+)
+
+-- the lines of an incomplete event are taken back
+abbrev IsCut : Traced State → Traced State → Traced State → Type 0
+IsCut old mid new = new ≡ halt (record mid { trace = take (length old.trace) mid.trace })
+
+undone : (old mid new : Traced State) → Undone old mid → IsCut old mid new → new ≡ halt old
+undone old mid new h is =
+    is ∙ λ i. halt (record { state = h.0 i; trace = h.1 i })
+
+pub half_halts : (e : Event) (old mid new : Traced State) → IsHalf e old mid → IsCut old mid new
+    → HaltsAt (happens e) old new
+half_halts (event.Key key) old mid new h is = (
+  ap (λ s. s.state) is ∙ ap (λ (s : State). record s { stopped = true }) h.0
+      ∙ ap (λ (s : Traced State). half_done s.state.core s.state.pressed old.state) (sym is),
+  ap (λ s. s.trace) is ∙ h.1,
+)
+half_halts (event.Choose number) old mid new h is = (
+  ap (λ s. s.state) is ∙ ap (λ (s : State). record s { stopped = true }) h.0
+      ∙ ap (λ (s : Traced State). half_done s.state.core old.state.pressed old.state) (sym is),
+  ap (λ s. s.trace) is ∙ h.1,
+)
+half_halts (event.Focus name) old mid new h is = undone old mid new h is
+half_halts (event.SetKey name key value) old mid new h is = undone old mid new h is
+half_halts (event.UnsetKey name key) old mid new h is = undone old mid new h is
+half_halts (event.Palette query) old mid new h is = undone old mid new h is
+half_halts (event.Enable id) old mid new h is = undone old mid new h is
+half_halts (event.Disable id) old mid new h is = undone old mid new h is
+half_halts (event.Update id bytes) old mid new h is = undone old mid new h is
+half_halts (event.Unread number) old mid new h is = undone old mid new h is
+half_halts event.NoClosure old mid new h is = undone old mid new h is
+
+pub ruleset taking = (takes_done, half_halts)

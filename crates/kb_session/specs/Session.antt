@@ -30,6 +30,7 @@ use Rattle.kb_stream.specs.Fold.{Traced, after, after_all, StopsAmong}
 use Rattle.kb_stream.specs.Lines.{Begins}
 use Rattle.kb_trace.specs.declared.event.Answer.{Answer}
 use Rattle.kb_trace.specs.declared.event.Answer.TheVariants as answer
+use Rattle.kb_trace.specs.declared.event.Event.{Event}
 use Rattle.kb_trace.specs.declared.event.Event.TheVariants as event
 
 -- what contracts see of a session: its state and its trace
@@ -181,6 +182,12 @@ HalfDone old new =
 abbrev pub HalfChosen : Seen → Seen → Type 0
 HalfChosen old new =
     (new.state ≡ record old.state { core = new.state.core }) × Begins old.trace new.trace
+
+-- an event is incomplete
+abbrev pub IsHalf : Event → Seen → Seen → Type 0
+IsHalf (event.Key key) old new = HalfDone old new
+IsHalf (event.Choose number) old new = HalfChosen old new
+IsHalf e old new = Undone old new
 
 -- an extension was enabled or disabled, with its lines
 abbrev pub has_switched : Bool → List ℕ → Seen → Seen

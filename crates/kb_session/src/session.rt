@@ -7,7 +7,7 @@ ghost use Rattle.kb_rules.specs.RuleList.{AreRightlyMarked};
 ghost use Rattle.kb_bindings.specs.Load.{files_of, MarksAreRight};
 ghost use Rattle.kb_bindings.specs.Unread.{unread_of};
 ghost use Rattle.kb_base.specs.declared.failure.Failure.TheVariants as failure;
-ghost use Rattle.kb_session.specs.Session.{Loads, LoadsRaw, Takes, Does, halt, Undone, HalfDone};
+ghost use Rattle.kb_session.specs.Session.{Loads, LoadsRaw, Takes, Does, halt, Undone, HalfDone, IsHalf};
 ghost use Rattle.kb_session.specs.Session.{loaded_session};
 ghost use Rattle.kb_session.specs.Session.{FailsAt, FailsAmong, is_late};
 ghost use Rattle.kb_bindings.specs.Sources.{source_of};
@@ -301,7 +301,7 @@ impl<C: HostCommand> Session<C> {
     /// Handles one event as `handle` does, and also returns how a command that it started ended.
     ///
     /// Errors: those of `handle`.
-    #[tactic(auto, using(crate::proofs::Stopping::stopping))]
+    #[tactic(auto, using(crate::proofs::Stopping::taking))]
     pub fn handle_fully(&mut self, event: Event) -> Result<Handled, SessionFault>
         ensures ok { IfOk result (λ handled. Takes (happens event) self.old handled.answer self.new) }
         ensures stops { IfOk result (λ handled. self.new.state.stopped ≡ stops handled.finish) }
@@ -311,8 +311,23 @@ impl<C: HostCommand> Session<C> {
             return Err(SessionFault::Stopped);
         }
         let mark = self.trace.len();
-        let done = match event {
+        match self.take(event) {
+            Ok(handled) => Ok(handled),
+            Err(_) => Err(self.halted_at(mark)),
+        }
+    }
+
+    /// Handles one event. If memory is refused, the trace may have some of its lines.
+    #[tactic(auto, using(crate::proofs::Stopping::stopping))]
+    fn take(&mut self, event: Event) -> Result<Handled, NoMemory>
+        requires running { self.old.state.stopped ≡ false }
+        ensures ok { IfOk result (λ handled. Does (happens event) self.old handled.answer self.new) }
+        ensures stops { IfOk result (λ handled. self.new.state.stopped ≡ stops handled.finish) }
+        ensures err { OnErr result (IsHalf event self.old self.new) }
+    {
+        match event {
             Event::Key(key) => self.press(key),
+            Event::Choose(number) => self.choose(number),
             Event::Focus(scope) => started_nothing(self.focus(scope.as_str())),
             Event::SetKey(scope, key, value) => {
                 started_nothing(self.set_key(scope.as_str(), key.as_str(), value))
@@ -322,7 +337,6 @@ impl<C: HostCommand> Session<C> {
                 key.as_str(),
             )),
             Event::Palette(query) => started_nothing(self.list_palette(query.as_str())),
-            Event::Choose(number) => self.choose(number),
             Event::Enable(id) => started_nothing(self.enable(id.as_str())),
             Event::Disable(id) => started_nothing(self.disable(id.as_str())),
             Event::Update(id, bytes) => {
@@ -330,10 +344,6 @@ impl<C: HostCommand> Session<C> {
             }
             Event::NoClosure => started_nothing(self.note_no_closure()),
             Event::Unread(number) => started_nothing(self.note_unread(number)),
-        };
-        match done {
-            Ok(handled) => Ok(handled),
-            Err(_) => Err(self.halted_at(mark)),
         }
     }
 
