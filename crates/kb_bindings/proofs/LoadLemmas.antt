@@ -9,7 +9,7 @@ use Rattle.kb_base.specs.declared.note.Part.{Part}
 use Rattle.kb_base.specs.declared.note.Part.TheVariants.{Keybindings}
 use Rattle.kb_code.specs.Handler.{HandlerData}
 use Rattle.kb_base.specs.Failure.{Gives}
-use Rattle.kb_base.specs.Reading.{◌>>=◌, seen}
+use Rattle.kb_base.specs.Reading.{seen}
 use Rattle.kb_base.specs.declared.failure.Failure.{Failure}
 use Rattle.kb_base.specs.declared.refusal.Refusal.{Refusal}
 use Rattle.kb_context.specs.Scopes.{ScopesData}

@@ -44,8 +44,7 @@ pub keeps_headline : (verification : Verification) (session : Traced State) (she
     → IsSound verification session.state → PlaysAny bytes (beside session shelf) new had has end
     → KeepsHeadline verification session.state end
 keeps_headline Verified session shelf bytes new had has end sound plays =
-    let p = plays.1 in
-    (
+    let p = plays.1 in (
       headline_holds session.state sound.0 sound.1,
       subst MemoryAloneStops (sym p.end_is)
           (ends p.ran p.is_flushed (memory_alone_stops p.ran bytes plays.0 (beside session shelf) new had p.written

@@ -1,13 +1,13 @@
 -- The headline holds of each running session that is safe.
-use Rattle.std.proofs.Common.{◌≡◌, refl, false, List, [], ◌∷◌, ◌++◌}
+use Rattle.std.proofs.Common.{◌≡◌, refl, false, [], ◌∷◌, ◌++◌}
 use Rattle.kb_bindings.specs.Sources.{enablement, rules_of}
 use Rattle.kb_context.specs.Scopes.{context}
 use Rattle.kb_keys.specs.declared.keystroke.Keystroke.{Keystroke}
 use Rattle.kb_registry.specs.Live.{table_of}
 use Rattle.kb_resolve.proofs.ResolverLemmas.{resolved_is_greatest}
 use Rattle.kb_resolve.specs.Resolver.{resolved}
-use Rattle.kb_session.specs.Headline.{GoesRight, Headline, HeadlineHolds, Presses}
-use Rattle.kb_session.specs.State.{IsSafe, next, State, Told}
+use Rattle.kb_session.specs.Headline.{GoesRight, HeadlineHolds, Presses}
+use Rattle.kb_session.specs.State.{IsSafe, next, State}
 use Rattle.kb_session.proofs.Sound.{runs_on}
 use Rattle.kb_soundness.proofs.NeverStuck.{starts_never_stuck}
 

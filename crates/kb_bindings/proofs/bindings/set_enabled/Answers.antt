@@ -1,4 +1,4 @@
-use Rattle.std.proofs.Common.{◌<◌, ◌≤◌, length, ap, arith}
+use Rattle.std.proofs.Common.{length, ap, arith}
 use Rattle.kb_bindings.proofs.BindingLemmas.{flag_there, none_enabled, none_switched, set_flag}
 use Rattle.kb_bindings.proofs.bindings.set_enabled.Goals as goal
 

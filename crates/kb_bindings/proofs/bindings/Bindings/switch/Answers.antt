@@ -1,7 +1,7 @@
 use Rattle.std.proofs.Common.{◌≡◌, ◌∙◌, ap, sym, List}
 use Rattle.kb_files.specs.declared.extension_file.Extension.{Extension}
 use Rattle.kb_bindings.specs.Sources.{Sources, enablement, rules_of}
-use Rattle.kb_files.specs.Enabled.{is_enabled_at, switched_at}
+use Rattle.kb_files.specs.Enabled.{switched_at}
 use Rattle.kb_bindings.specs.Warning.{warnings_of}
 use Rattle.kb_palette_commands.specs.Palette.{palette_commands}
 use Rattle.kb_bindings.proofs.BindingLemmas.{same_warnings, switched_back}
