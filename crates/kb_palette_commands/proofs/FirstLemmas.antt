@@ -46,8 +46,7 @@ pub new_one : (keys grown : List (Bor (List ℕ))) (k : Bor (List ℕ)) (firsts 
 new_one keys grown k firsts now rest whole e same named grows new made so_far =
     let fresh = unseen (list_any (λ other. bytes_eq k.now other.now) keys) new in
     let none : is_there e.name firsts ≡ false =
-    ap (λ name. is_there name firsts) (sym named) ∙ sym (seen_there k.now keys firsts same) ∙ fresh in
-    (
+    ap (λ name. is_there name firsts) (sym named) ∙ sym (seen_there k.now keys firsts same) ∙ fresh in (
       ap (map (λ (k : Bor (List ℕ)). k.now)) grows
           ∙ ap (λ (b : Bool). map (λ (k : Bor (List ℕ)). k.now) (cond b keys (keys ++ k ∷ []))) fresh
           ∙ map-append (λ (k : Bor (List ℕ)). k.now) keys (k ∷ [])
@@ -72,8 +71,7 @@ pub old_one : (keys grown : List (Bor (List ℕ))) (k : Bor (List ℕ)) (firsts 
 old_one keys grown k firsts rest whole e same named grows old so_far =
     let there = seen (list_any (λ other. bytes_eq k.now other.now) keys) old in
     let one : is_there e.name firsts ≡ true =
-    ap (λ name. is_there name firsts) (sym named) ∙ sym (seen_there k.now keys firsts same) ∙ there in
-    (
+    ap (λ name. is_there name firsts) (sym named) ∙ sym (seen_there k.now keys firsts same) ∙ there in (
       ap (map (λ (k : Bor (List ℕ)). k.now)) grows
           ∙ ap (λ (b : Bool). map (λ (k : Bor (List ℕ)). k.now) (cond b keys (keys ++ k ∷ []))) there ∙ same,
       ap (λ (b : Bool). firsts

@@ -87,10 +87,7 @@ fn add_extension<'e>(
 }
 
 /// Adds these items.
-fn add_items<'e>(
-    items: &'e [PaletteItem],
-    made: &mut Vec<&'e PaletteItem>,
-) -> Result<(), NoMemory>
+fn add_items<'e>(items: &'e [PaletteItem], made: &mut Vec<&'e PaletteItem>) -> Result<(), NoMemory>
     ensures { OnOk result
         (map (λ item. item.now) made.new.items ≡ map (λ item. item.now) made.old.items ++ items.now) }
 {
