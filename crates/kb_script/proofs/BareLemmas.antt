@@ -56,7 +56,11 @@ word_bare word rest =
     (update_bare rest (split_word rest)) (event_bare (event_told word rest)))))
 
 words_bare : (text : List ℕ) (parts : Option (List ℕ × List ℕ)) → IsBare (words_said text parts)
-words_bare text None = either_bare (bytes_eq text (codes "reload")) (Some (tells (reload [] []))) None refl refl
+words_bare text None =
+    let query = Some (tells (happens (event.Palette []))) in
+    either_bare (bytes_eq text (codes "reload")) (Some (tells (reload [] [])))
+    (cond (bytes_eq text (codes "palette")) query None) refl
+    (either_bare (bytes_eq text (codes "palette")) query None refl refl)
 words_bare text (Some parts) = word_bare parts.0 parts.1
 
 text_bare : (line : List ℕ) → IsBare (text_said line)

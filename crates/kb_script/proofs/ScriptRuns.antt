@@ -1,5 +1,6 @@
 -- Lines of a script that run one after the other.
-use Rattle.std.proofs.Common.{◌≡◌, true, ℕ, ◌+◌, List, [], ◌∷◌, ◌++◌, refl, sym, ap, ◌∙◌, subst}
+use Rattle.std.proofs.Common.{◌≡◌, true, false, ℕ, ◌+◌, List, [], ◌∷◌, ◌++◌, refl, sym, ap, ◌∙◌, subst}
+use Rattle.std.proofs.Common.{inl, inr}
 use Rattle.std.proofs.Common.{append_assoc, append-nil, length, drop, map, arith}
 use Rattle.std.proofs.Math.Seq.{drop-append_seam}
 use Rattle.std.specs.Prelude.{Option, Some, None, option_map, option_to_list}
@@ -8,15 +9,15 @@ use Rattle.kb_base.specs.declared.failure.Failure.{Failure}
 use Rattle.kb_base.specs.declared.failure.Failure.TheVariants.{NoMemory, Fault}
 use Rattle.kb_base.specs.declared.note.UnreadPattern.{UnreadPattern}
 use Rattle.kb_core.specs.declared.native.Native.{Native}
-use Rattle.kb_script.specs.Script.{line_said, said_from, said_of, lines_of, bare}
-use Rattle.kb_script.specs.ScriptRun.{RunsSaid, BreaksOff, BreaksSaid, MemoryRefused, NothingRan, marked}
+use Rattle.kb_script.specs.Script.{line_said, said_from, said_of, bare}
+use Rattle.kb_script.specs.ScriptRun.{RunsSaid, BreaksOff, BreaksSaid, MemoryRefused, marked, script_limit}
 use Rattle.kb_script.specs.Shelf.{Stand, Said, move, move_unless, Halts, beside}
 use Rattle.kb_script.proofs.BareLemmas.{bare_line, bare_from, bare_marked}
-use Rattle.kb_script.proofs.ShelfLemmas.{halts_same, halted}
 use Rattle.kb_session.specs.Session.{halt}
 use Rattle.kb_session.specs.State.{State}
 use Rattle.kb_stream.specs.Fold.{Traced, after_all, fold, nothing}
 use Rattle.kb_stream.specs.FoldWriting.{RunsAndWrites, StopsAndWrites, LacksLines}
+use Rattle.kb_stream.specs.Reading.{IsRead, FailsToRead}
 use Rattle.kb_stream.specs.Writing.{text_of_lines, AppendsPart}
 use Rattle.kb_stream.specs.declared.writing.WriteRefused.{WriteRefused}
 use Rattle.std.proofs.lemmas.List.{length-append, map-append}
@@ -188,38 +189,28 @@ line_stops number line old new a halts same = record {
 
 pub ruleset one_line = (line_stops)
 
--- memory is refused before a line runs
-pub refuse_now : (had : Option (List ℕ)) (old new : Traced State) (shelf : List Native) (a : Option (List ℕ))
-    → new ≡ halt old → MemoryRefused had (beside old shelf) (beside new shelf) a a
-refuse_now had old new shelf a is = by had
-  where
-    stops : (script : List ℕ)
-        → StopsAndWrites move Halts (said_of script) (beside old shelf) (beside new shelf) a a
-    stops script = stops_now (said_of script) (beside old shelf) (beside new shelf) a
-        (halts_same (beside old shelf).state (beside new shelf).state (halted old new is) refl)
-        (ap (λ s. s.trace) is)
+-- memory is refused while the script is read
+pub refuse_reading : (had left : Option (List ℕ)) (old new : Traced State) (shelf : List Native)
+    (a : Option (List ℕ)) → FailsToRead NoMemory had left script_limit → new ≡ halt old
+    → MemoryRefused had left (beside old shelf) (beside new shelf) a a
+refuse_reading had left old new shelf a reader is = inl (record {
+  reader = reader;
+  session = ap (λ (s : Traced State). beside s shelf) is;
+  written = keeps_same a;
+})
 
-    stays : old.state.stopped ≡ true → NothingRan (beside old shelf) (beside new shelf) a a
-    stays stopped = record {
-      session = ap (λ (s : Traced State). beside s shelf) (is
-          ∙ ap (λ b. record { state = record old.state { stopped = b }; trace = old.trace }) (sym stopped));
-      written = keeps_same a;
-    }
+-- memory is refused in a line
+pub refuse_line : (had left : Option (List ℕ)) (script : List ℕ) (old new : Traced Stand)
+    (before after : Option (List ℕ)) → IsRead had left script_limit script
+    → old.state.state.stopped ≡ false → BreaksSaid NoMemory (said_of script) old new before after
+    → MemoryRefused had left old new before after
+refuse_line had left script old new before after read running breaks = inr (record {
+  script = script;
+  read = read;
+  was_running = running;
+  said = breaks.said;
+  tells = breaks.tells;
+  stops = breaks.breaks;
+})
 
-    by : (had : Option (List ℕ)) → MemoryRefused had (beside old shelf) (beside new shelf) a a
-    by None = record {
-      script = [];
-      all = tt;
-      said = said_of [];
-      tells = bare_from 1 (lines_of []);
-      stops = stops [];
-      stays = stays;
-    }
-    by (Some bytes) = record {
-      script = bytes;
-      all = refl;
-      said = said_of bytes;
-      tells = bare_from 1 (lines_of bytes);
-      stops = stops bytes;
-      stays = stays;
-    }
+pub ruleset refusing = (refuse_reading, refuse_line)

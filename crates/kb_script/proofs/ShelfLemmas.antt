@@ -19,12 +19,12 @@ use Rattle.kb_handler_table.specs.Live.{same_native}
 use Rattle.kb_script.proofs.LineLemmas.{position_none}
 use Rattle.kb_script.specs.Shelf.{Stand, stand, Halts, on_shelf, without_first}
 use Rattle.kb_session.specs.Session as session
-use Rattle.kb_session.specs.Session.{halt, half_done, HaltsAt, FailsAt}
-use Rattle.kb_session.specs.State.{State, Told, happens, reload, register, dispose}
+use Rattle.kb_session.proofs.Runs.{halts_at}
+use Rattle.kb_session.specs.Session.{halt, half_done, FailsAt}
+use Rattle.kb_session.specs.State.{State, Told}
 use Rattle.kb_session.specs.declared.fault.SessionFault.{SessionFault}
 use Rattle.kb_session.specs.declared.fault.SessionFault.TheVariants as fault
 use Rattle.kb_stream.specs.Fold.{Traced}
-use Rattle.kb_trace.specs.declared.event.Event.TheVariants as event
 
 -- natives that `==` accepts are equal
 pub same_native-true : (a b : Native) → same_native a b ≡ true → a ≡ b
@@ -118,22 +118,6 @@ halts_rotated old new native h there e = record {
 pub halted : (old new : Traced State) → new ≡ halt old → session.Halts old.state new.state
 halted old new is =
     ap (λ s. s.state) is ∙ ap (λ s. half_done s.state.core s.state.pressed old.state) (sym is)
-
-halts_at : (told : Told) (old new : Traced State) → HaltsAt told old new
-    → session.Halts old.state new.state × (new.trace ≡ old.trace)
-halts_at (happens (event.Key key)) old new halts = halts
-halts_at (happens (event.Focus name)) old new halts = (halted old new halts, ap (λ s. s.trace) halts)
-halts_at (happens (event.SetKey name key value)) old new halts =
-    (halted old new halts, ap (λ s. s.trace) halts)
-halts_at (happens (event.UnsetKey name key)) old new halts = (halted old new halts, ap (λ s. s.trace) halts)
-halts_at (happens (event.Enable id)) old new halts = (halted old new halts, ap (λ s. s.trace) halts)
-halts_at (happens (event.Disable id)) old new halts = (halted old new halts, ap (λ s. s.trace) halts)
-halts_at (happens (event.Update id bytes)) old new halts = (halted old new halts, ap (λ s. s.trace) halts)
-halts_at (happens (event.Unread number)) old new halts = (halted old new halts, ap (λ s. s.trace) halts)
-halts_at (happens event.NoClosure) old new halts = (halted old new halts, ap (λ s. s.trace) halts)
-halts_at (reload bytes marks) old new halts = (halted old new halts, ap (λ s. s.trace) halts)
-halts_at (register native) old new halts = (halted old new halts, ap (λ s. s.trace) halts)
-halts_at (dispose number) old new halts = (halted old new halts, ap (λ s. s.trace) halts)
 
 fails_at : (fault : SessionFault) (told : Told) (old new : Traced State) → old.state.stopped ≡ false
     → FailsAt fault told old new → session.Halts old.state new.state × (new.trace ≡ old.trace)

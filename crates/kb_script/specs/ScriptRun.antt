@@ -1,7 +1,7 @@
 -- The effect of running a script: the bytes read, the changes of session and shelf, and the bytes
 -- written. The script itself has no marks of patterns; `said` adds to each reload the marks that the
 -- session reports for it.
-use Rattle.std.specs.Prelude.{◌≡◌, ℕ, true, false, List, map, Option, IfSome, Result, Ok, Err}
+use Rattle.std.specs.Prelude.{◌≡◌, ◌⊎◌, ℕ, true, false, List, map, Option, Result, Ok, Err}
 use Rattle.std.specs.Io.KnownBytes.{Keeps}
 use Rattle.kb_base.specs.declared.failure.Failure.{Failure}
 use Rattle.kb_base.specs.declared.failure.Failure.TheVariants.{NoMemory, Fault}
@@ -10,7 +10,7 @@ use Rattle.kb_script.specs.declared.fault.ScriptFault.{ScriptFault}
 use Rattle.kb_script.specs.declared.fault.ScriptFault.TheVariants.{Stopped, TooLong, ReadFailed, WriteFailed}
 use Rattle.kb_script.specs.declared.fault.ScriptFault.TheVariants.{Trapped}
 use Rattle.kb_script.specs.Script.{said_of, bare}
-use Rattle.kb_script.specs.Shelf.{Stand, Said, tells, takes, move, Halts}
+use Rattle.kb_script.specs.Shelf.{Stand, Said, tells, takes, move, halt, Halts}
 use Rattle.kb_session.specs.State.{Told, reload}
 use Rattle.kb_stream.specs.Fold.{Traced}
 use Rattle.kb_stream.specs.FoldWriting.{RunsAndWrites, StopsAndWrites, LacksLines}
@@ -60,16 +60,30 @@ pub record WasStopped (had left : Option (List ℕ)) (old new : Traced Stand) (b
   pub stopped : old.state.state.stopped ≡ true
   pub nothing : NothingRan old new before after
 
--- memory was refused, while reading or in a line; if the reader's bytes are known, the lines are those
--- of its script; a session that was already stopped ran nothing
-pub record MemoryRefused (had : Option (List ℕ)) (old new : Traced Stand) (before after : Option (List ℕ))
+-- memory was refused while the script was read: nothing ran and nothing was written, and the session is
+-- stopped; no byte past the limit had come
+pub record ReadingRefused (had left : Option (List ℕ)) (old new : Traced Stand)
+    (before after : Option (List ℕ)) : Type 0 where
+  pub reader : FailsToRead NoMemory had left script_limit
+  pub session : new ≡ halt old
+  pub written : Keeps before after
+
+-- memory was refused in a line: the script was read to its end, the lines before it ran, the writer got
+-- their trace lines, and the session is stopped
+pub record LineRefused (had left : Option (List ℕ)) (old new : Traced Stand) (before after : Option (List ℕ))
     : Type 0 where
   pub script : List ℕ
-  pub all : IfSome had (λ bytes. bytes ≡ script)
+  pub read : IsRead had left script_limit script
+  pub was_running : old.state.state.stopped ≡ false
   pub said : List Said
   pub tells : map bare said ≡ said_of script
   pub stops : StopsAndWrites move Halts said old new before after
-  pub stays : old.state.state.stopped ≡ true → NothingRan old new before after
+
+-- memory was refused, while the script was read or in a line
+abbrev pub MemoryRefused : Option (List ℕ) → Option (List ℕ) → Traced Stand → Traced Stand
+    → Option (List ℕ) → Option (List ℕ) → Type 0
+MemoryRefused had left old new before after =
+    ReadingRefused had left old new before after ⊎ LineRefused had left old new before after
 
 -- the writer didn't get all trace lines of the last line that ran
 pub record LinesLacked (had left : Option (List ℕ)) (old new : Traced Stand) (before after : Option (List ℕ))
@@ -90,7 +104,7 @@ pub record NotRead (fault : Failure ReadFault) (had left : Option (List ℕ)) (o
 -- the effect of each fault
 abbrev pub Fails : Failure ScriptFault → Option (List ℕ) → Option (List ℕ) → Traced Stand → Traced Stand
     → Option (List ℕ) → Option (List ℕ) → Type 0
-Fails NoMemory had left old new before after = MemoryRefused had old new before after
+Fails NoMemory had left old new before after = MemoryRefused had left old new before after
 Fails (Fault Stopped) had left old new before after = WasStopped had left old new before after
 Fails (Fault TooLong) had left old new before after =
     NotRead (Fault read.TooLong) had left old new before after

@@ -61,6 +61,10 @@ move_unless false said s =
 abbrev pub move : Said → Stand → Out Stand
 move said s = move_unless s.state.stopped said s
 
+-- memory was refused before any line: the session is stopped, and it is otherwise unchanged, as is the shelf
+abbrev pub halt : Traced Stand → Traced Stand
+halt old = record old { state = record old.state { state = record old.state.state { stopped = true } } }
+
 -- memory was refused: the session is halted, and the shelf still has all its closures
 pub record Halts (old new : Stand) : Type 0 where
   pub session : session.Halts old.state new.state

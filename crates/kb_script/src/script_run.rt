@@ -35,8 +35,10 @@ pub const SCRIPT_LIMIT: usize = 16_777_216;
 ///   trace lines could not be written.
 /// - `Trapped`: a handler trapped, and the session is stopped. The writer has all trace lines of the
 ///   script, and the trap's line is the last.
-/// - `NoMemory`: the session is stopped. The writer has all trace lines of the script, and the shelf
-///   still has all its closures.
+/// - `NoMemory`: the session is stopped. If memory was refused while the script was read, nothing ran and
+///   nothing was written. Otherwise the whole script was read, the writer has the trace lines of all lines
+///   that ran, and the shelf still has all its closures.
+#[tactic(auto, using(crate::proofs::ScriptRuns::refusing))]
 pub fn run_script<R: Read, W: Write, C: HostCommand>(
     alloc: Global,
     reader: &mut R,
