@@ -6,6 +6,8 @@ use Rattle.kb_base.specs.declared.refusal.Refusal.{Refusal}
 use Rattle.kb_files.specs.RuleFile.{rules_in}
 use Rattle.kb_rules.specs.RuleList.{Listed}
 use Rattle.kb_base.specs.declared.note.Origin.TheVariants.{User}
+use Rattle.kb_palette.specs.declared.listing.Entry.{Entry}
+use Rattle.kb_session.specs.Palette.{entry_at}
 use Rattle.kb_session.specs.Session.{Halts}
 use Rattle.kb_core.specs.declared.native.Native.{Native}
 use Rattle.kb_registry.specs.Live.{registration_fault, holder}
@@ -14,7 +16,7 @@ use Rattle.kb_session.specs.State.{State, Told, happens, reload, register, dispo
 use Rattle.kb_session.specs.State.{step_unless}
 use Rattle.kb_session.specs.State.{next, taken_unless, reloaded, refusal_of, registering, disposing}
 use Rattle.kb_session.specs.State.{disposing_unless, code_updated, named_in, switched, switched_to}
-use Rattle.kb_session.specs.State.{switch_target, updated}
+use Rattle.kb_session.specs.State.{choosing, switch_target, updated}
 use Rattle.kb_handler_table.specs.Codes.{CodesData}
 use Rattle.kb_lifecycle.specs.Dependencies.{Placed}
 use Rattle.kb_code.specs.Handler.{HandlerData}
@@ -37,6 +39,10 @@ updated_lists (Ok codes) None s = refl
 updated_lists (Ok codes) (Some p) s = refl
 updated_lists (Err refusal) p s = refl
 
+choosing_lists : (e : Option Entry) (number : ℕ) (s : State) → (choosing e number s).state.unread ≡ s.unread
+choosing_lists None number s = refl
+choosing_lists (Some e) number s = refl
+
 -- an event adds no list
 event_lists : (refusal : Option Refusal) (e : Event) (s : State) → (taken_unless refusal e s).state.unread ≡ s.unread
 event_lists (Some refusal) e s = refl
@@ -44,6 +50,8 @@ event_lists None (event.Key key) s = refl
 event_lists None (event.Focus name) s = refl
 event_lists None (event.SetKey name key value) s = refl
 event_lists None (event.UnsetKey name key) s = refl
+event_lists None (event.Palette query) s = refl
+event_lists None (event.Choose number) s = choosing_lists (entry_at number s.listed) number s
 event_lists None (event.Enable id) s = switched_lists true (named_in id s) s
 event_lists None (event.Disable id) s = switched_lists false (named_in id s) s
 event_lists None (event.Update id bytes) s =
