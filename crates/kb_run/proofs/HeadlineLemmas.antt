@@ -1,14 +1,17 @@
 -- The headline holds of each run with verified handlers.
-use Rattle.std.proofs.Common.{◌≡◌, sym, ap, subst, Bool, true, false, List, ℕ}
+use Rattle.std.proofs.Common.{sym, ap, subst, inr, Bool, true, false, List, ℕ}
 use Rattle.std.specs.Prelude.{Option, Result, Ok, Err}
 use Rattle.kb_base.specs.declared.failure.Failure.{Failure}
 use Rattle.kb_base.specs.declared.failure.Failure.TheVariants.{NoMemory, Fault}
 use Rattle.kb_bindings.specs.Load.{Files}
+use Rattle.kb_bindings.specs.Warning.{warnings_of}
 use Rattle.kb_core.specs.declared.native.Native.{Native}
 use Rattle.kb_exit.specs.Report.{script_stop}
+use Rattle.kb_exit.specs.Voice.{Says}
 use Rattle.kb_exit.specs.declared.outcome.Stop.{Stop}
 use Rattle.kb_run.specs.Headline.{IsSound, KeepsHeadline, MemoryAloneStops}
-use Rattle.kb_run.specs.Run.{PlaysAny}
+use Rattle.kb_run.proofs.RunLemmas.{session_loaded}
+use Rattle.kb_run.specs.Run.{Closures, LoadsBy, Outputs, PlaysAny, Runs, warning_text}
 use Rattle.kb_run.specs.declared.setup.Verification.{Verification}
 use Rattle.kb_run.specs.declared.setup.Verification.TheVariants.{Verified, Raw}
 use Rattle.kb_script.proofs.SafeScripts.{memory_alone_stops}
@@ -51,3 +54,19 @@ keeps_headline Verified session shelf bytes new had has end sound plays =
           sound.0 sound.1 p.answers)),
     )
 keeps_headline Raw session shelf bytes new had has end sound plays = tt
+
+-- a session was loaded, its warnings were said, and the script was run
+pub run_played : (verification : Verification) (files : Files) (closures : Closures) (bytes : Option (List ℕ))
+    (o : Outputs) (end : Result (Unit {0}) Stop) (session : Traced State) (new : Traced Stand)
+    → LoadsBy verification files closures.natives (Ok session) → IsSound verification session.state
+    → Says o.said_before o.said (warning_text session.state.sources (warnings_of session.state.sources))
+    → PlaysAny bytes (beside session closures.shelf) new o.had o.has end
+    → Runs verification files closures bytes o end
+run_played verification files closures bytes o end session new loads sound warned plays = inr (record {
+  session = session;
+  loaded_is = session_loaded verification files closures.natives session loads;
+  warned = warned;
+  new = new;
+  plays = plays;
+  headline = keeps_headline verification session closures.shelf bytes new o.had o.has end sound plays;
+})

@@ -1,13 +1,12 @@
 -- The exit statuses of runs.
 use Rattle.std.proofs.Common.{◌≡◌, ◌⊎◌, ℕ, Bool, true, false, List, Result, Ok, Err, ◌∙◌, refl, sym, subst, inl, inr}
 use Rattle.std.specs.Prelude.{Option, if◌then◌else◌}
-use Rattle.std.specs.Borrow.{Bor}
 use Rattle.kb_disk.specs.Files.{Held, unknown}
 use Rattle.kb_exit.specs.Report.{stop_status}
 use Rattle.kb_exit.specs.declared.outcome.Stop.{Stop}
 use Rattle.kb_exit.specs.declared.outcome.Stop.TheVariants.{Unread, Load, Script, NoMemory}
 use Rattle.kb_options.specs.declared.given.Options.{Options}
-use Rattle.kb_run.specs.Report.{IsStatus, RunsAndReports, RunsOnSystem, is_trap, is_trapped, status_by}
+use Rattle.kb_run.specs.Report.{IsStatus, RunsAndReports, RunsOnSystem, is_trapped, status_by}
 use Rattle.kb_run.specs.Run.{Closures, Outputs}
 use Rattle.kb_run.specs.declared.setup.Verification.{Verification}
 use Rattle.kb_run.specs.declared.setup.Verification.TheVariants.{Verified, Raw}

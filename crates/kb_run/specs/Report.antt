@@ -1,7 +1,6 @@
 -- The exit status of a run and its line on standard error.
 use Rattle.std.specs.Prelude.{◌≡◌, ◌⊎◌, ◌∷◌, ◌++◌, [], ℕ, Bool, true, false, List, Option, Result, Ok, Err}
 use Rattle.std.specs.Prelude.{codes, if◌then◌else◌}
-use Rattle.std.specs.Borrow.{Bor}
 use Rattle.kb_disk.specs.Files.{Held, unknown}
 use Rattle.kb_exit.specs.Report.{stop_line, stop_status}
 use Rattle.kb_exit.specs.Voice.{Heard, Says}

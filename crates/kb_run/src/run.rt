@@ -95,7 +95,7 @@ fn load<H: HostCommand>(
 }
 
 /// Loads a session, writes its warnings, and runs the script.
-#[tactic(auto, using(crate::proofs::RunLemmas::loading, crate::proofs::HeadlineLemmas::keeps_headline))]
+#[tactic(auto, using(crate::proofs::RunLemmas::loading))]
 fn run_loaded<
     'a,
     S: Read + Drop,
