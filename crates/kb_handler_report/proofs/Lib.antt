@@ -1,3 +1,4 @@
 pub mod FilesLemmas
 pub mod ReportLemmas
+pub mod StoppingLemmas
 pub mod WalkLemmas

@@ -4,3 +4,5 @@ pub mod Callable
 pub mod Judgement
 pub mod Visits
 pub mod Stop
+pub mod Stopping
+pub mod Check
