@@ -1,3 +1,4 @@
+pub mod CheckLemmas
 pub mod FilesLemmas
 pub mod ReportLemmas
 pub mod StoppingLemmas
