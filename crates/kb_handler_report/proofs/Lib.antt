@@ -1,5 +1,6 @@
 pub mod CheckLemmas
 pub mod FilesLemmas
+pub mod LineLemmas
 pub mod ReportLemmas
 pub mod StoppingLemmas
 pub mod WalkLemmas

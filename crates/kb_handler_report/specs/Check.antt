@@ -6,7 +6,7 @@ use Rattle.kb_files.specs.Identifiers.{identifier_fault}
 use Rattle.kb_handler_report.specs.Extension.{names_of}
 use Rattle.kb_handler_report.specs.Files.{HasExtensions}
 use Rattle.kb_handler_report.specs.Judgement.{AllOfExtensions}
-use Rattle.kb_handler_report.specs.Stop.{IsOfWriting, status_of}
+use Rattle.kb_handler_report.specs.Stop.{IsOfWriting}
 use Rattle.kb_handler_report.specs.Stopping.{StopsReading}
 use Rattle.kb_handler_report.specs.declared.extension.ExtensionCode.{ExtensionCode}
 use Rattle.kb_handler_report.specs.declared.stop.Stop.{Stop}
@@ -41,24 +41,6 @@ abbrev pub Ends : (List ℕ → Held) → List (Bor (List ℕ)) → Result Bool 
 Ends held dirs (Ok all) = HasChecked held dirs all
 Ends held dirs (Err stop) = Stops held dirs stop
 
--- ---- a run over the system, of whose files contracts know nothing
-
--- the extensions in some directories were checked, and this is the exit status of the end
-pub record ChecksOnSystem (status : ℕ) : Type 0 where
-  pub dirs : List (Bor (List ℕ))
-  pub end : Result Bool Stop
-  pub ends : Ends (λ path. unknown) dirs end
-  pub status_is : status ≡ status_of end
-
--- the exit status of a run that checks nothing: the command line asks for help or is refused, or memory was
--- refused
-abbrev pub IsWithoutCheck : ℕ → Type 0
-IsWithoutCheck status = (status ≡ 0) ⊎ ((status ≡ 2) ⊎ (status ≡ 4))
-
--- the exit status of a run
-abbrev pub IsStatus : ℕ → Type 0
-IsStatus status = IsWithoutCheck status ⊎ ChecksOnSystem status
-
 -- ---- for private functions
 
 -- the end of a check whose report was not written
@@ -69,7 +51,3 @@ unwritten (Err stop) = Err stop
 -- the end of a check over the system, or memory was refused before it
 abbrev pub EndsOnSystem : List (Bor (List ℕ)) → Result Bool Stop → Type 0
 EndsOnSystem dirs end = (end ≡ Err NoMemory) ⊎ Ends (λ path. unknown) dirs end
-
--- the same, whichever directories were checked
-abbrev pub EndsAny : Result Bool Stop → Type 0
-EndsAny end = (dirs : List (Bor (List ℕ))) × EndsOnSystem dirs end

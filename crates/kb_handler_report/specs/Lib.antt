@@ -6,3 +6,4 @@ pub mod Visits
 pub mod Stop
 pub mod Stopping
 pub mod Check
+pub mod Line

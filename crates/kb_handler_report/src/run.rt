@@ -1,7 +1,9 @@
 //! Runs the program, from its command line to its exit status.
-ghost use Rattle.std.specs.Prelude.{◌≡◌, ◌≤◌, IfOk};
+ghost use Rattle.std.specs.Prelude.{◌≡◌, ◌≤◌, IfErr, IfOk, map, string_bytes};
 ghost use Rattle.std.specs.Process.{exit_status};
-ghost use Rattle.kb_handler_report.specs.Check.{EndsAny, EndsOnSystem, IsStatus, IsWithoutCheck};
+ghost use Rattle.kb_handler_report.specs.Check.{EndsOnSystem};
+ghost use Rattle.kb_handler_report.specs.Line.{EndsLine, HasNoWords, IsLineFault, IsNoWords, fault_status};
+ghost use Rattle.kb_handler_report.specs.Line.{RunsLine, RunsOnSystem};
 ghost use Rattle.kb_handler_report.specs.Stop.{status_of};
 
 use crate::check::check_extensions;
@@ -22,21 +24,31 @@ pub fn check_handlers<R: Alloc<A = Global> + Env + Files + Print + Eprint>(
     rt: &R,
     alloc: Global,
 ) -> ExitCode
-    ensures status { IsStatus (exit_status result) }
+    ensures run { RunsOnSystem (exit_status result) }
     ensures table { exit_status result ≤ 4 }
 {
-    let status = match line_words(rt, alloc) {
+    ExitCode::from(run_line(rt, alloc))
+}
+
+/// Checks the handlers in the directories that the command line names, and returns the exit status.
+#[tactic(auto, using(crate::proofs::LineLemmas::on_system))]
+fn run_line<R: Alloc<A = Global> + Env + Files + Print + Eprint>(rt: &R, alloc: Global) -> u8
+    ensures run { RunsOnSystem result }
+    ensures table { result ≤ 4 }
+{
+    match line_words(rt, alloc) {
         Ok(words) => obey(rt, alloc, words.as_slice()),
         Err(fault) => refuse(rt, fault),
-    };
-    ExitCode::from(status)
+    }
 }
 
 /// The words of the command line.
 fn line_words<R: Env + Alloc<A = Global>>(
     rt: &R,
     alloc: Global,
-) -> Result<Vec<String>, OptionsFault> {
+) -> Result<Vec<String>, OptionsFault>
+    ensures { IfErr result HasNoWords }
+{
     let given = match env::args(rt) {
         Ok(given) => given,
         Err(error) => return Err(no_words(alloc, words_fault(&error))?),
@@ -49,7 +61,9 @@ fn line_words<R: Env + Alloc<A = Global>>(
 }
 
 /// The fault of a command line whose words could not be read.
-fn no_words(alloc: Global, fault: WordsFault) -> Result<OptionsFault, NoMemory> {
+fn no_words(alloc: Global, fault: WordsFault) -> Result<OptionsFault, NoMemory>
+    ensures { IfOk result (IsNoWords fault) }
+{
     match fault {
         WordsFault::NotText => Ok(OptionsFault::Line(not_text(alloc)?)),
         WordsFault::NoMemory => Ok(OptionsFault::NoMemory),
@@ -57,9 +71,9 @@ fn no_words(alloc: Global, fault: WordsFault) -> Result<OptionsFault, NoMemory> 
 }
 
 /// Parses the words, checks what they name, and returns the exit status.
-#[tactic(auto, using(crate::proofs::CheckLemmas::has_status))]
+#[tactic(auto, using(crate::proofs::LineLemmas::line_status))]
 fn obey<R: Files + Print + Eprint>(rt: &R, alloc: Global, words: &[String]) -> u8
-    ensures status { IsStatus result }
+    ensures run { RunsLine (map string_bytes words.now) result }
     ensures table { result ≤ 4 }
 {
     match check_words(rt, alloc, words) {
@@ -69,19 +83,40 @@ fn obey<R: Files + Print + Eprint>(rt: &R, alloc: Global, words: &[String]) -> u
 }
 
 /// Checks the handlers in the directories that the words name.
-#[tactic(auto, using(crate::proofs::CheckLemmas::ends_any))]
 fn check_words<R: Files + Print>(
     rt: &R,
     alloc: Global,
     words: &[String],
 ) -> Result<Result<bool, Stop>, OptionsFault>
-    ensures { IfOk result EndsAny }
+    ensures checked { IfOk result (EndsLine (map string_bytes words.now)) }
+    ensures refused { IfErr result (IsLineFault (map string_bytes words.now)) }
+{
+    let texts = texts_of(alloc, words)?;
+    check_texts(rt, alloc, texts.as_slice())
+}
+
+/// The texts of the words.
+fn texts_of<'w>(alloc: Global, words: &'w [String]) -> Result<Vec<&'w str>, NoMemory>
+    ensures { IfOk result (λ texts. map (λ text. text.now) texts.items ≡ map string_bytes words.now) }
 {
     let mut texts = Vec::new(alloc);
     for word in words {
         texts.push(word.as_str()).map_err(NoMemory::from)?;
     }
-    let matches = matched(alloc, texts.as_slice())?;
+    Ok(texts)
+}
+
+/// Checks the handlers in the directories that these texts name.
+#[tactic(auto, using(crate::proofs::LineLemmas::line_ends))]
+fn check_texts<R: Files + Print>(
+    rt: &R,
+    alloc: Global,
+    texts: &[&str],
+) -> Result<Result<bool, Stop>, OptionsFault>
+    ensures checked { IfOk result (EndsLine (map (λ text. text.now) texts.now)) }
+    ensures refused { IfErr result (IsLineFault (map (λ text. text.now) texts.now)) }
+{
+    let matches = matched(alloc, texts)?;
     match dirs_in(&matches) {
         Some(dirs) => Ok(check_on_system(rt, alloc, dirs)),
         None => Ok(check_on_system(rt, alloc, &[])),
@@ -90,7 +125,7 @@ fn check_words<R: Files + Print>(
 
 /// Prints the error of a command line that is refused, or the help.
 fn refuse<R: Print + Eprint>(rt: &R, fault: OptionsFault) -> u8
-    ensures status { IsWithoutCheck result }
+    ensures status { result ≡ fault_status fault }
     ensures table { result ≤ 4 }
 {
     match fault {
