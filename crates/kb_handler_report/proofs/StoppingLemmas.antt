@@ -109,9 +109,9 @@ unread_stops file held dir failure.NoMemory stop fails is = subst (StopsAt file 
 unread_stops file held dir (failure.Fault (File path)) stop fails is = absurd fails
 unread_stops file held dir (failure.Fault (InDirectory at which)) stop (same, same_file, there, (fault, has)) (inl is) =
     let path : path_in at.now which ≡ path_in dir.now file =
-        ap (λ (d : Bor (List ℕ)). path_in d.now which) same ∙ ap (path_in dir.now) same_file in
+    ap (λ (d : Bor (List ℕ)). path_in d.now which) same ∙ ap (path_in dir.now) same_file in
     let cannot : IsUnreadable file (held (path_in dir.now file)) =
-        record { there = there; fault = fault; reading = has } in
+    record { there = there; fault = fault; reading = has } in
     subst (StopsAt file held dir) (sym is) (path, cannot)
 unread_stops file held dir (failure.Fault (InDirectory at which)) stop fails (inr is) =
     subst (StopsAt file held dir) (sym is) tt

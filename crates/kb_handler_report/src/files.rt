@@ -1,14 +1,14 @@
 //! Reads the files of extensions.
 ghost use Rattle.std.specs.Prelude.{◌≡◌, ◌<◌, ◌≤◌, IfErr, IfOk, None, length, map, slice_get};
+ghost use Rattle.kb_disk.specs.CannotRead as paths;
+ghost use Rattle.kb_disk.specs.declared.cannot_read.DirFile.TheVariants.{Package, Handlers};
 ghost use Rattle.kb_files.specs.Identifiers as identifiers;
 ghost use Rattle.kb_handler_report.specs.Extension.{names_of};
 ghost use Rattle.kb_handler_report.specs.Files.{HasExtension, HasExtensions, HandlersIn, NamesIn};
 ghost use Rattle.kb_handler_report.specs.Files.{HasHandlers, HasNames};
-ghost use Rattle.kb_handler_report.specs.Stopping.{StopsReading, StopsAt, StopsInDirectory, StopsInDirectories};
-ghost use Rattle.kb_handler_report.specs.Stopping.{StopsAtBytes, StopsAtHandlers};
+ghost use Rattle.kb_handler_report.specs.Stopping.{StopsReading, StopsAt, StopsInDirectory};
+ghost use Rattle.kb_handler_report.specs.Stopping.{StopsInDirectories, StopsAtBytes, StopsAtHandlers};
 ghost use Rattle.kb_handler_report.specs.Stopping.{IsOfExtension, IsOfRefused, IsOfUnread, IsRefusedAt};
-ghost use Rattle.kb_disk.specs.CannotRead as paths;
-ghost use Rattle.kb_disk.specs.declared.cannot_read.DirFile.TheVariants.{Package, Handlers};
 
 use crate::extension::ExtensionCode;
 use crate::stop::Stop;
