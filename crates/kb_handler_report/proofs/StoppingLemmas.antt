@@ -1,5 +1,5 @@
 -- Why the extensions in directories were not read.
-use Rattle.std.proofs.Common.{◌≡◌, ◌<◌, ◌+◌, ◌∙◌, Bool, true, false, List, [], ◌∷◌, ℕ, drop, length, get_or, refl, sym, ap, subst, inl, inr}
+use Rattle.std.proofs.Common.{◌≡◌, ◌<◌, ◌+◌, ◌∙◌, Bool, true, List, [], ℕ, drop, length, get_or, refl, sym, ap, subst, inl, inr}
 use Rattle.std.proofs.lemmas.List.{drop_more}
 use Rattle.std.specs.Borrow.{Bor}
 use Rattle.std.specs.Prelude.{Option, Some, None, Result, Ok, Err}
@@ -21,11 +21,9 @@ use Rattle.kb_disk.specs.declared.cannot_read.DirFile.TheVariants.{Package, Hand
 use Rattle.kb_files.specs.Extension.{extension_by, extension_in, outline_in}
 use Rattle.kb_files.specs.HandlerFile.{handlers_in}
 use Rattle.kb_files.specs.Marked.{FailsForAll}
-use Rattle.kb_files.specs.declared.extension_file.Extension.{Extension}
 use Rattle.kb_keys.specs.declared.platform.Platform.{Platform}
-use Rattle.kb_manifest.specs.Manifest.{Outline}
 use Rattle.kb_handler_report.specs.Files.{HasExtension, HasNames}
-use Rattle.kb_handler_report.specs.Stopping.{AreRefused, HasManifest, IsOfRefused, IsOfUnread, IsUnreadable}
+use Rattle.kb_handler_report.specs.Stopping.{AreRefused, IsOfRefused, IsOfUnread, IsUnreadable}
 use Rattle.kb_handler_report.specs.Stopping.{StopsAt, StopsAtBytes, StopsAtHandlers, StopsInDirectories, StopsInDirectory}
 use Rattle.kb_handler_report.specs.declared.extension.ExtensionCode.{ExtensionCode}
 use Rattle.kb_handler_report.specs.declared.stop.Stop.{Stop}

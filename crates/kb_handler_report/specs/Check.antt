@@ -1,5 +1,5 @@
 -- What a check of the handlers in directories returns, by what the files in them hold.
-use Rattle.std.specs.Prelude.{◌≡◌, ◌≤◌, ◌<◌, ◌↔◌, ◌⊎◌, ℕ, Bool, List, None, Result, Ok, Err, IsTrue, length, map}
+use Rattle.std.specs.Prelude.{◌≡◌, ◌≤◌, ◌↔◌, ◌⊎◌, ℕ, Bool, List, None, Result, Ok, Err, IsTrue, length, map}
 use Rattle.std.specs.Borrow.{Bor}
 use Rattle.kb_disk.specs.Files.{Held, unknown}
 use Rattle.kb_files.specs.Identifiers.{identifier_fault}
@@ -12,8 +12,7 @@ use Rattle.kb_handler_report.specs.declared.extension.ExtensionCode.{ExtensionCo
 use Rattle.kb_handler_report.specs.declared.stop.Stop.{Stop}
 use Rattle.kb_handler_report.specs.declared.stop.Stop.TheVariants.{NoMemory, NotWritten}
 
--- these are the extensions of exactly these directories, of which there are at most 100, and there is no fault
--- of their identifiers
+-- these are the extensions of exactly these directories, at most 100, without a fault of their identifiers
 pub record AreRead (held : List ℕ → Held) (dirs : List (Bor (List ℕ))) (read : List ExtensionCode)
     : Type 0 where
   pub few : length dirs ≤ 100

@@ -1,7 +1,8 @@
 -- The command line, and the exit status of a run by its words.
 use Rattle.std.specs.Prelude.{◌≡◌, ◌⊎◌, ⊤, ℕ, Bool, true, List, [], Some, Result, Err, codes, map, unwrap_or}
 use Rattle.std.specs.Borrow.{Bor}
-use Rattle.clap.specs.Words.{App, Rule, Text, all_of, fault_of, kind_of, matches_of, new_app, new_rule, with_rule}
+use Rattle.clap.specs.Words.{App, Rule, Text, all_of, fault_of, kind_of, matches_of}
+use Rattle.clap.specs.Words.{new_app, new_rule, with_rule}
 use Rattle.clap.specs.declared.builder.action.ArgAction.TheVariants.{Append}
 use Rattle.clap.specs.declared.error.Error.{Error}
 use Rattle.clap.specs.declared.error.kind.ErrorKind.TheVariants.{InvalidValue}
@@ -44,8 +45,8 @@ pub record RefusesLine (words : List Text) (status : ℕ) : Type 0 where
   pub by_clap : Matched check_app words (Err error)
   pub status_is : status ≡ fault_status (fault_by error)
 
--- the extensions in the directories that the words name were checked, over the system, of whose files contracts
--- know nothing
+-- the extensions in the directories that the words name were checked, over the system, of whose files
+-- contracts know nothing
 pub record ChecksLine (words : List Text) (status : ℕ) : Type 0 where
   pub dirs : List (Bor Text)
   pub named : NamesDirs words dirs

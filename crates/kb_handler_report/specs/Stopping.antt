@@ -1,7 +1,7 @@
--- Why the extensions in directories were not read, by what the files in them hold. Memory may be refused at any
--- file.
-use Rattle.std.specs.Prelude.{◌≡◌, ◌≤◌, ◌<◌, ◌⊎◌, ⊤, ℕ, List, [], ◌∷◌, Option, Some, None, Err, Ok, length, map}
-use Rattle.std.specs.Prelude.{slice_get}
+-- Why the extensions in directories were not read, by what the files in them hold. Memory may be refused at
+-- any file.
+use Rattle.std.specs.Prelude.{◌≡◌, ◌≤◌, ◌<◌, ◌⊎◌, ⊤, ℕ, List, [], ◌∷◌, Option, Some, None, Err, Ok}
+use Rattle.std.specs.Prelude.{length, map, slice_get}
 use Rattle.std.specs.Borrow.{Bor}
 use Rattle.kb_base.specs.declared.failure.Failure.{Failure}
 use Rattle.kb_base.specs.declared.failure.Failure.TheVariants as failure
@@ -38,7 +38,8 @@ AreRefused Handlers bytes refusal = handlers_in bytes ≡ Err refusal
 
 -- the same, by the number of the fault
 abbrev pub AreRefusedFor : DirFile → List ℕ → ℕ → Type 0
-AreRefusedFor file bytes number = (refusal : Refusal) × AreRefused file bytes refusal × (number ≡ refusal.number)
+AreRefusedFor file bytes number =
+    (refusal : Refusal) × AreRefused file bytes refusal × (number ≡ refusal.number)
 
 -- a file in a directory, by what is at its path, was read, and is refused
 pub record IsRefused (file : DirFile) (held : Held) (number : ℕ) : Type 0 where
@@ -114,7 +115,8 @@ IsOfRefused path (failure.Fault refusal) stop = IsRefusedAt path refusal.number 
 -- the bytes of a file in a directory stop the reading
 abbrev pub StopsAtBytes : DirFile → List ℕ → List ℕ → Stop → Type 0
 StopsAtBytes file dir bytes (CannotRead path) = ⊥
-StopsAtBytes file dir bytes (Refused path number) = (path ≡ path_in dir file) × AreRefusedFor file bytes number
+StopsAtBytes file dir bytes (Refused path number) =
+    (path ≡ path_in dir file) × AreRefusedFor file bytes number
 StopsAtBytes file dir bytes TooMany = ⊥
 StopsAtBytes file dir bytes NoMemory = ⊤
 StopsAtBytes file dir bytes NotWritten = ⊥
