@@ -4,3 +4,6 @@ pub mod Callable
 pub mod Judgement
 pub mod Visits
 pub mod Stop
+pub mod Stopping
+pub mod Check
+pub mod Line

@@ -1,9 +1,14 @@
 //! Reads the files of extensions.
-ghost use Rattle.std.specs.Prelude.{◌≡◌, ◌<◌, IfOk, None, length, map};
+ghost use Rattle.std.specs.Prelude.{◌≡◌, ◌<◌, ◌≤◌, IfErr, IfOk, None, length, map, slice_get};
+ghost use Rattle.kb_disk.specs.CannotRead as paths;
+ghost use Rattle.kb_disk.specs.declared.cannot_read.DirFile.TheVariants.{Package, Handlers};
 ghost use Rattle.kb_files.specs.Identifiers as identifiers;
 ghost use Rattle.kb_handler_report.specs.Extension.{names_of};
 ghost use Rattle.kb_handler_report.specs.Files.{HasExtension, HasExtensions, HandlersIn, NamesIn};
 ghost use Rattle.kb_handler_report.specs.Files.{HasHandlers, HasNames};
+ghost use Rattle.kb_handler_report.specs.Stopping.{StopsReading, StopsAt, StopsInDirectory};
+ghost use Rattle.kb_handler_report.specs.Stopping.{StopsInDirectories, StopsAtBytes, StopsAtHandlers};
+ghost use Rattle.kb_handler_report.specs.Stopping.{IsOfExtension, IsOfRefused, IsOfUnread, IsRefusedAt};
 
 use crate::extension::ExtensionCode;
 use crate::stop::Stop;
@@ -30,6 +35,8 @@ pub(crate) fn read_extensions<F: FileSource>(
     ensures read { IfOk result (λ read. HasExtensions (F.held files.now) dirs.now read.items) }
     ensures names { IfOk result (λ read.
         identifiers.identifier_fault (map names_of read.items) ≡ None) }
+    ensures few { IfOk result (λ read. length dirs.now ≤ 100) }
+    ensures stopped { IfErr result (StopsReading (F.held files.now) dirs.now) }
 {
     if dirs.len() > EXTENSION_LIMIT {
         return Err(Stop::TooMany);
@@ -47,7 +54,8 @@ fn read_directories<F: FileSource>(
     alloc: Global,
     dirs: &[&str],
 ) -> Result<Vec<ExtensionCode>, Stop>
-    ensures { IfOk result (λ read. HasExtensions (F.held files.now) dirs.now read.items) }
+    ensures read { IfOk result (λ read. HasExtensions (F.held files.now) dirs.now read.items) }
+    ensures stopped { IfErr result (StopsInDirectories (F.held files.now) dirs.now) }
 {
     let mut extensions = Vec::new(alloc);
     for dir in dirs {
@@ -58,8 +66,10 @@ fn read_directories<F: FileSource>(
 }
 
 /// Reads the extension in a directory.
+#[tactic(auto, using(crate::proofs::StoppingLemmas::handlers_stop_directory))]
 fn read_directory<F: FileSource>(files: &F, alloc: Global, dir: &str) -> Result<ExtensionCode, Stop>
-    ensures { IfOk result (HasExtension (F.held files.now) dir.entry) }
+    ensures read { IfOk result (HasExtension (F.held files.now) dir.entry) }
+    ensures stopped { IfErr result (StopsInDirectory (F.held files.now) dir.entry) }
 {
     let (id, dependencies) = read_names(files, alloc, dir)?;
     let handlers = handlers_in(files, alloc, dir)?;
@@ -72,9 +82,10 @@ fn read_directory<F: FileSource>(files: &F, alloc: Global, dir: &str) -> Result<
 }
 
 /// Reads the identifier and the dependencies of the extension in a directory.
-#[tactic(auto, using(crate::proofs::FilesLemmas::has_names))]
+#[tactic(auto, using(crate::proofs::FilesLemmas::has_names, crate::proofs::StoppingLemmas::files_stop))]
 fn read_names<F: FileSource>(files: &F, alloc: Global, dir: &str) -> Result<(Text, Seq<Text>), Stop>
-    ensures { IfOk result (λ names. HasNames (F.held files.now) dir.entry names.0 names.1) }
+    ensures read { IfOk result (λ names. HasNames (F.held files.now) dir.entry names.0 names.1) }
+    ensures stopped { IfErr result (StopsAt Package (F.held files.now) dir.entry) }
 {
     match kb_disk::manifest_in(files, alloc, dir) {
         Ok(bytes) => {
@@ -88,7 +99,8 @@ fn read_names<F: FileSource>(files: &F, alloc: Global, dir: &str) -> Result<(Tex
 /// The identifier and the dependencies that a manifest states.
 #[tactic(auto, using(crate::proofs::FilesLemmas::has_names_in))]
 fn names_in(alloc: Global, dir: &str, bytes: &[u8]) -> Result<(Text, Seq<Text>), Stop>
-    ensures { IfOk result (λ names. NamesIn bytes.now names.0 names.1) }
+    ensures read { IfOk result (λ names. NamesIn bytes.now names.0 names.1) }
+    ensures stopped { IfErr result (StopsAtBytes Package dir.now bytes.now) }
 {
     match read_extension(alloc, bytes, 0, Platform::Linux) {
         Ok(extension) => Ok(take_names(alloc, extension)),
@@ -109,13 +121,14 @@ fn take_names(alloc: Global, extension: Extension) -> (Text, Seq<Text>)
 }
 
 /// Reads the handlers in a directory, or returns `None` if there is no such file.
-#[tactic(auto, using(crate::proofs::FilesLemmas::has_handlers))]
+#[tactic(auto, using(crate::proofs::FilesLemmas::has_handlers, crate::proofs::StoppingLemmas::files_stop))]
 fn handlers_in<F: FileSource>(
     files: &F,
     alloc: Global,
     dir: &str,
 ) -> Result<Option<Seq<Handler>>, Stop>
-    ensures { IfOk result (HasHandlers (F.held files.now) dir.entry) }
+    ensures read { IfOk result (HasHandlers (F.held files.now) dir.entry) }
+    ensures stopped { IfErr result (StopsAt Handlers (F.held files.now) dir.entry) }
 {
     match kb_disk::handlers_in(files, alloc, dir) {
         Ok(bytes) => {
@@ -127,8 +140,10 @@ fn handlers_in<F: FileSource>(
 }
 
 /// The handlers that a file lists, or `None` if there is no file.
+#[tactic(auto, using(crate::proofs::StoppingLemmas::handlers_refused))]
 fn listed(alloc: Global, dir: &str, bytes: &Option<Vec<u8>>) -> Result<Option<Seq<Handler>>, Stop>
-    ensures { IfOk result (HandlersIn (λ bytes. bytes.items) bytes.now) }
+    ensures read { IfOk result (HandlersIn (λ bytes. bytes.items) bytes.now) }
+    ensures stopped { IfErr result (StopsAtHandlers (λ bytes. bytes.items) dir.now bytes.now) }
 {
     let Some(bytes) = bytes else {
         return Ok(None);
@@ -140,7 +155,9 @@ fn listed(alloc: Global, dir: &str, bytes: &Option<Vec<u8>>) -> Result<Option<Se
 }
 
 /// The error for a file that could not be read.
-fn unread(alloc: Global, failure: Failure<CannotRead<'_>>) -> Stop {
+fn unread(alloc: Global, failure: Failure<CannotRead<'_>>) -> Stop
+    ensures { IsOfUnread failure.entry result }
+{
     let Failure::Fault(unread) = failure else {
         return Stop::NoMemory;
     };
@@ -153,13 +170,16 @@ fn unread(alloc: Global, failure: Failure<CannotRead<'_>>) -> Stop {
 /// The error for the extension with this fault of its identifier or its dependencies.
 fn refused_extension(alloc: Global, extensions: &[ExtensionCode], fault: IdentifierFault) -> Stop
     requires { fault.place < length extensions.now }
+    ensures { IsOfExtension (slice_get extensions.now fault.place) fault.number result }
 {
     let dir = extensions[fault.place].dir.as_str();
     refused_file(alloc, dir, DirFile::Package, fault.number)
 }
 
 /// The error for a file in a directory that is refused, by the number of its fault.
-fn refused_file(alloc: Global, dir: &str, file: DirFile, number: u32) -> Stop {
+fn refused_file(alloc: Global, dir: &str, file: DirFile, number: u32) -> Stop
+    ensures { IsRefusedAt (paths.path_in dir.now file) number result }
+{
     match path_in(alloc, dir, file) {
         Ok(path) => Stop::Refused(Text::from_string(path), number),
         Err(_) => Stop::NoMemory,
@@ -167,7 +187,9 @@ fn refused_file(alloc: Global, dir: &str, file: DirFile, number: u32) -> Stop {
 }
 
 /// The error for a file in a directory whose bytes could not be parsed.
-fn failed_file(alloc: Global, dir: &str, file: DirFile, failure: &Failure<Refusal>) -> Stop {
+fn failed_file(alloc: Global, dir: &str, file: DirFile, failure: &Failure<Refusal>) -> Stop
+    ensures { IsOfRefused (paths.path_in dir.now file) failure.now result }
+{
     match failure {
         Failure::NoMemory => Stop::NoMemory,
         Failure::Fault(refusal) => refused_file(alloc, dir, file, refusal.number),

@@ -3,6 +3,7 @@
 #![tactic(auto)]
 
 pub mod callable;
+pub mod check;
 pub mod extension;
 mod files;
 mod instruction;
@@ -16,6 +17,7 @@ pub mod stop;
 mod words;
 
 pub use callable::callable_of;
+pub use check::check_extensions;
 pub use extension::ExtensionCode;
 pub use judgement::{Judgement, judge};
 pub use report::report_extensions;
