@@ -1,5 +1,5 @@
 -- A hash map with strings as keys, as a finite map from the bytes of its keys.
-use Rattle.std.proofs.Common.{◌≡◌, ℕ, ◌+◌, List, [], ◌∷◌, Bool, false, Option, Some, None, cond, length, refl}
+use Rattle.std.proofs.Common.{◌≡◌, ℕ, ◌+◌, List, [], ◌∷◌, Bool, true, false, Option, Some, None, cond, length, refl}
 use Rattle.std.proofs.Common.{sym, ◌∙◌, ap, String, string_bytes, is_some, add-one, Result, Ok, Err, OnErr}
 use Rattle.std.specs.Ordering.{nat_cmp, eq_by_cmp}
 use Rattle.std.specs.Str.{bytes_eq}
@@ -16,7 +16,8 @@ use Rattle.std.proofs.lemmas.Cmp.{nat_list_cmp_total}
 use Rattle.std.proofs.lemmas.Map.Lookups.{exact_bytes}
 use Rattle.std.proofs.lemmas.Map.Text.{hash_map_updates_text, is_eq-slice_cmp}
 use Rattle.std.specs.Cmp.{eq_by_cmp_equiv}
-use Rattle.kb_base.specs.TextMap.{by_bytes}
+use Rattle.std.proofs.lemmas.Slice.Eq.{bytes_eq-Decides}
+use Rattle.kb_base.specs.TextMap.{by_bytes, filled}
 
 -- the finite map of a table
 abbrev pub seen : {X : Type 0} → List (String Global × X) → FinMap (slice_cmp nat_cmp) X
@@ -82,3 +83,30 @@ module _ {X : Type 0} where
 pub OnErr-holds : {X E P : Type 0} (r : Result X E) → P → OnErr r P
 OnErr-holds (Ok x) p = tt
 OnErr-holds (Err e) p = p
+
+-- ---- a table that another one's keys fill
+
+no_value : {A : Type 0} (o : Option A) → is_some o ≡ false → o ≡ None
+no_value None e = refl
+no_value (Some x) e = absurd (let no : true ≡ false = e in cc)
+
+filled_step : {X : Type 0} (b : Bool) (o : Option ℕ) (v : X) (r : Option X) (w : ℕ) → (b ≡ true → o ≡ None)
+    → filled (cond b (Some w) o) (is_some r) w ≡ filled o (is_some (cond b (Some v) r)) w
+filled_step true o v r w h = ap (λ p. filled p true w) (sym (h refl))
+filled_step false o v r w h = refl
+
+-- an entry whose key is new fills its key
+pub filled_more : {X : Type 0} (m n : FinMap (slice_cmp nat_cmp) ℕ) (k : String Global) (v : X)
+    (rest : List (String Global × X)) (w : ℕ) → contains_key m (string_bytes k) ≡ false
+    → n ≡ insert m (string_bytes k) w → (q : List ℕ)
+    → filled (get n q) (is_some (lookup (λ s. bytes_eq q (string_bytes s)) rest)) w
+    ≡ filled (get m q) (is_some (lookup (λ s. bytes_eq q (string_bytes s)) ((k, v) ∷ rest))) w
+filled_more m n k v rest w new is q =
+    ap (λ (t : FinMap (slice_cmp nat_cmp) ℕ).
+    filled (get t q) (is_some (lookup (λ s. bytes_eq q (string_bytes s)) rest)) w) is
+    ∙ ap (λ o. filled o (is_some (lookup (λ s. bytes_eq q (string_bytes s)) rest)) w)
+    (get-insert nat_list_cmp_total m (string_bytes k) w q
+    ∙ ap (λ (b : Bool). cond b (Some w) (get m q)) (is_eq-slice_cmp q (string_bytes k)))
+    ∙ filled_step (bytes_eq q (string_bytes k)) (get m q) v
+    (lookup (λ s. bytes_eq q (string_bytes s)) rest) w
+    (λ e. ap (get m) ((bytes_eq-Decides q (string_bytes k)).0 e) ∙ no_value _ new)

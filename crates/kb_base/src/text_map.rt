@@ -1,6 +1,7 @@
 //! Maps with texts as keys.
-ghost use Rattle.std.specs.Prelude.{◌≡◌, ◌<◌, ◌^◌, ◌↔◌, IsTrue, OnOk, OnErr, false, option_copied};
+ghost use Rattle.std.specs.Prelude.{◌≡◌, ◌<◌, ◌^◌, ◌↔◌, ℕ, List, IsTrue, OnOk, OnErr, false, option_copied};
 ghost use Rattle.std.specs.FinMap as map;
+ghost use Rattle.kb_base.specs.TextMap.{filled};
 
 use crate::memory::NoMemory;
 use crate::text::Text;
@@ -99,5 +100,30 @@ impl<V: Drop> TextMap<V> {
         ensures { self.new ≡ map.remove self.old key.now }
     {
         self.table.remove(key);
+    }
+    /// Removes all keys. The memory of the map is kept for further keys.
+    pub fn clear(&mut self)
+        ensures { self.new ≡ map.empty }
+    {
+        self.table.clear();
+    }
+
+    /// Gives each key of this map that the other map lacks the number there. Error: `NoMemory`; the other
+    /// map then has some of these keys.
+    pub fn fill(
+        &self,
+        alloc: Global,
+        other: &mut TextMap<usize>,
+        number: usize,
+    ) -> Result<(), NoMemory>
+        ensures { OnOk result ((key : List ℕ)
+            → map.get other.new key ≡ filled (map.get other.old key) (map.contains_key self.now key) number) }
+    {
+        for (key, _) in &self.table {
+            if !other.contains_key(key.as_str()) {
+                other.insert(Text::from_str(alloc, key.as_str())?, number)?;
+            }
+        }
+        Ok(())
     }
 }

@@ -1,6 +1,7 @@
 -- The commands of a table in turn, and extensions that are enabled or disabled.
 use Rattle.std.proofs.Common.{◌≡◌, ◌<◌, ◌+◌, ℕ, List, [], ◌∷◌, map, drop, length, ap, arith, Some}
-use Rattle.std.proofs.Common.{zero, suc, ◌≤◌, Bool, false, refl, ◌++◌, get_or, set}
+use Rattle.std.proofs.Common.{zero, suc, ◌≤◌, Bool, false, refl, ◌++◌, get_or, set, subst}
+use Rattle.std.specs.Prelude.{Result, IfErr}
 use Rattle.std.specs.List.{slice_get, flat_map}
 use Rattle.kb_manifest.specs.declared.command_table.Named.{Named}
 use Rattle.kb_resolve.specs.declared.enablements.Contribution.{Contribution}
@@ -9,6 +10,11 @@ use Rattle.kb_palette_commands.proofs.ListLemmas.{left_from, one_more}
 use Rattle.kb_bindings.specs.Sources.{Sources, contribution_of, with_enabled}
 use Rattle.kb_files.specs.Enabled.{is_enabled_at, switched_at}
 use Rattle.kb_bindings.specs.Warning.{of_extension, warnings_of}
+use Rattle.kb_context.specs.Scopes.{Keys}
+use Rattle.kb_keys.specs.declared.keystroke.Keystroke.{Keystroke}
+use Rattle.kb_resolve.specs.Enablements.{Enabling}
+use Rattle.kb_resolve.specs.Resolver.{MayAskPatterns}
+use Rattle.kb_rules.specs.declared.rule.Rule.{Rule}
 
 -- one more command of a table, and then those that are left
 pub one_contributed : (now before whole : List Contribution) (commands : List Named) (n : ℕ) (e : Named)
@@ -67,3 +73,13 @@ pub none_enabled : (place : ℕ) (es : List Extension) → length es ≤ place �
 none_enabled place [] above = refl
 none_enabled zero (e ∷ es) above = absurd (omega (arith, above))
 none_enabled (suc place) (e ∷ es) above = none_enabled place es (omega (arith, above))
+
+-- ---- a search that may be refused memory
+
+-- the same for equal enablements and rules
+pub asks_among : {X E : Type 0} (r : Result X E) (pressed : List Keystroke) (keys : Keys) (e f : Enabling)
+    (rules all : List Rule) → e ≡ f → rules ≡ all → IfErr r (λ _. MayAskPatterns pressed keys e rules)
+    → IfErr r (λ _. MayAskPatterns pressed keys f all)
+asks_among r pressed keys e f rules all same are h =
+    subst (λ (rs : List Rule). IfErr r (λ _. MayAskPatterns pressed keys f rs)) are
+    (subst (λ (g : Enabling). IfErr r (λ _. MayAskPatterns pressed keys g rules)) same h)

@@ -12,7 +12,7 @@ use Rattle.kb_base.specs.Failure.{Gives}
 use Rattle.kb_base.specs.Reading.{seen}
 use Rattle.kb_base.specs.declared.failure.Failure.{Failure}
 use Rattle.kb_base.specs.declared.refusal.Refusal.{Refusal}
-use Rattle.kb_context.specs.Scopes.{ScopesData}
+use Rattle.kb_context.specs.Scopes.{RevisedScopes}
 use Rattle.kb_files.specs.Extension.{unread_in}
 use Rattle.kb_files.specs.Extensions.{HeldExtension, outlines_of, handlers_of, AreExtensions, AreHeld}
 use Rattle.kb_files.specs.Fault.{refused_by, of_file}
@@ -38,8 +38,8 @@ use Rattle.kb_bindings.specs.Unread.{unread_of}
 
 -- ---- one file
 
-pub scopes_of_file : (file : LoadFile) (held : Result ScopesData Refusal)
-    (r : Result ScopesData (Failure Refusal)) → Gives (λ scopes. scopes) r held
+pub scopes_of_file : (file : LoadFile) (held : Result RevisedScopes Refusal)
+    (r : Result RevisedScopes (Failure Refusal)) → Gives (λ scopes. scopes) r held
     → Gives (λ scopes. scopes) (of_file file r) (refused_by file held)
 scopes_of_file = given_of_file
 
@@ -147,10 +147,10 @@ sources_made files sources handlers lists extensions h k =
       handlers_are = all.handlers_are;
     }) h k
 
-abbrev loaded_from : ScopesData → Sources → List (List HandlerData) → Loaded
+abbrev pub loaded_from : RevisedScopes → Sources → List (List HandlerData) → Loaded
 loaded_from scopes sources handlers = record { scopes = scopes; bindings = sources; handlers = handlers }
 
-all_made : (files : Files) (scopes : ScopesData) (sources : Sources)
+all_made : (files : Files) (scopes : RevisedScopes) (sources : Sources)
     (handlers : List (List HandlerData)) (rules : Result HeldRules LoadFault)
     → MatchResult rules (λ held. IsBound files.platform held sources handlers) (λ fault. ⊥)
     → seen (λ (held : Held). loaded_from held.scopes
@@ -163,7 +163,7 @@ all_made files scopes sources handlers (Ok held) are =
     (sources_own files.platform held sources are.lists_are are.extensions_are i) (sym are.handlers_are i))
 all_made files scopes sources handlers (Err f) are = absurd are
 
-pub all_loaded : (files : Files) (scopes : ScopesData) (sources : Sources)
+pub all_loaded : (files : Files) (scopes : RevisedScopes) (sources : Sources)
     (handlers : List (List HandlerData)) → refused_by file.Layout (layout_scopes files.layout) ≡ Ok scopes
     → MatchResult (rules_held files) (λ held. IsBound files.platform held sources handlers) (λ fault. ⊥)
     → loaded (unread_of sources) files ≡ Ok (loaded_from scopes sources handlers)

@@ -6,7 +6,7 @@ use Rattle.kb_code.specs.Handler.{HandlerData}
 use Rattle.kb_base.specs.Failure.{Fails}
 use Rattle.kb_base.specs.Reading.{◌>>=◌, seen}
 use Rattle.kb_base.specs.declared.failure.Failure.{Failure}
-use Rattle.kb_context.specs.Scopes.{ScopesData}
+use Rattle.kb_context.specs.Scopes.{RevisedScopes}
 use Rattle.kb_files.specs.Extensions.{ExtensionBytes, HeldExtension, extension_bytes, manifests}
 use Rattle.kb_files.specs.Extensions.{extensions_held, extensions_by, outlines_of, handlers_of}
 use Rattle.kb_files.specs.Extensions.{AreExtensions, AllRightlyMarked}
@@ -56,7 +56,7 @@ pub record HeldRules : Type 0 where
 
 -- what all files hold, before patterns are read
 pub record Held : Type 0 where
-  pub scopes : ScopesData
+  pub scopes : RevisedScopes
   pub rules : HeldRules
 
 -- the default rules are looked at before the user's

@@ -1,8 +1,10 @@
 //! What binds keys, and what follows from it: the search, and the commands of the palette.
-ghost use Rattle.std.specs.Prelude.{◌≡◌, ◌++◌, IfOk, OnOk, OnErr, map};
+ghost use Rattle.std.specs.Prelude.{◌≡◌, [], ◌∷◌, ◌++◌, IfOk, IfErr, OnOk, OnErr, map};
 ghost use Rattle.std.specs.List.{flat_map};
 ghost use Rattle.kb_resolve.specs.Enablements.{enablement_in, enablement_of};
+ghost use Rattle.kb_context.specs.Scopes.{context};
 ghost use Rattle.kb_resolve.specs.Pressed.{step_of};
+ghost use Rattle.kb_resolve.specs.Resolver.{MayAskPatterns};
 ghost use Rattle.kb_bindings.specs.Sources.{pressed, still_pressed, rules_of, with_user_rules, source_of};
 ghost use Rattle.kb_bindings.specs.Sources.{contribution_of, contributions_of, enablement, with_enabled};
 ghost use Rattle.kb_files.specs.Enabled.{is_enabled_at, switched_at};
@@ -116,16 +118,19 @@ impl Bindings {
         }
     }
 
-    /// Presses a key, over what the focus of the scopes sees.
+    /// Presses a key, over what the focus of the scopes sees. `NoMemory` only if a clause or an enablement with
+    /// a pattern is evaluated; the chord is then unchanged.
     pub fn press<'b>(
         &'b self,
         chord: &mut ChordState,
         stroke: Keystroke,
         scopes: &Scopes,
     ) -> Result<Pressed<'b>, NoMemory>
-        ensures step { IfOk result (λ does. step_of does ≡ pressed chord.old stroke scopes.now self.now) }
-        ensures pressed { OnOk result (chord.new ≡ still_pressed chord.old stroke scopes.now self.now) }
+        ensures step { IfOk result (λ does. step_of does ≡ pressed chord.old stroke scopes.now.seen self.now) }
+        ensures pressed { OnOk result (chord.new ≡ still_pressed chord.old stroke scopes.now.seen self.now) }
         ensures err { OnErr result (chord.new ≡ chord.old) }
+        ensures memory { IfErr result (λ _. MayAskPatterns (chord.old ++ stroke ∷ [])
+            (context scopes.now.seen) (enablement self.now) (rules_of self.now)) }
     {
         chord.press(stroke, &self.resolver, scopes, &self.enablements)
     }
@@ -368,7 +373,7 @@ fn search_among(
     let lists = lists_of(alloc, extensions)?;
     let enabled = flags_of(alloc, extensions)?;
     let rules = RuleSet::assemble(alloc, defaults, lists.as_slice(), enabled.as_slice(), user)?;
-    Ok(Resolver::new(rules))
+    Resolver::build(alloc, rules)
 }
 
 /// The rules of each extension, lent.

@@ -14,7 +14,8 @@ use kb_base::{Failure, NoMemory, Seq};
 use kb_code::Handler;
 use kb_context::Scopes;
 use kb_files::{
-    Inputs, LoadFault, LoadFile, ReadExtensions, of_file, read_extensions, read_rules, read_scopes,
+    Extension, Inputs, LoadFault, LoadFile, ReadExtensions, of_file, read_extensions, read_rules,
+    read_scopes,
 };
 use kb_rules::{Origin, RuleList};
 use std::alloc::Global;
@@ -43,63 +44,45 @@ pub fn load_files(alloc: Global, inputs: Inputs<'_>) -> Result<Loaded, Failure<L
     ensures right { IfOk result (λ loaded. MarksAreRight (files_of inputs.entry) loaded.bindings) }
 {
     let scopes = load_scopes(alloc, inputs.layout)?;
-    let (bindings, handlers) = load_bindings(alloc, inputs)?;
-    Ok(Loaded {
-        scopes,
-        bindings,
+    let lists = load_lists(alloc, inputs.defaults, inputs.user)?;
+    let extensions = match read_extensions(alloc, inputs.extensions, inputs.platform) {
+        Ok(extensions) => extensions,
+        Err(failure) => {
+            // (written down, since they are dropped by a call then, and not part by part in the proof)
+            drop(lists);
+            return Err(failure);
+        }
+    };
+    let ReadExtensions {
+        extensions,
         handlers,
-    })
+    } = extensions;
+    match bind(alloc, lists, extensions) {
+        Ok(bindings) => Ok(Loaded {
+            scopes,
+            bindings,
+            handlers,
+        }),
+        Err(refused) => Err(Failure::from(refused)),
+    }
 }
 
 // The loads call one another, so that each function drops few values where a file is refused.
 
-/// What binds keys in these files, and the handlers of each extension.
-#[tactic(auto, using(crate::proofs::LoadLemmas::sources_made))]
-fn load_bindings(
-    alloc: Global,
-    inputs: Inputs<'_>,
-) -> Result<(Bindings, Seq<Seq<Handler>>), Failure<LoadFault>>
-    ensures read { GivesOf (λ held bound. IsBound inputs.entry.platform held bound.0 bound.1) result
-        (rules_held (files_of inputs.entry)) }
-    ensures right { IfOk result (λ bound. MarksAreRight (files_of inputs.entry) bound.0) }
-{
-    let lists = load_lists(alloc, inputs.defaults, inputs.user)?;
-    match read_extensions(alloc, inputs.extensions, inputs.platform) {
-        Ok(all) => Ok(bind(alloc, lists, all)?),
-        Err(failure) => {
-            // (written down, since they are dropped by a call then, and not part by part in the proof)
-            drop(lists);
-            Err(failure)
-        }
-    }
-}
-
-/// What binds keys among these rules, the default ones and the user's, and extensions; and the extensions'
-/// handlers.
+/// What binds keys among these rules, the default ones and the user's, and extensions.
 fn bind(
     alloc: Global,
     lists: (RuleList, RuleList),
-    all: ReadExtensions,
-) -> Result<(Bindings, Seq<Seq<Handler>>), NoMemory>
-    ensures sources { IfOk result (λ bound. bound.0 ≡ record {
+    extensions: Seq<Extension>,
+) -> Result<Bindings, NoMemory>
+    ensures { IfOk result (λ bindings. bindings ≡ record {
       defaults = lists.0;
-      extensions = all.extensions;
+      extensions = extensions;
       user = lists.1;
     }) }
-    ensures handlers { IfOk result (λ bound. bound.1 ≡ all.handlers) }
 {
     let (defaults, user) = lists;
-    let ReadExtensions {
-        extensions,
-        handlers,
-    } = all;
-    match Bindings::new(alloc, defaults, extensions, user) {
-        Ok(bindings) => Ok((bindings, handlers)),
-        Err(refused) => {
-            drop(handlers);
-            Err(refused)
-        }
-    }
+    Bindings::new(alloc, defaults, extensions, user)
 }
 
 /// The default rules and the user's.

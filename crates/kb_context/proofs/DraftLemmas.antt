@@ -13,7 +13,7 @@ use Rattle.std.proofs.lemmas.Map.Text.{is_eq-slice_cmp}
 use Rattle.std.proofs.lemmas.Option.{option_and_then_some}
 use Rattle.std.proofs.lemmas.Slice.Eq.{bytes_eq-Decides}
 use Rattle.kb_context.specs.declared.layout.LayoutScope.{LayoutScope}
-use Rattle.kb_context.specs.declared.scopes.Scope.{Scope}
+use Rattle.kb_context.specs.declared.scope_tree.Scope.{Scope}
 use Rattle.kb_context.specs.Scopes.{Places, scope_names, parents, place_in, place_of, key_count}
 use Rattle.kb_context.specs.Scopes.{IsRootedList, IsRooted, IsPlaced}
 use Rattle.kb_context.specs.Layout.{layout_key_count}

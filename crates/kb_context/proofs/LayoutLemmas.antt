@@ -9,7 +9,7 @@ use Rattle.kb_context.specs.Layout.{scope_limit}
 use Rattle.kb_context.specs.declared.layout.LayoutScope.{LayoutScope}
 use Rattle.kb_context.specs.declared.layout.Layout.{Layout}
 use Rattle.kb_context.specs.Scopes.{key_limit}
-use Rattle.kb_context.specs.declared.scopes.Scope.{Scope}
+use Rattle.kb_context.specs.declared.scope_tree.Scope.{Scope}
 use Rattle.kb_context.specs.declared.fault.ScopeFault.{ScopeFault}
 use Rattle.kb_context.specs.declared.fault.ScopeFault.TheVariants.{BadLayout, TooManyKeys}
 use Rattle.kb_base.specs.declared.failure.Failure.{Failure}

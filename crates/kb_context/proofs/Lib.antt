@@ -2,3 +2,4 @@ pub mod DraftLemmas
 pub mod LayoutLemmas
 pub mod OutwardLemmas
 pub mod ScopesLemmas
+pub mod SeatLemmas

@@ -7,7 +7,7 @@ use Rattle.std.specs.Cmp.Lexicographic.{slice_cmp}
 use Rattle.std.specs.FinMap.{get, entries, find, get-from_entries, get-entries, get-empty}
 use Rattle.std.proofs.lemmas.Cmp.{nat_list_cmp_total}
 use Rattle.kb_context.specs.declared.value.ContextValue.{ContextValue}
-use Rattle.kb_context.specs.declared.scopes.Scope.{Scope}
+use Rattle.kb_context.specs.declared.scope_tree.Scope.{Scope}
 use Rattle.kb_context.specs.Scopes.{Keys, over, outward, laid, IsRooted}
 use Rattle.kb_context.proofs.ScopesLemmas.{parent_before}
 

@@ -11,7 +11,7 @@ use Rattle.std.proofs.lemmas.Option.{slice_get_read, slice_get-map}
 use Rattle.std.proofs.lemmas.List.{length-map}
 use Rattle.std.proofs.lemmas.Map.Text.{is_eq-slice_cmp}
 use Rattle.std.proofs.lemmas.Slice.Eq.{bytes_eq-Decides}
-use Rattle.kb_context.specs.declared.scopes.Scope.{Scope}
+use Rattle.kb_context.specs.declared.scope_tree.Scope.{Scope}
 use Rattle.kb_context.specs.Scopes.{key_limit}
 use Rattle.kb_context.specs.declared.value.ContextValue.{ContextValue}
 use Rattle.kb_context.specs.Scopes.{Keys, Places, ScopesData, scope_names, parents, place_in, place_of}

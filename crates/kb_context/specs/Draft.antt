@@ -2,7 +2,7 @@
 use Rattle.std.specs.Prelude.{◌≡◌, ℕ, if◌then◌else◌, List, [], ◌∷◌, ◌++◌, Option, Some, None, option_map}
 use Rattle.std.specs.Prelude.{option_and_then, is_some}
 use Rattle.kb_context.specs.declared.layout.LayoutScope.{LayoutScope}
-use Rattle.kb_context.specs.declared.scopes.Scope.{Scope}
+use Rattle.kb_context.specs.declared.scope_tree.Scope.{Scope}
 use Rattle.kb_context.specs.declared.fault.ScopeFault.{ScopeFault}
 use Rattle.kb_context.specs.declared.fault.ScopeFault.TheVariants.{BadLayout}
 use Rattle.kb_base.specs.declared.failure.Failure.{Failure}

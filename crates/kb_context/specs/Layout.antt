@@ -6,7 +6,7 @@ use Rattle.std.specs.Str.{bytes_eq}
 use Rattle.std.specs.FinMap.{len}
 use Rattle.kb_context.specs.declared.layout.LayoutScope.{LayoutScope}
 use Rattle.kb_context.specs.declared.layout.Layout.{Layout}
-use Rattle.kb_context.specs.declared.scopes.Scope.{Scope}
+use Rattle.kb_context.specs.declared.scope_tree.Scope.{Scope}
 use Rattle.kb_context.specs.declared.fault.ScopeFault.{ScopeFault}
 use Rattle.kb_context.specs.declared.fault.ScopeFault.TheVariants.{BadLayout, TooManyKeys}
 use Rattle.kb_context.specs.Scopes.{ScopesData, place_in, key_limit}

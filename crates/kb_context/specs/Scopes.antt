@@ -1,7 +1,7 @@
 -- The model of scopes: the keys that are visible from the focus, and what each call changes and refuses.
 use Rattle.std.specs.Prelude.{◌≡◌, ◌≢◌, ℕ, Bool, zero, suc, ◌+◌, ◌<◌, ◌≤◌, if◌then◌else◌, ◌||◌, nat_lt}
 use Rattle.std.specs.Prelude.{List, [], ◌∷◌, ◌++◌, Option, Some, None, option_map, option_and_then, is_some}
-use Rattle.std.specs.Prelude.{slice_get, length, map, refl, IsSomeAnd}
+use Rattle.std.specs.Prelude.{slice_get, length, map, refl, IsSomeAnd, IfSome, ◌-◌, ◌^◌, min}
 use Rattle.std.specs.Coded.{Coded, code_by, coded×, coded_ℕ, coded_list}
 use Rattle.std.specs.Option.{option_map_or}
 use Rattle.std.specs.Str.{bytes_eq}
@@ -9,7 +9,7 @@ use Rattle.std.specs.Ordering.{nat_cmp}
 use Rattle.std.specs.Cmp.Lexicographic.{slice_cmp}
 use Rattle.std.specs.FinMap.{FinMap, empty, get, insert, remove, len, from_entries, entries}
 use Rattle.kb_context.specs.declared.value.ContextValue.{ContextValue}
-use Rattle.kb_context.specs.declared.scopes.Scope.{Scope}
+use Rattle.kb_context.specs.declared.scope_tree.Scope.{Scope}
 use Rattle.kb_context.specs.declared.fault.ScopeFault.{ScopeFault}
 use Rattle.kb_context.specs.declared.fault.ScopeFault.TheVariants.{UnknownScope, TooManyKeys}
 
@@ -31,6 +31,29 @@ abbrev pub scopes_code : Coded Scope → Coded ScopesData
 scopes_code scope =
     code_by (List Scope × ℕ) (coded× (coded_list scope) coded_ℕ) (λ s. (s.scopes, s.focus))
     (λ p. record { scopes = p.0; focus = p.1 }) (λ _. refl)
+
+-- the scopes, and the number of accepted calls that may change them
+pub record RevisedScopes : Type 0 where
+  pub seen : ScopesData
+  pub revision : ℕ
+
+-- they are encoded as the pair of their fields
+abbrev pub revised_code : Coded ScopesData → Coded RevisedScopes
+revised_code scopes =
+    code_by (ScopesData × ℕ) (coded× scopes coded_ℕ) (λ s. (s.seen, s.revision))
+    (λ p. record { seen = p.0; revision = p.1 }) (λ _. refl)
+
+-- new scopes
+abbrev pub initial : ScopesData → RevisedScopes
+initial scopes = record { seen = scopes; revision = 0 }
+
+-- one more, up to the largest number of 64 bits
+abbrev pub next_revision : ℕ → ℕ
+next_revision revision = min (revision + 1) (2 ^ 64 - 1)
+
+-- these scopes after an accepted call
+abbrev pub revised : RevisedScopes → ScopesData → RevisedScopes
+revised old scopes = record { seen = scopes; revision = next_revision old.revision }
 
 -- ---- the keys that are visible from the focus
 
@@ -177,3 +200,31 @@ pub record IsWellFormed (scopes : List Scope) (places : Places) (focus keys : �
   pub placed : (name : List ℕ) → get places name ≡ place_of name scopes
   pub counted : keys ≡ key_count scopes
   pub few : keys ≤ key_limit
+
+-- ---- the flat map
+
+-- the index of the first scope that has a key: the scope at index `at`, its parent, and so on outward, at
+-- most `count` of them
+abbrev pub seat_from : List Scope → ℕ → ℕ → List ℕ → Option ℕ
+seat_from scopes zero at key = None
+seat_from scopes (suc count) at key =
+    option_and_then (λ s. if is_some (get s.keys key) then Some at
+    else option_and_then (λ parent. seat_from scopes count parent key) s.parent) (slice_get scopes at)
+
+-- the index of the innermost scope from the focus outward that has a key
+abbrev pub seat : ScopesData → List ℕ → Option ℕ
+seat s key = seat_from s.scopes (length s.scopes) s.focus key
+
+-- a map has the index of the innermost scope of each key that the focus sees
+abbrev pub IsFlat : ScopesData → Places → Type 0
+IsFlat s flat = (key : List ℕ) → get flat key ≡ seat s key
+
+-- of each key but this one
+abbrev pub IsFlatBut : ScopesData → Places → List ℕ → Type 0
+IsFlatBut s flat key = (other : List ℕ) → other ≢ key → get flat other ≡ seat s other
+
+-- The invariant of the flat map: it was made at the present revision or before, never at the largest one,
+-- and it is up to date if it was made at the present one.
+pub record IsFlatFor (s : ScopesData) (flat : Places) (made_at : Option ℕ) (revision : ℕ) : Type 0 where
+  pub before : IfSome made_at (λ r. (r ≤ revision) × (r + 1 < 2 ^ 64))
+  pub same : made_at ≡ Some revision → IsFlat s flat

@@ -5,7 +5,7 @@ ghost use Rattle.kb_context.specs.Draft.{under, parent_behind, after_scope, buil
 
 use crate::fault::ScopeFault;
 use crate::layout::LayoutScope;
-use crate::scopes::Scope;
+use crate::scope_tree::Scope;
 use kb_base::{Failure, NoMemory, TextMap};
 use std::alloc::Global;
 use std::marker::Model;
@@ -20,9 +20,9 @@ pub(crate) struct Draft {
 impl Model for Draft {
     ghost use Rattle.std.specs.Prelude.{List};
     ghost use Rattle.std.specs.Coded.{coded_list};
-    ghost use Rattle.kb_context.specs.declared.scopes.Scope.{Scope};
+    ghost use Rattle.kb_context.specs.declared.scope_tree.Scope.{Scope};
     ghost use Rattle.kb_context.specs.Scopes.{IsPlaced};
-    ghost use Rattle.kb_context.specs.contracts.scopes.Scope as scope;
+    ghost use Rattle.kb_context.specs.contracts.scope_tree.Scope as scope;
 
     ghost Value = { List Scope };
 

@@ -3,7 +3,7 @@ ghost use Rattle.std.specs.Prelude.{◌≡◌, Some, None, if◌then◌else◌, 
 ghost use Rattle.kb_context.specs.Layout.{layout_key_count};
 ghost use Rattle.kb_context.specs.Scopes.{key_limit};
 
-use crate::scopes::KEY_LIMIT;
+use crate::scope_tree::KEY_LIMIT;
 use crate::value::ContextValue;
 use kb_base::{Seq, Text, TextMap};
 

@@ -4,10 +4,12 @@
 mod draft;
 pub mod fault;
 pub mod layout;
+mod scope_tree;
 pub mod scopes;
 pub mod value;
 
 pub use fault::{ScopeFault, UnknownScope};
 pub use layout::{Layout, LayoutScope, SCOPE_LIMIT};
-pub use scopes::{KEY_LIMIT, Scopes};
+pub use scope_tree::KEY_LIMIT;
+pub use scopes::Scopes;
 pub use value::ContextValue;

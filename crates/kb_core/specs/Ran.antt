@@ -3,9 +3,8 @@ use Rattle.std.specs.Prelude.{◌≡◌, ◌≤◌, List}
 use Rattle.std.specs.Result.{ForOk, ForErr}
 use Rattle.kb_core.specs.declared.arg.Arg.{Arg}
 use Rattle.kb_core.specs.declared.native.Native.{Native}
-use Rattle.kb_core.specs.declared.run.Core.{Core}
 use Rattle.kb_core.specs.declared.run.Ran.{Ran}
-use Rattle.kb_core.specs.Core.{core_after}
+use Rattle.kb_core.specs.Core.{Core, core_after}
 use Rattle.kb_core.specs.Native.{budget_of}
 
 -- the core after the native, within its budget, or the unchanged core if memory ran out

@@ -1,6 +1,6 @@
 //! The default implementation of the native commands.
 ghost use Rattle.std.specs.Prelude.{◌≡◌, IsTrue, OnOk, OnErr, IfOk, None};
-ghost use Rattle.kb_core.specs.Core.{new_core, core_after};
+ghost use Rattle.kb_core.specs.Core.{core_after};
 ghost use Rattle.kb_context.specs.Scopes.{set_fault_at, value_at};
 ghost use Rattle.kb_core.specs.Native.{text_of, value_of, with_root_key, parameters_of, MayLackMemory};
 ghost use Rattle.kb_core.specs.Native.{buffer_after, budget_of, Fits, MayGrow};
@@ -11,35 +11,17 @@ ghost use Rattle.kb_core.specs.declared.native.Native.TheVariants.{SetContext};
 use crate::arg::Arg;
 use crate::args::Args;
 use crate::buffer::Buffer;
+use crate::core_state::Core;
 use crate::native::Native;
 use kb_base::{Failure, NoMemory};
 use kb_context::{ContextValue, Scopes};
 use std::alloc::{AllocError, Global};
-
-/// What commands change: the text buffer, and the scopes of context keys.
-#[derive(Debug, Drop)]
-pub struct Core {
-    pub buffer: Buffer,
-    pub scopes: Scopes,
-}
 
 /// The core after a native command, and the cost of the command in instructions.
 #[derive(Debug, Drop)]
 pub struct Ran {
     pub core: Core,
     pub cost: Result<u32, NoMemory>,
-}
-
-impl Core {
-    /// The initial core: an empty buffer, and these scopes.
-    pub fn new(alloc: Global, scopes: Scopes) -> Core
-        ensures { result ≡ new_core scopes }
-    {
-        Core {
-            buffer: Buffer::new(alloc),
-            scopes,
-        }
-    }
 }
 
 /// Runs a native command with arguments that fit it. The cost is 1. Error: `NoMemory`, only if a text may
@@ -126,10 +108,10 @@ fn edit_text(native: Native, buffer: &mut Buffer, args: &[Arg]) -> Result<(), No
 /// scopes are then unchanged.
 fn set_context(scopes: &mut Scopes, args: Args) -> Result<(), NoMemory>
     requires { IsTrue (fits (parameters_of SetContext) args) }
-    ensures ok { OnOk result (scopes.new ≡ with_root_key (text_of args) (value_of args) scopes.old) }
+    ensures ok { OnOk result (scopes.new.seen ≡ with_root_key (text_of args) (value_of args) scopes.old.seen) }
     ensures err { OnErr result (scopes.new ≡ scopes.old) }
-    ensures allowed { OnErr result (set_fault_at scopes.old 0 (text_of args) ≡ None) }
-    ensures absent { OnErr result (value_at scopes.old 0 (text_of args) ≡ None) }
+    ensures allowed { OnErr result (set_fault_at scopes.old.seen 0 (text_of args) ≡ None) }
+    ensures absent { OnErr result (value_at scopes.old.seen 0 (text_of args) ≡ None) }
 {
     let mut args = args;
     let value = args.pop().unwrap();
@@ -140,10 +122,10 @@ fn set_context(scopes: &mut Scopes, args: Args) -> Result<(), NoMemory>
 /// it does nothing and returns `Ok` (our decision). Error: `NoMemory`, only for a new key; the scopes are
 /// then unchanged.
 fn set_root_key(scopes: &mut Scopes, key: &str, value: ContextValue) -> Result<(), NoMemory>
-    ensures ok { OnOk result (scopes.new ≡ with_root_key key.now value scopes.old) }
+    ensures ok { OnOk result (scopes.new.seen ≡ with_root_key key.now value scopes.old.seen) }
     ensures err { OnErr result (scopes.new ≡ scopes.old) }
-    ensures allowed { OnErr result (set_fault_at scopes.old 0 key.now ≡ None) }
-    ensures absent { OnErr result (value_at scopes.old 0 key.now ≡ None) }
+    ensures allowed { OnErr result (set_fault_at scopes.old.seen 0 key.now ≡ None) }
+    ensures absent { OnErr result (value_at scopes.old.seen 0 key.now ≡ None) }
 {
     match scopes.set_root(key, value) {
         Ok(()) | Err(Failure::Fault(_)) => Ok(()),

@@ -49,7 +49,7 @@ all_live = live_in (all_registered natives (fresh 1000000))
 
 abbrev written_by : Result Listed Refusal → List ℕ → List ℕ
 written_by (Ok listed) script =
-    text_of move (said_of script) (stand (loaded_state window_scopes (sources_of listed) all_live) natives)
+    text_of move (said_of script) (stand (loaded_state window_scopes.seen (sources_of listed) all_live) natives)
 written_by (Err fault) script = []
 
 -- what a script writes, in a session with the user's rules, of which no pattern is unread, and with a

@@ -22,7 +22,7 @@ pub use kb_registry::{HostCommand, NativeCommand, Run, Ticket};
 pub use kb_palette::{Entry, History, PaletteCommand, list};
 
 // Scripts.
-pub use kb_script::{SCRIPT_LIMIT, ScriptFault, run_script};
+pub use kb_script::{SCRIPT_LIMIT, ScriptFault, run_script, stream_script};
 
 // Texts, lists and faults.
 pub use kb_base::{Failure, NoMemory, Refusal, Seq, Text, fault_name};

@@ -9,7 +9,7 @@ use Rattle.kb_core.specs.Reading.{arguments_for}
 use Rattle.kb_core.specs.Signature.{fits}
 use Rattle.kb_core.specs.declared.arg.Arg.{Arg}
 use Rattle.kb_core.specs.declared.native.Native.{Native}
-use Rattle.kb_core.specs.declared.run.Core.{Core}
+use Rattle.kb_core.specs.Core.{Core}
 use Rattle.kb_registry.specs.Live.{Live, callee, callee_by, live_native, table_of, where_live}
 use Rattle.kb_execute.specs.Start.{ran, start_live, started_as, started_with}
 use Rattle.kb_vm.specs.Meaning.{Stuck, first_world, run, run_callee, start_callee, start_of}

@@ -1,6 +1,6 @@
 -- The core that commands change in place.
 use Rattle.std.specs.Prelude.{Option, [], unwrap_or}
-use Rattle.kb_core.specs.declared.run.Core.{Core}
+use Rattle.kb_core.specs.Core.{Core}
 use Rattle.kb_core.specs.Core.{new_core}
 use Rattle.kb_execute.specs.declared.held_core.Ended.{Ended}
 use Rattle.kb_vm.specs.declared.machine.Outcome.{Outcome}

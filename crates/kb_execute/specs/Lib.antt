@@ -1,4 +1,3 @@
 pub mod HeldCore
-pub mod HeldCoreLoan
 pub mod RunCommands
 pub mod Start

@@ -4,7 +4,7 @@ use Rattle.serde_json.specs.Data.{Data}
 use Rattle.kb_code.specs.Commands.{Callee, Table, declared_by}
 use Rattle.kb_core.specs.Reading.{arguments_for}
 use Rattle.kb_core.specs.declared.arg.Arg.{Arg}
-use Rattle.kb_core.specs.declared.run.Core.{Core}
+use Rattle.kb_core.specs.Core.{Core}
 use Rattle.kb_registry.specs.Live.{Live, callee, table_of}
 use Rattle.kb_execute.specs.RunCommands.{Planned, plan_of, run_commands}
 use Rattle.kb_execute.specs.declared.start.Finish.{Finish}

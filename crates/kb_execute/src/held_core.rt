@@ -1,5 +1,5 @@
 //! A core that commands change in place.
-ghost use Rattle.std.specs.Prelude.{◌≡◌, ◌≤◌, OnOk, OnErr, IfOk, IfSome};
+ghost use Rattle.std.specs.Prelude.{◌≡◌, ◌≤◌, None, Some, OnOk, OnErr, IfOk, IfErr, IfSome, IsSome};
 ghost use Rattle.kb_code.specs.Commands.{declared_by};
 ghost use Rattle.kb_core.specs.Core.{core_after};
 ghost use Rattle.kb_core.specs.Native.{Fits, budget_of};
@@ -8,9 +8,9 @@ ghost use Rattle.kb_soundness.specs.Sound as verified;
 ghost use Rattle.kb_vm.specs.Meaning.{start_of};
 ghost use Rattle.kb_vm.specs.Outcome.{Gives};
 
-use kb_base::NoMemory;
+use kb_base::{Failure, NoMemory};
 use kb_code::Commands;
-use kb_context::Scopes;
+use kb_context::{ContextValue, ScopeFault, UnknownScope};
 use kb_core::{Args, Core, Ran};
 use kb_registry::HostCommand;
 use kb_soundness::start;
@@ -39,8 +39,8 @@ pub struct HeldCore {
 
 impl Model for HeldCore {
     ghost use Rattle.std.specs.Prelude.{IsSome};
-    ghost use Rattle.kb_core.specs.declared.run.Core.{Core};
-    ghost use Rattle.kb_core.specs.contracts.run.Core as whole;
+    ghost use Rattle.kb_core.specs.Core.{Core};
+    ghost use Rattle.kb_core.specs.contracts.core_state.Core as whole;
     ghost use Rattle.kb_execute.specs.HeldCore.{held};
 
     ghost Value = { Core };
@@ -53,8 +53,10 @@ impl Model for HeldCore {
 }
 
 impl HeldCore {
-    ghost use Rattle.std.specs.Borrow.{sem};
-    ghost use Rattle.kb_execute.specs.HeldCoreLoan.{LendsScopes};
+    ghost use Rattle.kb_base.specs.Failure.{IsRefusalOrMemory};
+    ghost use Rattle.kb_context.specs.Scopes.{place_of, set_fault, value_in, with_focus, with_value};
+    ghost use Rattle.kb_context.specs.Scopes.{without_value};
+    ghost use Rattle.kb_core.specs.Core.{with_scopes};
 
     /// Owns a core.
     pub fn new(core: Core) -> HeldCore
@@ -113,14 +115,53 @@ impl HeldCore {
         }
     }
 
-    /// The scopes of the core, borrowed mutably.
-    pub fn scopes_mut(&mut self) -> &mut Scopes
-        ensures* writes_back { sem 𝓛 (LendsScopes self.entry result) }
-        ensures scopes { result.now ≡ self.old.scopes }
+    /// Makes the flat map of the core's scopes, as `Scopes::refresh` does. It changes nothing else. Error:
+    /// `NoMemory`.
+    pub fn refresh(&mut self) -> Result<(), NoMemory>
+        ensures { self.new ≡ self.old }
     {
-        match &mut self.core {
-            Some(core) => &mut core.scopes,
-            None => unreachable!(),
-        }
+        self.core.as_mut().unwrap().refresh()
+    }
+
+    /// Gives the focus to a scope. Error: `UnknownScope` (20) if no scope has the name; the core is then
+    /// unchanged.
+    pub fn focus(&mut self, scope: &str) -> Result<(), UnknownScope>
+        ensures known { OnOk result (IsSome (place_of scope.now self.old.scopes.scopes)) }
+        ensures ok { OnOk result (self.new ≡ with_scopes self.old (with_focus self.old.scopes scope.now)) }
+        ensures unknown { OnErr result (place_of scope.now self.old.scopes.scopes ≡ None) }
+        ensures unchanged { OnErr result (self.new ≡ self.old) }
+    {
+        self.core.as_mut().unwrap().focus(scope)
+    }
+
+    /// Sets a key in the scope that is named `scope`. Errors: `UnknownScope` (20), `TooManyKeys` (22), and
+    /// `NoMemory` only if the scope lacks the key and neither of the others applies; the core is then
+    /// unchanged.
+    pub fn set_key(
+        &mut self,
+        scope: &str,
+        key: &str,
+        value: ContextValue,
+    ) -> Result<(), Failure<ScopeFault>>
+        ensures allowed { OnOk result (set_fault self.old.scopes scope.now key.now ≡ None) }
+        ensures ok { OnOk result
+            (self.new ≡ with_scopes self.old (with_value self.old.scopes scope.now key.now value)) }
+        ensures err { IfErr result (IsRefusalOrMemory (set_fault self.old.scopes scope.now key.now)) }
+        ensures unchanged { OnErr result (self.new ≡ self.old) }
+        ensures absent { OnErr result (value_in self.old.scopes scope.now key.now ≡ None) }
+    {
+        self.core.as_mut().unwrap().set_key(scope, key, value)
+    }
+
+    /// Removes a key from the scope that is named `scope`. Error: `UnknownScope` (20) if no scope has the
+    /// name; the core is then unchanged.
+    pub fn unset_key(&mut self, scope: &str, key: &str) -> Result<(), UnknownScope>
+        ensures known { OnOk result (IsSome (place_of scope.now self.old.scopes.scopes)) }
+        ensures ok { OnOk result
+            (self.new ≡ with_scopes self.old (without_value self.old.scopes scope.now key.now)) }
+        ensures unknown { OnErr result (place_of scope.now self.old.scopes.scopes ≡ None) }
+        ensures unchanged { OnErr result (self.new ≡ self.old) }
+    {
+        self.core.as_mut().unwrap().unset_key(scope, key)
     }
 }

@@ -2,7 +2,7 @@
 ghost use Rattle.std.specs.Prelude.{◌≡◌, IfOk, OnErr, Some, option_map};
 ghost use Rattle.serde_json.specs.View.{view};
 ghost use Rattle.kb_code.specs.Commands.{Table, Plain, Coded};
-ghost use Rattle.kb_core.specs.declared.run.Core.{Core};
+ghost use Rattle.kb_core.specs.Core.{Core};
 ghost use Rattle.kb_registry.specs.Live.{callee};
 ghost use Rattle.kb_execute.specs.HeldCore.{outcome};
 ghost use Rattle.kb_vm.specs.Meaning.{Answer};
@@ -108,7 +108,7 @@ fn run_native<C: HostCommand>(
         return Ok(Finish::BadArguments);
     };
     core.run(closure, args)?;
-    lines::done_line(trace, &core.core().buffer)?;
+    lines::done_line(trace, core.core().buffer())?;
     Ok(Finish::Done)
 }
 
@@ -150,7 +150,7 @@ fn note_end(ended: &Ended<'_>, core: &Core, trace: &mut Lines) -> Result<Finish,
         End::NotFound => unreachable!(),
         End::Done => {
             trace.append(&ended.lines)?;
-            lines::done_line(trace, &core.buffer)?;
+            lines::done_line(trace, core.buffer())?;
             Ok(Finish::Done)
         }
         End::Trap(trap, command, place) => {

@@ -8,7 +8,7 @@ use Rattle.kb_context.specs.Layout.{layout_fault, scopes_of}
 use Rattle.kb_base.specs.Reading.{◌>>=◌}
 use Rattle.kb_base.specs.Refusal.{numbered}
 use Rattle.kb_context.specs.ScopeFault.{number_of}
-use Rattle.kb_context.specs.Scopes.{ScopesData}
+use Rattle.kb_context.specs.Scopes.{RevisedScopes, initial}
 use Rattle.kb_json.specs.FileFault.{number_of as shape_number}
 use Rattle.kb_manifest.specs.Layout.{layout_of}
 use Rattle.kb_files.specs.Value.{data_of}
@@ -18,15 +18,15 @@ abbrev pub layout_in : List ℕ → Result Layout Refusal
 layout_in bytes = data_of bytes >>= (λ d. numbered shape_number (layout_of d))
 
 -- the scopes are made where the layout has no fault
-abbrev pub made : Option ScopeFault → ScopesData → Result ScopesData ScopeFault
+abbrev pub made : Option ScopeFault → RevisedScopes → Result RevisedScopes ScopeFault
 made None scopes = Ok scopes
 made (Some fault) scopes = Err fault
 
--- the scopes of a layout, or the refusal for its fault
-abbrev pub scopes_for : Layout → Result ScopesData Refusal
-scopes_for l = numbered number_of (made (layout_fault l) (scopes_of l))
+-- the new scopes of a layout, or the refusal for its fault
+abbrev pub scopes_for : Layout → Result RevisedScopes Refusal
+scopes_for l = numbered number_of (made (layout_fault l) (initial (scopes_of l)))
 
-abbrev pub scopes_in : List ℕ → Result ScopesData Refusal
+abbrev pub scopes_in : List ℕ → Result RevisedScopes Refusal
 scopes_in bytes = layout_in bytes >>= scopes_for
 
 -- one scope without keys
@@ -36,10 +36,10 @@ window_layout = record {
   focus = codes "window";
 }
 
-abbrev pub window_scopes : ScopesData
-window_scopes = scopes_of window_layout
+abbrev pub window_scopes : RevisedScopes
+window_scopes = initial (scopes_of window_layout)
 
 -- the scopes of a layout file, or that one scope where there is none
-abbrev pub layout_scopes : Option (List ℕ) → Result ScopesData Refusal
+abbrev pub layout_scopes : Option (List ℕ) → Result RevisedScopes Refusal
 layout_scopes None = Ok window_scopes
 layout_scopes (Some bytes) = scopes_in bytes

@@ -67,6 +67,7 @@ fn run_text_case(
         "rules linux" => rules::in_force(alloc, "linux", text),
         "rules mac" => rules::in_force(alloc, "mac", text),
         "rules win" => rules::in_force(alloc, "win", text),
+        "candidates" => rules::candidates(alloc, text),
         "chord" => texts::chord(alloc, text),
         "keystroke" => texts::keystroke(alloc, text),
         "plain" => texts::plain_json(alloc, text),

@@ -2,7 +2,8 @@
 use kb_base::{NoMemory, Warning};
 use kb_json::{elements_in, members_in, take_member};
 use kb_jsonc::read;
-use kb_keys::Platform;
+use kb_keys::{Keystroke, Platform};
+use kb_resolve::Resolver;
 use kb_rules::{Origin, Rule, RuleList, RuleSet, read_list};
 use serde_json::{Map, Value};
 use std::alloc::Global;
@@ -171,4 +172,45 @@ pub(crate) fn in_force(alloc: Global, platform: &str, text: &str) -> Result<Stri
     };
     let output = members_text(alloc, &mut members, Platform::named(platform))?;
     String::from_str(alloc, output.as_str().trim_end())
+}
+
+fn add_candidates(resolver: &Resolver, keys: &str, output: &mut String) -> Result<(), NoMemory> {
+    for key in keys.split(' ') {
+        match Keystroke::parse(key) {
+            Ok(stroke) => {
+                let count = resolver.candidates(&stroke);
+                write!(output, "{key} {count}; ")?;
+            }
+            Err(_) => output.push_str("no key; ")?,
+        }
+    }
+    Ok(())
+}
+
+fn candidates_text(alloc: Global, keys: &str, lists: &Lists) -> Result<String, NoMemory> {
+    let extensions = borrowed_lists(alloc, lists.extensions.as_slice())?;
+    if !extensions.is_empty() {
+        return String::from_str(alloc, "no extensions here");
+    }
+    let none: [bool; 0] = [];
+    let rules = RuleSet::assemble(alloc, &lists.defaults, &[], &none, &lists.user)?;
+    let resolver = Resolver::build(alloc, rules)?;
+    let mut output = String::new(alloc);
+    add_candidates(&resolver, keys, &mut output)?;
+    Ok(output)
+}
+
+/// How many rules in force each of some keystrokes begins, of lists that are given as one JSON object.
+pub(crate) fn candidates(alloc: Global, text: &str) -> Result<String, NoMemory> {
+    let Some((keys, lists)) = text.split_once(" ;; ") else {
+        return String::from_str(alloc, "no lists");
+    };
+    let Ok(value) = read(alloc, lists.as_bytes()) else {
+        return String::from_str(alloc, "no JSON");
+    };
+    let Some(mut members) = members_in(value) else {
+        return String::from_str(alloc, "no object");
+    };
+    let lists = lists_of(alloc, &mut members, None)?;
+    candidates_text(alloc, keys, &lists)
 }

@@ -66,7 +66,7 @@ fn get(alloc: Global, key: &str, scopes: &Scopes) -> Result<String, NoMemory> {
 }
 
 /// A call of the scopes: `focus SCOPE`, `set SCOPE KEY := JSON`, `set KEY := JSON` (in the outermost scope),
-/// `unset SCOPE KEY`, or `get KEY` (the value that the focused scope sees).
+/// `unset SCOPE KEY`, `get KEY` (the value that the focused scope sees), `refresh`, or `revision`.
 pub(crate) fn call(alloc: Global, text: &str, scopes: &mut Scopes) -> Result<String, NoMemory> {
     let (word, rest) = text.split_once(' ').unwrap_or((text, ""));
     match word {
@@ -77,6 +77,14 @@ pub(crate) fn call(alloc: Global, text: &str, scopes: &mut Scopes) -> Result<Str
             result_text(alloc, known(scopes.unset(scope, key)))
         }
         "get" => get(alloc, rest, scopes),
+        "refresh" => {
+            scopes.refresh()?;
+            String::from_str(alloc, "ok")
+        }
+        "revision" => {
+            let revision = scopes.revision();
+            format!(in alloc; "{revision}")
+        }
         _ => String::from_str(alloc, "no call"),
     }
 }

@@ -63,6 +63,14 @@ name_of-IsGoodName k h =
       read = is_at-true k (key_named (name_of k)) rest.1;
     }
 
+-- a text that is the name at an index, in any ASCII letter case, is read as that key
+pub named_at : (k : ℕ) (text : List ℕ) → k < 99 → lowered (name_of k) ≡ lowered text
+    → Some k ≡ key_named text
+unfolding key_named
+named_at k text h e =
+    sym (name_of-IsGoodName k h).read
+    ∙ ap (λ (low : List ℕ). position (λ (name : List ℕ). bytes_eq (lowered name) low) names) e
+
 -- a read of a table of texts is a read of the texts
 pub name_read : (table : List (Bor (List ℕ))) (i : ℕ) → map (λ name. name.now) table ≡ names
     → (get_or table i (record { ref_ptr = (0, 0); now = [] })).now ≡ name_of i

@@ -23,7 +23,8 @@ pub position-Some : (text : List ℕ) (at : ℕ) → position is_sign text ≡ S
     → (at ≡ position_or_len is_sign text) × (at < length text)
 position-Some text at h = (grind (arith, tests), grind (arith, tests))
 
-position-None : (text : List ℕ) → position is_sign text ≡ None → length text ≤ position_or_len is_sign text
+pub position-None : (text : List ℕ) → position is_sign text ≡ None
+    → length text ≤ position_or_len is_sign text
 position-None text h = grind (arith, tests)
 
 -- a sign follows a word where more words do

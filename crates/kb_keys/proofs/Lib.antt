@@ -3,5 +3,7 @@ pub mod ChordReadsBack
 pub mod KeyNameLemmas
 pub mod KeystrokeLaw
 pub mod KeystrokeLemmas
+pub mod KeystrokeNumber
 pub mod KeystrokeReadsBack
+pub mod ModifierLemmas
 pub mod ModifiersLemmas

@@ -1,5 +1,6 @@
 -- The keystroke that a key text denotes, and the canonical text of a keystroke.
-use Rattle.std.specs.Prelude.{ℕ, ◌+◌, ◌<◌, List, [], ◌∷◌, ◌++◌, ◌≡◌, Bool, true, ◌&&◌, ◌==◌, length, drop}
+use Rattle.std.specs.Prelude.{ℕ, ◌+◌, ◌*◌, ◌<◌, List, [], ◌∷◌, ◌++◌, ◌≡◌, Bool, true, ◌&&◌, ◌==◌}
+use Rattle.std.specs.Prelude.{length, drop}
 use Rattle.std.specs.Prelude.{Option, None, Some, Result, Ok, Err}
 use Rattle.std.specs.List.{slice_split}
 use Rattle.kb_keys.specs.declared.key_fault.KeyFault.{KeyFault}
@@ -9,7 +10,7 @@ use Rattle.kb_keys.specs.declared.modifier.Modifier.{Modifier}
 use Rattle.kb_keys.specs.declared.modifiers.Modifiers.{Modifiers}
 use Rattle.kb_keys.specs.KeyName.{key_count, key_named, name_of}
 use Rattle.kb_keys.specs.Modifier.{modifier_named, is_sign}
-use Rattle.kb_keys.specs.Modifiers.{no_modifiers, with_modifier, spelled, same_modifiers}
+use Rattle.kb_keys.specs.Modifiers.{no_modifiers, with_modifier, spelled, same_modifiers, set_number}
 
 -- a text split into modifiers and the text after them
 pub record Split : Type 0 where
@@ -83,3 +84,11 @@ same_stroke a b = same_modifiers a.mods b.mods && (a.key == b.key)
 abbrev pub KnownKeys : List Keystroke → Type 0
 KnownKeys [] = Unit {0}
 KnownKeys (s ∷ strokes) = (s.key < key_count) × KnownKeys strokes
+
+-- the number of keystrokes: each key with each of the 16 sets of modifiers
+abbrev pub stroke_count : ℕ
+stroke_count = 1584
+
+-- the number of a keystroke
+abbrev pub number : Keystroke → ℕ
+number s = set_number s.mods * key_count + s.key

@@ -1,5 +1,5 @@
 -- Sets of modifiers, and their canonical text.
-use Rattle.std.specs.Prelude.{ℕ, List, [], ◌++◌, Bool, true, false, cond, ◌&&◌, codes}
+use Rattle.std.specs.Prelude.{ℕ, ◌+◌, ◌*◌, List, [], ◌++◌, Bool, true, false, cond, ◌&&◌, codes}
 use Rattle.std.proofs.Math.Bool.{beq}
 use Rattle.kb_keys.specs.declared.modifier.Modifier.{Modifier}
 use Rattle.kb_keys.specs.declared.modifier.Modifier.TheVariants.{Ctrl, Shift, Alt, Meta}
@@ -32,3 +32,12 @@ spelled m =
 abbrev pub same_modifiers : Modifiers → Modifiers → Bool
 same_modifiers a b =
     beq a.ctrl b.ctrl && (beq a.shift b.shift && (beq a.alt b.alt && beq a.meta b.meta))
+
+-- 1 if a modifier is held
+abbrev pub bit : Bool → ℕ
+bit true = 1
+bit false = 0
+
+-- the number of a set, below 16: a bit for each modifier
+abbrev pub set_number : Modifiers → ℕ
+set_number m = ((bit m.ctrl * 2 + bit m.shift) * 2 + bit m.alt) * 2 + bit m.meta

@@ -4,9 +4,11 @@ ghost use Rattle.std.specs.Prelude.{IfOk, OnOk, OnErr, if◌then◌else◌};
 ghost use Rattle.std.specs.String.{string_capacity};
 ghost use Rattle.kb_keys.specs.KeyName.{key_count};
 ghost use Rattle.kb_keys.specs.Keystroke.{keystroke_of, spelling, split_of, ReadsFromLeft};
+ghost use Rattle.kb_keys.specs.Keystroke.{number, stroke_count};
+ghost use Rattle.kb_keys.specs.declared.keystroke.Keystroke.{Keystroke};
 
 use crate::key_fault::KeyFault;
-use crate::key_name::{KeyName, LONGEST_NAME};
+use crate::key_name::{KEYS, KeyName, LONGEST_NAME};
 use crate::modifier::Modifier;
 use crate::modifiers::Modifiers;
 use kb_base::NoMemory;
@@ -14,6 +16,9 @@ use std::alloc::Global;
 
 /// The number of bytes of the longest canonical text: all modifiers, then the longest name.
 const LONGEST: usize = "ctrl+shift+alt+meta+".len() + LONGEST_NAME;
+
+/// The number of keystrokes: each key with each of the 16 sets of modifiers.
+pub const STROKES: usize = 1584;
 
 /// A key that is pressed while modifiers are held. Two keystrokes are equal if their keys and modifiers
 /// are.
@@ -73,6 +78,19 @@ impl Keystroke {
         line.reserve(LONGEST)?;
         self.write_reserved(line);
         Ok(())
+    }
+
+    /// The number of the keystroke, below `STROKES`. Different keystrokes have different numbers. The order
+    /// of the numbers is our decision.
+    #[tactic(auto, using(crate::proofs::KeystrokeNumber::number_apart))]
+    pub fn number(self) -> usize
+        ensures value { result ≡ number self }
+        ensures fits { result < stroke_count }
+        ensures known { self.key < key_count }
+        ensures apart { (other : Keystroke) → other.key < key_count → number other ≡ number self
+            → other ≡ self }
+    {
+        self.mods.number() * KEYS + self.key.number()
     }
 
     /// Appends the canonical text to a line that has enough reserved memory.

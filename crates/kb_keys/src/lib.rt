@@ -15,6 +15,6 @@ pub mod platform;
 pub use chord::{Chord, LIMIT, write_strokes};
 pub use key_fault::KeyFault;
 pub use key_name::KeyName;
-pub use keystroke::Keystroke;
+pub use keystroke::{Keystroke, STROKES};
 pub use modifiers::Modifiers;
 pub use platform::Platform;

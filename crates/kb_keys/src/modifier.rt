@@ -1,7 +1,9 @@
 //! A single modifier of a key text.
-ghost use Rattle.std.specs.Prelude.{◌≡◌, ◌<◌, length, option_map, position, slice_index, IfSome};
+ghost use Rattle.std.specs.Prelude.{◌≡◌, ◌<◌, length, option_map, slice_index, IfSome, IsTrue, true, false};
 ghost use Rattle.std.specs.Str.{IsUtf8};
-ghost use Rattle.kb_keys.specs.Modifier.{modifier_named, first_modifier, is_sign};
+ghost use Rattle.kb_keys.specs.Modifier.{modifier_named, modifier_before, first_modifier, is_sign};
+
+use crate::key_name::same_name;
 
 /// A modifier key. Command on macOS, the Windows key on Windows and Meta on Linux are one modifier,
 /// `Meta`, since VS Code's documentation has one row for them.
@@ -19,16 +21,13 @@ impl Modifier {
     pub(crate) fn named(word: &str) -> Option<Modifier>
         ensures { result ≡ modifier_named word.now }
     {
-        if word.eq_ignore_ascii_case("ctrl") {
+        if same_name(word, "ctrl") {
             Some(Modifier::Ctrl)
-        } else if word.eq_ignore_ascii_case("shift") {
+        } else if same_name(word, "shift") {
             Some(Modifier::Shift)
-        } else if word.eq_ignore_ascii_case("alt") {
+        } else if same_name(word, "alt") {
             Some(Modifier::Alt)
-        } else if word.eq_ignore_ascii_case("cmd")
-            || word.eq_ignore_ascii_case("win")
-            || word.eq_ignore_ascii_case("meta")
-        {
+        } else if same_name(word, "cmd") || same_name(word, "win") || same_name(word, "meta") {
             Some(Modifier::Meta)
         } else {
             None
@@ -49,12 +48,30 @@ impl Modifier {
     }
 }
 
-/// The index of the first `+` or `-`.
+/// The index of the first `+` or `-` behind three to five bytes. The names of modifiers have as many, so a
+/// separator at another index matters only if it is before this one, and then neither follows a modifier.
+/// Three bytes of a key's name are compared, not all.
 fn sign_at(text: &str) -> Option<usize>
-    ensures place { result ≡ position is_sign text.now }
+    ensures word { modifier_before text.now result ≡ first_modifier text.now }
     ensures within { IfSome result (λ at. at < length text.now) }
     ensures ascii { IfSome result (λ at. slice_index text.now at < 128) }
 {
     let bytes = text.as_bytes();
-    bytes.iter().position(|byte| *byte == b'+' || *byte == b'-')
+    if has_sign(bytes, 3) {
+        Some(3)
+    } else if has_sign(bytes, 4) {
+        Some(4)
+    } else if has_sign(bytes, 5) {
+        Some(5)
+    } else {
+        None
+    }
+}
+
+/// Whether a `+` or a `-` is at an index.
+fn has_sign(bytes: &[u8], at: usize) -> bool
+    ensures sign { IsTrue result → (at < length bytes.now) × (is_sign (slice_index bytes.now at) ≡ true) }
+    ensures none { result ≡ false → at < length bytes.now → is_sign (slice_index bytes.now at) ≡ false }
+{
+    at < bytes.len() && (bytes[at] == b'+' || bytes[at] == b'-')
 }

@@ -1,6 +1,6 @@
 //! Sets of modifiers.
-ghost use Rattle.std.specs.Prelude.{◌≡◌};
-ghost use Rattle.kb_keys.specs.Modifiers.{with_modifier};
+ghost use Rattle.std.specs.Prelude.{◌≡◌, ◌<◌};
+ghost use Rattle.kb_keys.specs.Modifiers.{with_modifier, bit, set_number};
 
 use crate::modifier::Modifier;
 
@@ -37,4 +37,20 @@ impl Modifiers {
             Modifier::Meta => Modifiers { meta: true, ..self },
         }
     }
+
+    /// The number of the set, below 16.
+    pub(crate) fn number(self) -> usize
+        ensures value { result ≡ set_number self }
+        ensures fits { result < 16 }
+    {
+        ((bit(self.ctrl) * 2 + bit(self.shift)) * 2 + bit(self.alt)) * 2 + bit(self.meta)
+    }
+}
+
+/// 1 if a modifier is held.
+fn bit(held: bool) -> usize
+    ensures value { result ≡ bit held }
+    ensures fits { result < 2 }
+{
+    if held { 1 } else { 0 }
 }

@@ -1,8 +1,9 @@
 //! A command of the palette.
-ghost use Rattle.std.specs.Prelude.{◌≡◌, IfOk, option_copied};
+ghost use Rattle.std.specs.Prelude.{◌≡◌, IfOk};
 ghost use Rattle.std.specs.List.{list_any};
 ghost use Rattle.kb_context.specs.Scopes.{context};
-ghost use Rattle.kb_palette.specs.Command.{holds, is_visible, is_shown};
+ghost use Rattle.kb_palette.specs.Command.{is_visible, is_shown};
+ghost use Rattle.kb_when.specs.Marks.{when_holds};
 ghost use Rattle.kb_palette.specs.Listing.{is_found};
 
 use crate::words::{folded_words, matches};
@@ -84,7 +85,7 @@ impl PaletteCommand {
     /// Whether the folded words of a query find the command, and it is shown. The words are compared first,
     /// since a clause may read many keys.
     pub(crate) fn is_found(&self, query: &[Text], scopes: &Scopes) -> Result<bool, NoMemory>
-        ensures { IfOk result (λ answer. answer ≡ is_found (context scopes.now) query.now self.now) }
+        ensures { IfOk result (λ answer. answer ≡ is_found (context scopes.now.seen) query.now self.now) }
     {
         if !matches(query, self.words.as_slice()) {
             return Ok(false);
@@ -94,17 +95,17 @@ impl PaletteCommand {
 
     /// Whether the command is visible and enabled.
     fn is_shown(&self, scopes: &Scopes) -> Result<bool, NoMemory>
-        ensures { IfOk result (λ answer. answer ≡ is_shown (context scopes.now) self.now) }
+        ensures { IfOk result (λ answer. answer ≡ is_shown (context scopes.now.seen) self.now) }
     {
         if !self.is_visible(scopes)? {
             return Ok(false);
         }
-        holds(self.enablement.as_ref(), scopes)
+        SharedClause::optional_holds(self.enablement.as_ref(), scopes)
     }
 
     /// Whether no item names the command, or one that names it holds.
     fn is_visible(&self, scopes: &Scopes) -> Result<bool, NoMemory>
-        ensures { IfOk result (λ answer. answer ≡ is_visible (context scopes.now) self.now) }
+        ensures { IfOk result (λ answer. answer ≡ is_visible (context scopes.now.seen) self.now) }
     {
         let items = self.items.as_slice();
         if items.is_empty() {
@@ -116,22 +117,12 @@ impl PaletteCommand {
 
 /// Whether one of the items holds.
 fn one_holds(items: &[Option<SharedClause>], scopes: &Scopes) -> Result<bool, NoMemory>
-    ensures { IfOk result (λ answer. answer ≡ list_any (holds (context scopes.now)) items.now) }
+    ensures { IfOk result (λ answer. answer ≡ list_any (when_holds (context scopes.now.seen)) items.now) }
 {
     for item in items {
-        if holds(item.as_ref(), scopes)? {
+        if SharedClause::optional_holds(item.as_ref(), scopes)? {
             return Ok(true);
         }
     }
     Ok(false)
-}
-
-/// Whether a clause holds. A missing clause holds.
-fn holds(clause: Option<&SharedClause>, scopes: &Scopes) -> Result<bool, NoMemory>
-    ensures { IfOk result (λ answer. answer ≡ holds (context scopes.now) (option_copied clause.entry)) }
-{
-    match clause {
-        Some(clause) => clause.as_clause().holds(scopes),
-        None => Ok(true),
-    }
 }

@@ -1,5 +1,5 @@
 //! Compiled patterns.
-ghost use Rattle.std.specs.Prelude.{◌≡◌, IfOk, not, option_map};
+ghost use Rattle.std.specs.Prelude.{◌≡◌, false, IfOk, IfErr, not, option_map};
 ghost use Rattle.regex.specs.Views.{builder_source, builder_config};
 ghost use Rattle.kb_pattern.specs.Pattern.{config_of, is_read, pattern_holds, Stands, compiled_of};
 
@@ -61,9 +61,11 @@ impl Pattern {
         &self.text
     }
 
-    /// Whether the pattern matches somewhere in a text; `false` for an unread pattern. Error: `NoMemory`.
+    /// Whether the pattern matches somewhere in a text; `false` for an unread pattern. Error: `NoMemory`,
+    /// only if the pattern is not marked as unread.
     pub fn matches(&self, alloc: Global, text: &str) -> Result<bool, NoMemory>
-        ensures { IfOk result (λ holds. holds ≡ pattern_holds self.now text.now) }
+        ensures value { IfOk result (λ holds. holds ≡ pattern_holds self.now text.now) }
+        ensures memory { IfErr result (λ _. self.now.unread ≡ false) }
     {
         match &self.compiled {
             None => Ok(false),

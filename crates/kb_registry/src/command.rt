@@ -1,10 +1,10 @@
 //! Native commands with the closures that a host provides for them.
 ghost use Rattle.std.specs.Prelude.{◌≡◌, List};
 ghost use Rattle.std.proofs.Props.{props};
-ghost use Rattle.kb_core.specs.contracts.run.Core as whole;
+ghost use Rattle.kb_core.specs.contracts.core_state.Core as whole;
 ghost use Rattle.kb_core.specs.declared.arg.Arg.{Arg};
 ghost use Rattle.kb_core.specs.declared.native.Native.{Native};
-ghost use Rattle.kb_core.specs.declared.run.Core.{Core};
+ghost use Rattle.kb_core.specs.Core.{Core};
 ghost use Rattle.kb_core.specs.declared.run.Ran.{Ran};
 ghost use Rattle.kb_core.specs.Native.{Fits};
 ghost use Rattle.kb_core.specs.Ran.{Does};

@@ -1,11 +1,15 @@
 -- The chosen rule is the last one that matches, and a search from the bottom finds it.
 use Rattle.std.proofs.Common.{◌≡◌, ◌≤◌, List, [], ◌∷◌, ◌++◌, length, drop, map, Bool, true, false, nat_lt}
 use Rattle.std.proofs.Common.{Option, None, Some, if◌then◌else◌, refl, ap, ◌∙◌, arith, length-append}
-use Rattle.std.proofs.Common.{append-nil}
-use Rattle.std.specs.Prelude.{All, MatchOption, ◌&&◌}
+use Rattle.std.proofs.Common.{append-nil, ℕ, Result, Ok, Err, slice_get}
+use Rattle.std.proofs.Math.ListN.{get_or-append}
+use Rattle.std.specs.List.{Any}
+use Rattle.std.specs.Prelude.{All, MatchOption, ◌&&◌, IfErr}
 use Rattle.std.specs.Option.{option_or}
-use Rattle.std.proofs.lemmas.List.{nil_from_length}
+use Rattle.std.proofs.lemmas.List.{nil_from_length, map-append}
 use Rattle.std.proofs.lemmas.List.Elements.{All-cons, All-nil}
+use Rattle.std.proofs.lemmas.List.Quantifiers.{Any-push}
+use Rattle.std.proofs.lemmas.Option.{slice_get_within, get_or_from_slice_get}
 use Rattle.std.proofs.lemmas.Bool.Decides.{nat_tests}
 use Rattle.std.proofs.lemmas.Slice.Eq.{starts_is}
 use Rattle.kb_context.specs.Scopes.{Keys}
@@ -15,7 +19,8 @@ use Rattle.kb_keys.proofs.KeystrokeLemmas.{same_stroke-Decides}
 use Rattle.kb_rules.specs.declared.rule.Rule.{Rule}
 use Rattle.kb_resolve.specs.Enablements.{Enabling}
 use Rattle.kb_resolve.specs.Resolved.{found, more}
-use Rattle.kb_resolve.specs.Resolver.{when_holds, may_start, matches, last_where, chosen, resolution_by}
+use Rattle.kb_when.specs.Marks.{when_holds}
+use Rattle.kb_resolve.specs.Resolver.{may_start, matches, last_where, chosen, resolution_by}
 use Rattle.kb_resolve.specs.Resolver.{resolved, Matches, IsLastMatch, IsGreatest}
 
 both : (a b : Bool) → (a && b) ≡ true → (a ≡ true) × (b ≡ true)
@@ -142,3 +147,29 @@ pub lowest_fails : {X : Type 0} (p : Rule → Bool) (value : X → Rule) (items 
 lowest_fails {X} p value items above lowest e h =
     ap (λ (l : List X). last_where p (map value l)) e ∙ last_where-push p value above lowest
     ∙ ap (λ (b : Bool). if b then Some (value lowest) else last_where p (map value above)) h
+
+-- a fact that holds anyway, where there is an error
+pub any_err : {A E : Type 0} (r : Result A E) (X : Type 0) → X → IfErr r (λ _. X)
+any_err (Ok a) X x = tt {0}
+any_err (Err e) X x = x
+
+-- a rule at a position is one of the rules
+pub one_at : (P : Rule → Type 0) (rules : List Rule) (position : ℕ) (rule : Rule)
+    → slice_get rules position ≡ Some rule → P rule → Any P rules
+one_at P rules position rule e p =
+    (position, rule, slice_get_within rules position rule e, get_or_from_slice_get rules position rule rule e, p)
+
+one_before : (P : Rule → Type 0) (above below : List Rule) → Any P above → Any P (above ++ below)
+one_before P above below h =
+    (h.0, h.1, omega (arith, length-append above below, h.2), get_or-append above below h.1 h.0 h.2 ∙ h.3, h.4)
+
+-- a rule above the lowest one is one of the rules, and so is the lowest one
+pub one_above : {X : Type 0} (P : Rule → Type 0) (value : X → Rule) (items above : List X) (lowest : X)
+    → items ≡ above ++ lowest ∷ [] → Any P (map value above) → Any P (map value items)
+one_above P value items above lowest e h =
+    rw (e, map-append value above (lowest ∷ [])) (one_before P (map value above) (value lowest ∷ []) h)
+
+pub lowest_is_one : {X : Type 0} (P : Rule → Type 0) (value : X → Rule) (items above : List X) (lowest : X)
+    → items ≡ above ++ lowest ∷ [] → P (value lowest) → Any P (map value items)
+lowest_is_one P value items above lowest e h =
+    rw (e, map-append value above (lowest ∷ [])) (Any-push P (map value above) (value lowest) h)

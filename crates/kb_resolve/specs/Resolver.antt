@@ -1,21 +1,15 @@
 -- The rule that matches pressed keystrokes.
 use Rattle.std.specs.Prelude.{◌≡◌, ◌<◌, ◌⊎◌, List, [], ◌∷◌, ◌++◌, length, Bool, true, ◌&&◌, nat_lt}
 use Rattle.std.specs.Prelude.{if◌then◌else◌, Option, None, Some, All}
+use Rattle.std.specs.List.{Any}
 use Rattle.std.specs.Option.{option_or}
 use Rattle.kb_context.specs.Scopes.{Keys}
-use Rattle.kb_when.specs.Clause.{patterns_of}
-use Rattle.kb_when.specs.Marks.{MarkedClause}
-use Rattle.kb_when.specs.Value.{value}
+use Rattle.kb_when.specs.Marks.{when_holds, WhenHasReadPattern}
 use Rattle.kb_keys.specs.declared.keystroke.Keystroke.{Keystroke}
 use Rattle.kb_keys.specs.Chord.{begins_with}
 use Rattle.kb_rules.specs.declared.rule.Rule.{Rule}
 use Rattle.kb_resolve.specs.Enablements.{Enabling}
 use Rattle.kb_resolve.specs.Resolved.{Resolution, found, more, nothing}
-
--- a clause holds for these context keys, with the marks of its patterns; a missing clause holds
-abbrev pub when_holds : Keys → Option MarkedClause → Bool
-when_holds keys None = true
-when_holds keys (Some clause) = value keys clause.marks clause.tree
 
 -- the rule's clause holds, and so does the enablement of its command
 abbrev pub may_start : Keys → Enabling → Rule → Bool
@@ -28,22 +22,21 @@ abbrev pub matches : Keys → Enabling → List Keystroke → Rule → Bool
 matches keys enablement pressed rule =
     begins_with rule.chord pressed && may_start keys enablement rule
 
--- a clause has a pattern, whose search may be refused memory
-abbrev pub HasPattern : Option MarkedClause → Type 0
-HasPattern None = ⊥
-HasPattern (Some clause) = 0 < length (patterns_of clause.tree)
-
--- the rule's clause has a pattern; or the clause holds, so the enablement of the rule's command is
+-- the rule's clause has a pattern that is read; or the clause holds, so the enablement of the rule's command is
 -- evaluated, and that has a pattern
 abbrev pub HasPatterns : Keys → Enabling → Rule → Type 0
 HasPatterns keys enablement rule =
-    HasPattern rule.when
-    ⊎ ((when_holds keys rule.when ≡ true) × HasPattern (enablement rule.command))
+    WhenHasReadPattern rule.when
+    ⊎ ((when_holds keys rule.when ≡ true) × WhenHasReadPattern (enablement rule.command))
 
 -- the rule's keystrokes begin with the pressed ones, so a clause with a pattern is evaluated
 abbrev pub AsksPattern : Keys → Enabling → List Keystroke → Rule → Type 0
 AsksPattern keys enablement pressed rule =
     (begins_with rule.chord pressed ≡ true) × HasPatterns keys enablement rule
+
+-- a clause with a pattern is evaluated for one of the rules, so memory may be refused
+abbrev pub MayAskPatterns : List Keystroke → Keys → Enabling → List Rule → Type 0
+MayAskPatterns pressed keys enablement rules = Any (AsksPattern keys enablement pressed) rules
 
 -- the last rule that passes a test, or none
 abbrev pub last_where : (Rule → Bool) → List Rule → Option Rule

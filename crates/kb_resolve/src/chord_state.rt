@@ -1,9 +1,11 @@
 //! The state of an open chord.
-ghost use Rattle.std.specs.Prelude.{◌≡◌, ◌≢◌, ◌<◌, ◌↔◌, [], length, IfOk, OnOk, OnErr, IsTrue};
+ghost use Rattle.std.specs.Prelude.{◌≡◌, ◌≢◌, ◌<◌, ◌↔◌, [], ◌∷◌, ◌++◌, length, IfOk, IfErr};
+ghost use Rattle.std.specs.Prelude.{OnOk, OnErr, IsTrue};
 ghost use Rattle.kb_context.specs.Scopes.{context};
 ghost use Rattle.kb_resolve.specs.ChordState.{step, pressed_after};
 ghost use Rattle.kb_resolve.specs.Enablements.{enablement_in};
 ghost use Rattle.kb_resolve.specs.Pressed.{step_of};
+ghost use Rattle.kb_resolve.specs.Resolver.{MayAskPatterns};
 
 use crate::enablements::Enablements;
 use crate::pressed::Pressed;
@@ -80,11 +82,15 @@ impl ChordState {
         enablements: &Enablements,
     ) -> Result<Pressed<'r>, NoMemory>
         ensures step { IfOk result (λ pressed. step_of pressed
-            ≡ step self.old stroke (context scopes.now) (enablement_in enablements.now) resolver.now) }
+            ≡ step self.old stroke (context scopes.now.seen) (enablement_in enablements.now) resolver.now) }
         ensures pressed { OnOk result (self.new
-            ≡ pressed_after self.old stroke (context scopes.now) (enablement_in enablements.now)
+            ≡ pressed_after self.old stroke (context scopes.now.seen) (enablement_in enablements.now)
             resolver.now) }
         ensures err { OnErr result (self.new ≡ self.old) }
+
+        // Without a pattern that is evaluated, no memory is needed.
+        ensures memory { IfErr result (λ _. MayAskPatterns (self.old ++ stroke ∷ []) (context scopes.now.seen)
+            (enablement_in enablements.now) resolver.now) }
     {
         let was_open = !self.pressed.is_empty();
         self.pressed.push(stroke);

@@ -7,6 +7,7 @@
 
 pub mod chord_state;
 pub mod enablements;
+mod index;
 pub mod pressed;
 pub mod resolved;
 pub mod resolver;

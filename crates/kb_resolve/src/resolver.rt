@@ -1,25 +1,30 @@
 //! The search for the rule that matches pressed keystrokes.
-ghost use Rattle.std.specs.Prelude.{◌≡◌, ◌<◌, length, map, option_map, option_copied, IfOk, IfErr};
+ghost use Rattle.std.specs.Prelude.{◌≡◌, ◌<◌, length, map, option_map, count_by, IfOk, IfErr};
 ghost use Rattle.kb_context.specs.Scopes.{context};
 ghost use Rattle.kb_resolve.specs.Enablements.{enablement_in};
+ghost use Rattle.kb_resolve.specs.Index.{begins, positions_of, rules_at};
 ghost use Rattle.kb_resolve.specs.Resolved.{more, resolution_of};
-ghost use Rattle.kb_resolve.specs.Resolver.{when_holds, may_start, matches, chosen, resolved, IsGreatest};
-ghost use Rattle.kb_resolve.specs.Resolver.{HasPattern, HasPatterns, AsksPattern};
+ghost use Rattle.kb_resolve.specs.Resolver.{may_start, matches, chosen, resolved, IsGreatest};
+ghost use Rattle.kb_resolve.specs.Resolver.{HasPatterns, AsksPattern, MayAskPatterns};
 
 use crate::enablements::Enablements;
+use crate::index::Index;
 use crate::resolved::Resolved;
 use kb_base::NoMemory;
 use kb_context::Scopes;
 use kb_keys::{Keystroke, LIMIT};
 use kb_rules::{Rule, RuleSet};
 use kb_when::Clause;
+use std::alloc::Global;
 use std::marker::Model;
 use std::rc::Rc;
 
-/// The effective rules, to be searched. Contracts see their list, from top to bottom.
+/// The effective rules, to be searched, with their index by first keystroke. Contracts see the list of
+/// rules, from top to bottom.
 #[derive(Drop)]
 pub struct Resolver {
     set: RuleSet,
+    index: Index,
 }
 
 impl Model for Resolver {
@@ -32,15 +37,39 @@ impl Model for Resolver {
 
     ghost coded = { Prim.hlevel (codes, rule.the_row.coded) };
 
+    ghost use Rattle.kb_resolve.specs.Index.{IsIndexOf};
+
     ghost view = { λ s. s.set };
+
+    // The index has the positions of the rules of each keystroke.
+    ghost invariant = { λ s. IsIndexOf s.set s.index.starts.items s.index.positions.items };
 }
 
 impl Resolver {
-    /// A resolver for the rules of a set.
-    pub fn new(set: RuleSet) -> Resolver
-        ensures { result ≡ set }
+    /// A resolver for the rules of a set. It indexes them, in time linear in their number. `NoMemory` if
+    /// the index is refused memory, or if a `u32` can't count the rules (our decision).
+    pub fn build(alloc: Global, set: RuleSet) -> Result<Resolver, NoMemory>
+        ensures { IfOk result (λ resolver. resolver ≡ set) }
     {
-        Resolver { set }
+        let index = Index::new(alloc, set.rules())?;
+        Ok(Resolver { set, index })
+    }
+
+    /// The number of rules with this first keystroke: `resolve` looks at no other rules.
+    pub fn candidates(&self, stroke: &Keystroke) -> usize
+        ensures { result ≡ count_by (λ rule. begins stroke.now rule.chord) self.now }
+    {
+        self.positions(*stroke).len()
+    }
+
+    /// The positions of the rules with this first keystroke, in rising order.
+    fn positions(&self, stroke: Keystroke) -> &[u32]
+        ensures { result.now ≡ positions_of stroke self.now }
+    {
+        let number = stroke.number();
+        let start = self.index.starts[number] as usize;
+        let end = self.index.starts[number + 1] as usize;
+        &self.index.positions[start..end]
     }
 
     /// Searches the rules from the bottom to the top, and chooses the first one that matches. A rule
@@ -58,17 +87,21 @@ impl Resolver {
         enablements: &Enablements,
     ) -> Result<Resolved<'r>, NoMemory>
         ensures value { IfOk result (λ found. resolution_of found
-            ≡ resolved pressed.now (context scopes.now) (enablement_in enablements.now) self.now) }
+            ≡ resolved pressed.now (context scopes.now.seen) (enablement_in enablements.now) self.now) }
 
         // The same as `value`, in terms of positions.
-        ensures greatest { IsGreatest pressed.now (context scopes.now) (enablement_in enablements.now)
-            self.now (resolved pressed.now (context scopes.now) (enablement_in enablements.now) self.now) }
+        ensures greatest { IsGreatest pressed.now (context scopes.now.seen) (enablement_in enablements.now)
+            self.now (resolved pressed.now (context scopes.now.seen) (enablement_in enablements.now) self.now) }
 
         // A rule has at most `LIMIT` keystrokes, so one more keystroke can be pressed.
         ensures fits { IfOk result (λ found.
             resolution_of found ≡ more → length pressed.now < LIMIT) }
+
+        // Without a pattern that is evaluated, no memory is needed.
+        ensures memory { IfErr result (λ _.
+            MayAskPatterns pressed.now (context scopes.now.seen) (enablement_in enablements.now) self.now) }
     {
-        let Some(rule) = lowest(self.set.rules(), pressed, scopes, enablements)? else {
+        let Some(rule) = self.lowest(pressed, scopes, enablements)? else {
             return Ok(Resolved::Nothing);
         };
         if rule.chord.len() > pressed.len() {
@@ -76,6 +109,55 @@ impl Resolver {
         }
         Ok(Resolved::Found(rule))
     }
+
+    /// The lowest matching rule. The rules with the first pressed keystroke are compared, or all rules if
+    /// no key is pressed.
+    fn lowest<'r>(
+        &'r self,
+        pressed: &[Keystroke],
+        scopes: &Scopes,
+        enablements: &Enablements,
+    ) -> Result<Option<&'r Rule>, NoMemory>
+        ensures value { IfOk result (λ found. option_map (λ rule. rule.now) found
+            ≡ chosen pressed.now (context scopes.now.seen) (enablement_in enablements.now) self.now) }
+        ensures memory { IfErr result (λ _.
+            MayAskPatterns pressed.now (context scopes.now.seen) (enablement_in enablements.now) self.now) }
+    {
+        match pressed.first() {
+            Some(first) => lowest_at(
+                &self.set,
+                self.positions(*first),
+                pressed,
+                scopes,
+                enablements,
+            ),
+            None => lowest(self.set.rules(), pressed, scopes, enablements),
+        }
+    }
+}
+
+/// The last matching rule of those at these positions.
+fn lowest_at<'r>(
+    set: &'r RuleSet,
+    positions: &[u32],
+    pressed: &[Keystroke],
+    scopes: &Scopes,
+    enablements: &Enablements,
+) -> Result<Option<&'r Rule>, NoMemory>
+    ensures value { IfOk result (λ found. option_map (λ rule. rule.now) found
+        ≡ chosen pressed.now (context scopes.now.seen) (enablement_in enablements.now)
+        (rules_at set.now positions.now)) }
+    ensures memory { IfErr result (λ _.
+        MayAskPatterns pressed.now (context scopes.now.seen) (enablement_in enablements.now) set.now) }
+{
+    for position in positions.iter().rev() {
+        if let Some(rule) = set.at(*position as usize) {
+            if matches(rule, pressed, scopes, enablements)? {
+                return Ok(Some(rule));
+            }
+        }
+    }
+    Ok(None)
 }
 
 /// The lowest matching rule.
@@ -85,8 +167,11 @@ fn lowest<'r>(
     scopes: &Scopes,
     enablements: &Enablements,
 ) -> Result<Option<&'r Rule>, NoMemory>
-    ensures { IfOk result (λ found. option_map (λ rule. rule.now) found
-        ≡ chosen pressed.now (context scopes.now) (enablement_in enablements.now)
+    ensures value { IfOk result (λ found. option_map (λ rule. rule.now) found
+        ≡ chosen pressed.now (context scopes.now.seen) (enablement_in enablements.now)
+        (map (λ r. r.value) rules.now)) }
+    ensures memory { IfErr result (λ _.
+        MayAskPatterns pressed.now (context scopes.now.seen) (enablement_in enablements.now)
         (map (λ r. r.value) rules.now)) }
 {
     for rule in rules.iter().rev() {
@@ -106,9 +191,9 @@ fn matches(
     enablements: &Enablements,
 ) -> Result<bool, NoMemory>
     ensures value { IfOk result (λ answer. answer
-        ≡ matches (context scopes.now) (enablement_in enablements.now) pressed.now rule.now) }
+        ≡ matches (context scopes.now.seen) (enablement_in enablements.now) pressed.now rule.now) }
     ensures memory { IfErr result (λ _.
-        AsksPattern (context scopes.now) (enablement_in enablements.now) pressed.now rule.now) }
+        AsksPattern (context scopes.now.seen) (enablement_in enablements.now) pressed.now rule.now) }
 {
     if !rule.chord.begins_with(pressed) {
         return Ok(false);
@@ -119,27 +204,15 @@ fn matches(
 /// Whether the rule's clause and the enablement of its command hold. The clause is evaluated first.
 fn may_start(rule: &Rule, scopes: &Scopes, enablements: &Enablements) -> Result<bool, NoMemory>
     ensures value { IfOk result (λ answer. answer
-        ≡ may_start (context scopes.now) (enablement_in enablements.now) rule.now) }
+        ≡ may_start (context scopes.now.seen) (enablement_in enablements.now) rule.now) }
     ensures memory { IfErr result (λ _.
-        HasPatterns (context scopes.now) (enablement_in enablements.now) rule.now) }
+        HasPatterns (context scopes.now.seen) (enablement_in enablements.now) rule.now) }
 {
-    if !holds(rule.when.as_ref(), scopes)? {
+    if !Clause::optional_holds(rule.when.as_ref(), scopes)? {
         return Ok(false);
     }
     match enablements.of(rule.command.as_str()) {
-        Some(enablement) => holds(Some(enablement.as_clause()), scopes),
-        None => Ok(true),
-    }
-}
-
-/// Whether a clause holds. A missing clause holds.
-fn holds(clause: Option<&Clause>, scopes: &Scopes) -> Result<bool, NoMemory>
-    ensures value { IfOk result (λ answer.
-        answer ≡ when_holds (context scopes.now) (option_copied clause.entry)) }
-    ensures memory { IfErr result (λ _. HasPattern (option_copied clause.entry)) }
-{
-    match clause {
-        Some(clause) => clause.holds(scopes),
+        Some(enablement) => enablement.as_clause().holds(scopes),
         None => Ok(true),
     }
 }

@@ -1,5 +1,5 @@
 //! The rules in force.
-ghost use Rattle.std.specs.Prelude.{◌≡◌, ◌∷◌, [], ◌++◌, IfOk, OnOk, length, map};
+ghost use Rattle.std.specs.Prelude.{◌≡◌, ◌∷◌, [], ◌++◌, IfOk, OnOk, length, map, option_map, slice_get};
 ghost use Rattle.std.specs.List.{flat_map};
 ghost use Rattle.kb_rules.specs.RemovalIndex.{left_in, Indexes};
 ghost use Rattle.kb_rules.specs.RuleSet.{enabled_of, all_removals, rules_of, rules_in_force};
@@ -60,6 +60,13 @@ impl RuleSet {
         ensures { map (λ r. r.value) result.now ≡ self.now }
     {
         self.rules.as_slice()
+    }
+
+    /// The rule in force at this position, counted from 0 at the top, or `None` if there are not as many.
+    pub fn at(&self, position: usize) -> Option<&Rc<Rule>>
+        ensures { option_map (λ r. r.now.value) result ≡ slice_get self.now position }
+    {
+        self.rules.as_slice().get(position)
     }
 }
 

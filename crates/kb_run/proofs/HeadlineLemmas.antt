@@ -16,7 +16,7 @@ use Rattle.kb_run.specs.declared.setup.Verification.{Verification}
 use Rattle.kb_run.specs.declared.setup.Verification.TheVariants.{Verified, Raw}
 use Rattle.kb_script.proofs.SafeScripts.{memory_alone_stops}
 use Rattle.kb_script.specs.Headline as script
-use Rattle.kb_script.specs.Shelf.{beside, Stand}
+use Rattle.kb_script.specs.Shelf.{beside}
 use Rattle.kb_script.specs.declared.fault.ScriptFault.{ScriptFault}
 use Rattle.kb_script.specs.declared.fault.ScriptFault.TheVariants as fault
 use Rattle.kb_session.proofs.Headlines.{headline_holds}
@@ -43,30 +43,29 @@ ends (Err (Fault fault.Stopped)) is_flushed alone = absurd alone
 ends (Err (Fault fault.Trapped)) is_flushed alone = absurd alone
 
 pub keeps_headline : (verification : Verification) (session : Traced State) (shelf : List Native)
-    (bytes : Option (List ℕ)) (new : Traced Stand) (had has : Option (List ℕ)) (end : Result (Unit {0}) Stop)
-    → IsSound verification session.state → PlaysAny bytes (beside session shelf) new had has end
+    (bytes : Option (List ℕ)) (had has : Option (List ℕ)) (end : Result (Unit {0}) Stop)
+    → IsSound verification session.state → PlaysAny bytes (beside session shelf) had has end
     → KeepsHeadline verification session.state end
-keeps_headline Verified session shelf bytes new had has end sound plays =
+keeps_headline Verified session shelf bytes had has end sound plays =
     let p = plays.1 in (
       headline_holds session.state sound.0 sound.1,
       subst MemoryAloneStops (sym p.end_is)
-          (ends p.ran p.is_flushed (memory_alone_stops p.ran bytes plays.0 (beside session shelf) new had p.written
+          (ends p.ran p.is_flushed (memory_alone_stops p.ran bytes plays.0 (beside session shelf) p.new had p.written
           sound.0 sound.1 p.answers)),
     )
-keeps_headline Raw session shelf bytes new had has end sound plays = tt
+keeps_headline Raw session shelf bytes had has end sound plays = tt
 
 -- a session was loaded, its warnings were said, and the script was run
 pub run_played : (verification : Verification) (files : Files) (closures : Closures) (bytes : Option (List ℕ))
-    (o : Outputs) (end : Result (Unit {0}) Stop) (session : Traced State) (new : Traced Stand)
+    (o : Outputs) (end : Result (Unit {0}) Stop) (session : Traced State)
     → LoadsBy verification files closures.natives (Ok session) → IsSound verification session.state
     → Says o.said_before o.said (warning_text session.state.sources (warnings_of session.state.sources))
-    → PlaysAny bytes (beside session closures.shelf) new o.had o.has end
+    → PlaysAny bytes (beside session closures.shelf) o.had o.has end
     → Runs verification files closures bytes o end
-run_played verification files closures bytes o end session new loads sound warned plays = inr (record {
+run_played verification files closures bytes o end session loads sound warned plays = inr (record {
   session = session;
   loaded_is = session_loaded verification files closures.natives session loads;
   warned = warned;
-  new = new;
   plays = plays;
-  headline = keeps_headline verification session closures.shelf bytes new o.had o.has end sound plays;
+  headline = keeps_headline verification session closures.shelf bytes o.had o.has end sound plays;
 })

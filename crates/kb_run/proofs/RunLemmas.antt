@@ -1,5 +1,5 @@
 -- Lines on standard error, and what was read of the files that options name.
-use Rattle.std.proofs.Common.{◌≡◌, ◌<◌, ◌≤◌, ◌+◌, ◌++◌, List, [], ◌∷◌, ℕ, drop, length, get_or, ◌∙◌, refl, sym, ap, subst, inl, inr, append-nil}
+use Rattle.std.proofs.Common.{◌≡◌, ◌<◌, ◌≤◌, ◌+◌, ◌++◌, Bool, List, [], ◌∷◌, ℕ, drop, length, get_or, ◌∙◌, refl, sym, ap, subst, inl, inr, append-nil}
 use Rattle.std.proofs.KnownBytes.{Appends-nil, Appends-trans}
 use Rattle.std.proofs.lemmas.List.{drop_more, drop_all}
 use Rattle.std.specs.Borrow.{Bor}
@@ -10,12 +10,16 @@ use Rattle.kb_core.specs.declared.native.Native.{Native}
 use Rattle.kb_base.specs.declared.failure.Failure.TheVariants as failure
 use Rattle.kb_disk.specs.Files.{Held, unknown, refuses, holds, Opens, NamesBytes, NamesFile}
 use Rattle.kb_disk.specs.declared.cannot_read.CannotRead.{CannotRead}
-use Rattle.kb_exit.specs.Report.{warning_line, load_stop, read_stop}
+use Rattle.kb_exit.specs.Report.{warning_line, load_stop, read_stop, script_stop}
 use Rattle.kb_exit.specs.Voice.{Heard, Says}
 use Rattle.kb_exit.specs.declared.outcome.Stop.{Stop}
 use Rattle.kb_run.specs.Run.{FailsToLoad, FileMissing, HasBytes, HasFiles, HasRules, HasScript}
 use Rattle.kb_run.specs.Run.{FailsAtScript, FailsReadingFiles, IsHad, IsLoaded, LoadsBy, Outputs, Silent}
-use Rattle.kb_run.specs.Run.{script_bytes, warning_text}
+use Rattle.kb_run.specs.Run.{script_bytes, warning_text, Plays, Flushes}
+use Rattle.kb_script.specs.Shelf.{Stand}
+use Rattle.kb_script.specs.Stream.{Streams, with_trace}
+use Rattle.kb_script.specs.declared.fault.ScriptFault.{ScriptFault}
+use Rattle.kb_script.specs.declared.script_run.Kept.TheVariants.{Unwritten}
 use Rattle.kb_disk.proofs.FilesLemmas.{had_read}
 use Rattle.kb_options.specs.declared.given.Options.{Options}
 use Rattle.kb_bindings.specs.Load.{Files}
@@ -26,6 +30,23 @@ use Rattle.kb_stream.specs.Fold.{Traced}
 use Rattle.kb_bindings.specs.Sources.{Sources, source_of}
 use Rattle.kb_files.specs.declared.fault.LoadFault.{LoadFault}
 use Rattle.kb_base.specs.declared.note.Warning.{Warning}
+
+-- a script was run whose session keeps no line that was written
+pub plays : (had left : Option (List ℕ)) (old new : Traced Stand) (before written has : Option (List ℕ))
+    (ran : Result (Unit {0}) (Failure ScriptFault)) (is_flushed : Bool) (end : Result (Unit {0}) Stop)
+    → Streams Unwritten ran had left old new before written → Flushes is_flushed written has
+    → end ≡ script_stop ran is_flushed → Plays had left old before has end
+plays had left old new before written has ran is_flushed end streams flushes is = record {
+  ran = ran;
+  is_flushed = is_flushed;
+  written = written;
+  new = with_trace streams.all new;
+  answers = streams.answers;
+  flushes = flushes;
+  end_is = is;
+}
+
+pub ruleset playing = (plays)
 
 says_nothing : (before : Heard) → Says before before []
 says_nothing before whole = (whole, Appends-nil before.said)

@@ -39,20 +39,22 @@ abbrev pub Flushes : Bool → Option (List ℕ) → Option (List ℕ) → Type 0
 Flushes true written has = Keeps written has
 Flushes false written has = (left : List ℕ) × Keeps written (append_known has left)
 
--- the script was run, its lines were written through a buffer, and the buffer was flushed
-pub record Plays (had left : Option (List ℕ)) (old new : Traced Stand) (before has : Option (List ℕ))
+-- The script was run, its lines were written through a buffer, and the buffer was flushed. `new` is the session
+-- after the run with all trace lines. The session itself keeps no line that was written.
+pub record Plays (had left : Option (List ℕ)) (old : Traced Stand) (before has : Option (List ℕ))
     (end : Result (Unit {0}) Stop) : Type 0 where
   pub ran : Result (Unit {0}) (Failure ScriptFault)
   pub is_flushed : Bool
   pub written : Option (List ℕ)
+  pub new : Traced Stand
   pub answers : Answers ran had left old new before written
   pub flushes : Flushes is_flushed written has
   pub end_is : end ≡ script_stop ran is_flushed
 
 -- the same, whichever bytes of the script are left
-abbrev pub PlaysAny : Option (List ℕ) → Traced Stand → Traced Stand → Option (List ℕ) → Option (List ℕ)
+abbrev pub PlaysAny : Option (List ℕ) → Traced Stand → Option (List ℕ) → Option (List ℕ)
     → Result (Unit {0}) Stop → Type 0
-PlaysAny script old new before has end = (left : Option (List ℕ)) × Plays script left old new before has end
+PlaysAny script old before has end = (left : Option (List ℕ)) × Plays script left old before has end
 
 -- ---- standard error
 
@@ -103,8 +105,7 @@ pub record Played (verification : Verification) (files : Files) (closures : Clos
   pub loaded_is : IsLoaded verification files closures.natives session
   pub warned : Says o.said_before o.said
       (warning_text session.state.sources (warnings_of session.state.sources))
-  pub new : Traced Stand
-  pub plays : PlaysAny script (beside session closures.shelf) new o.had o.has end
+  pub plays : PlaysAny script (beside session closures.shelf) o.had o.has end
   pub headline : KeepsHeadline verification session.state end
 
 -- why nothing was loaded

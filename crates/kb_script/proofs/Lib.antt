@@ -3,3 +3,4 @@ pub mod LineLemmas
 pub mod SafeScripts
 pub mod ScriptRuns
 pub mod ShelfLemmas
+pub mod StreamLemmas

@@ -3,7 +3,7 @@ use Rattle.std.proofs.Common.{◌≡◌, true, false, ℕ, ◌+◌, List, [], �
 use Rattle.std.proofs.Common.{inl, inr}
 use Rattle.std.proofs.Common.{append_assoc, append-nil, length, drop, map, arith}
 use Rattle.std.proofs.Math.Seq.{drop-append_seam}
-use Rattle.std.specs.Prelude.{Option, Some, None, option_map, option_to_list}
+use Rattle.std.specs.Prelude.{Option, Some, None, option_map, option_to_list, IsSome}
 use Rattle.std.specs.Io.KnownBytes.{Appends, Keeps}
 use Rattle.kb_base.specs.declared.failure.Failure.{Failure}
 use Rattle.kb_base.specs.declared.failure.Failure.TheVariants.{NoMemory, Fault}
@@ -173,18 +173,21 @@ pub keeps_same : (a : Option (List ℕ)) → Keeps a a
 keeps_same None = tt
 keeps_same (Some bytes) = refl
 
-stops_now : (said : List Said) (old new : Traced Stand) (a : Option (List ℕ)) → Halts old.state new.state
-    → new.trace ≡ old.trace → StopsAndWrites move Halts said old new a a
-stops_now said old new a halts same = f.stop_now move Halts said old new a a halts same (keeps_same a)
+stops_now : (said : Option Said) (old new : Traced Stand) (a : Option (List ℕ)) → IsSome said
+    → Halts old.state new.state → new.trace ≡ old.trace
+    → StopsAndWrites move Halts (option_to_list said) old new a a
+stops_now None old new a some halts same = absurd (let no : false ≡ true = some in cc)
+stops_now (Some said) old new a some halts same =
+    f.stop_now move Halts said [] old new a a halts same (keeps_same a)
 
 -- memory was refused to a line
 pub line_stops : (number : ℕ) (line : List ℕ) (old new : Traced Stand) (a : Option (List ℕ))
-    → Halts old.state new.state → new.trace ≡ old.trace
+    → IsSome (line_said number line) → Halts old.state new.state → new.trace ≡ old.trace
     → BreaksSaid NoMemory (option_to_list (line_said number line)) old new a a
-line_stops number line old new a halts same = record {
+line_stops number line old new a some halts same = record {
   said = option_to_list (line_said number line);
   tells = bare_line number line;
-  breaks = stops_now (option_to_list (line_said number line)) old new a halts same;
+  breaks = stops_now (line_said number line) old new a some halts same;
 }
 
 pub ruleset one_line = (line_stops)

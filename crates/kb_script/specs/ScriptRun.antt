@@ -68,8 +68,8 @@ pub record ReadingRefused (had left : Option (List ℕ)) (old new : Traced Stand
   pub session : new ≡ halt old
   pub written : Keeps before after
 
--- memory was refused in a line: the script was read to its end, the lines before it ran, the writer got
--- their trace lines, and the session is stopped
+-- memory was refused in a line: the script was read to its end, the lines before that one ran, and the writer
+-- got their trace lines; the session is stopped, and a part of that line may be done
 pub record LineRefused (had left : Option (List ℕ)) (old new : Traced Stand) (before after : Option (List ℕ))
     : Type 0 where
   pub script : List ℕ

@@ -9,4 +9,4 @@ pub mod script_run;
 mod shelf;
 
 pub use fault::ScriptFault;
-pub use script_run::{SCRIPT_LIMIT, run_script};
+pub use script_run::{SCRIPT_LIMIT, run_script, stream_script};

@@ -1,6 +1,6 @@
 //! The lines of a script and their parser.
 ghost use Rattle.std.specs.Prelude.{◌≡◌, ◌<◌, ◌∷◌, false, true, None, Ok};
-ghost use Rattle.std.specs.Prelude.{IfOk, IfSome, MatchOption, option_map, position, length};
+ghost use Rattle.std.specs.Prelude.{IfOk, IfSome, IsSome, OnErr, MatchOption, option_map, position, length};
 ghost use Rattle.std.specs.Char.{is_ascii_digit};
 ghost use Rattle.std.specs.List.{list_any, list_all};
 ghost use Rattle.std.specs.Str.{is_utf8};
@@ -37,13 +37,14 @@ pub enum ScriptLine<'a> {
 
 /// Parses one line. `None` for blank lines and comments: an empty line, or one that begins with `#`. A
 /// line that doesn't parse is the event `Unread` with the line's number. `NoMemory` if the texts of an
-/// event can't be allocated.
+/// event can't be allocated; a blank line or a comment allocates nothing.
 pub fn read_line<'a>(
     alloc: Global,
     number: u64,
     line: &'a [u8],
 ) -> Result<Option<ScriptLine<'a>>, NoMemory>
-    ensures { IfOk result (λ said. option_map said_by said ≡ script.line_said number line.now) }
+    ensures said { IfOk result (λ said. option_map said_by said ≡ script.line_said number line.now) }
+    ensures memory { OnErr result (IsSome (script.line_said number line.now)) }
 {
     match line {
         [] | [b'#', ..] => Ok(None),

@@ -38,6 +38,7 @@ pub(crate) fn obey<C: HostCommand>(
     ensures err { OnErr result (Halts (beside session.old (map C.stands_for shelf.old.items)).state
         (beside session.new (map C.stands_for shelf.new.items)).state) }
     ensures trace { OnErr result (session.new.trace ≡ session.old.trace) }
+    ensures asked { OnErr result (IsSome (script.line_said number line.now)) }
 {
     match read_line(alloc, number, line) {
         Ok(Some(ScriptLine::Event(event))) => match session.handle_fully(event) {

@@ -17,7 +17,7 @@ use Rattle.kb_files.specs.declared.fault.LoadFile.TheVariants as file
 use Rattle.kb_bindings.specs.declared.load.Loaded.{Loaded}
 use Rattle.kb_base.specs.Reading.{◌>>=◌, seen}
 use Rattle.kb_base.specs.Refusal.{refused_for}
-use Rattle.kb_context.specs.Scopes.{ScopesData}
+use Rattle.kb_context.specs.Scopes.{RevisedScopes}
 use Rattle.kb_files.specs.Layout.{layout_scopes}
 use Rattle.kb_session.proofs.Results.{bind, any}
 
@@ -58,7 +58,7 @@ rules_few files =
 
 all_few : (files : Files) → IfOk (held_by files) (λ held. Few held.rules.extensions)
 all_few files =
-    bind {A = ScopesData} (λ _. ⊤) (λ (held : Held). Few held.rules.extensions)
+    bind {A = RevisedScopes} (λ _. ⊤) (λ (held : Held). Few held.rules.extensions)
     (refused_by file.Layout (layout_scopes files.layout))
     (λ scopes. rules_held files >>= λ rules. Ok (record { scopes = scopes; rules = rules }))
     (any (refused_by file.Layout (layout_scopes files.layout)))

@@ -26,7 +26,7 @@ use Rattle.kb_session.specs.Session.{raw_load_held}
 pub session_is_of : (files : Files) (natives : List Native) (l : Loaded) (live : Live) (session : Seen)
     → load.loaded (unread_of l.bindings) files ≡ Ok l
     → LiveChecked natives l.bindings.extensions l.handlers (Ok live)
-    → session ≡ loaded_session l.scopes l.bindings live → IsOf files natives session
+    → session ≡ loaded_session l.scopes.seen l.bindings live → IsOf files natives session
 session_is_of files natives l live session held checked is =
     subst (IsOf files natives) (sym is) (record { loaded = l; held = held; live = checked; is = refl })
 
@@ -47,7 +47,7 @@ pub begun_loads : (files : Files) (natives : List Native) (l : Loaded) (live : L
     (r : Result Seen (Failure LoadFault))
     → load.loaded (unread_of l.bindings) files ≡ Ok l
     → LiveChecked natives l.bindings.extensions l.handlers (Ok live)
-    → IfOk r (λ session. session ≡ loaded_session l.scopes l.bindings live)
+    → IfOk r (λ session. session ≡ loaded_session l.scopes.seen l.bindings live)
     → IfErr r (λ why. why ≡ failure.NoMemory) → Loads files natives r
 begun_loads files natives l live (Ok session) held checked is fails =
     session_is_of files natives l live session held checked is
@@ -59,19 +59,19 @@ begun_loads files natives l live (Err why) held checked is fails =
 -- the session of loaded files, with live commands
 pub raw_is_loaded : (files : Files) (natives : List Native) (l : Loaded) (live : Live) (session : Seen)
     → load.loaded (unread_of l.bindings) files ≡ Ok l
-    → raw_held natives l.handlers ≡ Ok live → session ≡ loaded_session l.scopes l.bindings live
+    → raw_held natives l.handlers ≡ Ok live → session ≡ loaded_session l.scopes.seen l.bindings live
     → loaded_raw (marks_by session) files natives ≡ Ok session
 raw_is_loaded files natives l live session h g is =
     rw is
-    (ap (λ r. r >>= λ (l : Loaded). seen (loaded_session l.scopes l.bindings) (raw_held natives l.handlers)) h
-    ∙ ap (seen (loaded_session l.scopes l.bindings)) g)
+    (ap (λ r. r >>= λ (l : Loaded). seen (loaded_session l.scopes.seen l.bindings) (raw_held natives l.handlers)) h
+    ∙ ap (seen (loaded_session l.scopes.seen l.bindings)) g)
 
 -- a new session, or refused memory
 pub raw_begun_loads : (files : Files) (natives : List Native) (l : Loaded) (live : Live)
     (r : Result Seen (Failure LoadFault))
     → load.loaded (unread_of l.bindings) files ≡ Ok l
     → raw_held natives l.handlers ≡ Ok live
-    → IfOk r (λ session. session ≡ loaded_session l.scopes l.bindings live)
+    → IfOk r (λ session. session ≡ loaded_session l.scopes.seen l.bindings live)
     → IfErr r (λ why. why ≡ failure.NoMemory) → LoadsRaw files natives r
 raw_begun_loads files natives l live (Ok session) held raw is fails =
     raw_is_loaded files natives l live session held raw is

@@ -1,5 +1,5 @@
 -- Runs of events: steps, ends and stops.
-use Rattle.std.proofs.Common.{◌≡◌, true, false, List, [], ◌∷◌, refl, sym, ap, ◌∙◌}
+use Rattle.std.proofs.Common.{◌≡◌, true, false, List, [], ◌∷◌, refl, sym, ap, subst, ◌∙◌}
 use Rattle.std.specs.Prelude.{◌||◌}
 use Rattle.kb_session.specs.declared.fault.SessionFault.{SessionFault}
 use Rattle.kb_session.specs.declared.fault.SessionFault.TheVariants as fault
@@ -91,8 +91,11 @@ pub runs_fail : (old now new : Traced State) (events left rest : List Told) (eve
     → old.state.stopped ≡ false → FailsAt f event now new → FailsAmong f events old new
 runs_fail old now new events left rest event (fault.Refused refusal) runs is same running fails = fails
 runs_fail old now new events left rest event fault.NoMemory runs is same running fails =
-    let h = halts_at event now new fails.1 in
-    (running, run_stop next Halts old now new events left runs h.0 h.1)
+    let h = halts_at event now new fails.1 in (
+      running,
+      run_stop next Halts old now new events rest event
+          (subst (λ (l : List Told). RunsUpTo next old events now l) is runs) h.0 h.1,
+    )
 runs_fail old now new events left rest event fault.Stopped runs is same running fails = (
   ap (λ b. b || is_left events old.state) running ∙ same ∙ ap (λ told. is_left told now.state) is
       ∙ ap (λ b. b || is_left rest (next event now.state).state) fails.0,

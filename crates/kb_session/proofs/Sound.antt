@@ -12,7 +12,7 @@ use Rattle.kb_core.specs.Reading.{arguments_for}
 use Rattle.kb_core.specs.Signature.{fits}
 use Rattle.kb_core.specs.declared.arg.Arg.{Arg}
 use Rattle.kb_core.specs.declared.native.Native.{Native}
-use Rattle.kb_core.specs.declared.run.Core.{Core}
+use Rattle.kb_core.specs.Core.{Core}
 use Rattle.kb_core.proofs.ReadFits.{fits-arguments_for}
 use Rattle.kb_files.specs.RuleFile.{rules_in}
 use Rattle.kb_registry.specs.Live.{Live, callee, disposal_fault, disposal_fault_of, holder}

@@ -4,7 +4,7 @@ use Rattle.kb_code.specs.Commands.{Callee, declared_by}
 use Rattle.kb_context.specs.Scopes.{context}
 use Rattle.kb_core.specs.Signature.{fits}
 use Rattle.kb_core.specs.declared.arg.Arg.{Arg}
-use Rattle.kb_core.specs.declared.run.Core.{Core}
+use Rattle.kb_core.specs.Core.{Core}
 use Rattle.kb_bindings.specs.Sources.{enablement, rules_of}
 use Rattle.kb_keys.specs.declared.keystroke.Keystroke.{Keystroke}
 use Rattle.kb_registry.specs.Live.{table_of}

@@ -1,6 +1,6 @@
 -- The lines of the palette, and the effect of a choice.
 use Rattle.std.specs.Prelude.{ℕ, ◌+◌, zero, suc, List, [], ◌∷◌, Option, Some, None, length, slice_get}
-use Rattle.kb_core.specs.declared.run.Core.{Core}
+use Rattle.kb_core.specs.Core.{Core}
 use Rattle.kb_execute.specs.Start.{Started, behind, start_of}
 use Rattle.kb_palette.specs.declared.listing.Entry.{Entry}
 use Rattle.kb_registry.specs.Live.{Live}

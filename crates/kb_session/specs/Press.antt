@@ -1,7 +1,7 @@
 -- The effect of a key press: a rule's command is started, or nothing is.
 use Rattle.std.specs.Prelude.{ℕ, List, [], ◌∷◌, ◌++◌, Option, codes}
 use Rattle.serde_json.specs.Data.{Data}
-use Rattle.kb_core.specs.declared.run.Core.{Core}
+use Rattle.kb_core.specs.Core.{Core}
 use Rattle.kb_registry.specs.Live.{Live}
 use Rattle.kb_resolve.specs.Pressed as press
 use Rattle.kb_resolve.specs.Pressed.{Step}

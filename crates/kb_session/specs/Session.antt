@@ -6,7 +6,7 @@ use Rattle.kb_base.specs.Reading.{◌>>=◌, seen}
 use Rattle.kb_context.specs.Scopes.{ScopesData}
 use Rattle.kb_base.specs.declared.failure.Failure.{Failure}
 use Rattle.kb_core.specs.declared.native.Native.{Native}
-use Rattle.kb_core.specs.declared.run.Core.{Core}
+use Rattle.kb_core.specs.Core.{Core}
 use Rattle.kb_keys.specs.declared.keystroke.Keystroke.{Keystroke}
 use Rattle.kb_bindings.specs.Load as load
 use Rattle.kb_bindings.specs.Load.{Files, held_by}
@@ -57,7 +57,7 @@ pub record IsOf (files : Files) (natives : List Native) (session : Seen) : Type 
   pub loaded : Loaded
   pub held : load.loaded (marks_by session) files ≡ Ok loaded
   pub live : LiveChecked natives loaded.bindings.extensions loaded.handlers (Ok session.state.live)
-  pub is : session ≡ loaded_session loaded.scopes loaded.bindings session.state.live
+  pub is : session ≡ loaded_session loaded.scopes.seen loaded.bindings session.state.live
 
 -- the files are accepted, but registering the commands fails; the fault doesn't depend on the marks
 pub record CommandsFail (files : Files) (natives : List Native) (failure : Failure LoadFault) : Type 0 where
@@ -79,7 +79,7 @@ Loads files natives (Err failure) = Fails failure (held_by files) ⊎ CommandsFa
 abbrev pub loaded_raw : List UnreadPattern → Files → List Native → Result Seen LoadFault
 loaded_raw marks files natives =
     load.loaded marks files
-    >>= λ l. seen (loaded_session l.scopes l.bindings) (raw_held natives l.handlers)
+    >>= λ l. seen (loaded_session l.scopes.seen l.bindings) (raw_held natives l.handlers)
 
 -- the same without the session's sources; the fault doesn't depend on marks
 abbrev pub raw_load_held : Files → List Native → Result Live LoadFault

@@ -43,9 +43,10 @@ pub(crate) fn press_key<C: HostCommand>(
     ensures pressed { OnOk result (chord.new ≡ still_pressed chord.old key core.old.scopes bindings.now) }
     ensures err { OnErr result (Begins trace.old trace.new) }
 {
+    core.refresh()?;
     let key = &key;
     let text = lines::key_text(trace, chord.pressed(), *key)?;
-    match bindings.press(chord, *key, &core.core().scopes)? {
+    match bindings.press(chord, *key, core.core().scopes())? {
         Pressed::Start(rule) => start_rule(alloc, text, rule, registry, core, trace),
         Pressed::More => done_with(trace, text, ": chord"),
         Pressed::Left => done_with(trace, text, ": left"),

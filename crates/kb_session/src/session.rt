@@ -37,6 +37,7 @@ use kb_trace::{Answer, Event, lines};
 use std::alloc::Global;
 use std::collections::VecDeque;
 use std::marker::Model;
+use std::mem;
 
 mod closures;
 mod extensions;
@@ -67,7 +68,7 @@ pub struct Session<C: HostCommand> {
 
 impl<C: HostCommand> Model for Session<C> {
     ghost use Rattle.std.specs.Coded.{codes};
-    ghost use Rattle.kb_core.specs.contracts.run.Core as whole;
+    ghost use Rattle.kb_core.specs.contracts.core_state.Core as whole;
     ghost use Rattle.kb_files.specs.contracts.extension_file.Extension as extension;
     ghost use Rattle.kb_rules.specs.contracts.removal.Removal as removal;
     ghost use Rattle.kb_rules.specs.contracts.rule.Rule as rule;
@@ -189,7 +190,7 @@ impl<C: HostCommand> Session<C> {
         bindings: Bindings,
         registry: Registry<C>,
     ) -> Result<Session<C>, Failure<LoadFault>>
-        ensures ok { IfOk result (λ session. session ≡ loaded_session scopes bindings registry) }
+        ensures ok { IfOk result (λ session. session ≡ loaded_session scopes.seen bindings registry) }
         ensures err { IfErr result (λ why. why ≡ failure.NoMemory) }
     {
         let Ok((unread, history)) = first_lists(alloc, &bindings) else {
@@ -228,6 +229,22 @@ impl<C: HostCommand> Session<C> {
         ensures { result.now ≡ self.now.trace }
     {
         &self.trace
+    }
+
+    /// Takes the trace lines so far out of the session, which goes on with an empty trace. A host that lives
+    /// long calls it after each event, so that the trace doesn't grow with the number of events.
+    pub fn take_trace(&mut self) -> Lines
+        ensures lines { result ≡ self.old.trace }
+        ensures rest { self.new ≡ record self.old { trace = [] } }
+    {
+        mem::replace(&mut self.trace, Lines::new(self.alloc))
+    }
+
+    /// Keeps the first `len` trace lines and removes the others. The memory of those is kept for further lines.
+    pub fn truncate_trace(&mut self, len: usize)
+        ensures { self.new ≡ record self.old { trace = take len self.old.trace } }
+    {
+        self.trace.truncate(len);
     }
 
     /// The warnings for single entries of the current files, in this order: the default rules, the
@@ -397,7 +414,7 @@ impl<C: HostCommand> Session<C> {
         ensures session { self.new ≡ halt (record self.old { trace = take mark self.old.trace }) }
         ensures fault { result ≡ NoMemory }
     {
-        self.trace.truncate(mark);
+        self.truncate_trace(mark);
         self.halted()
     }
 
@@ -442,7 +459,7 @@ impl<C: HostCommand> Session<C> {
         let mark = self.trace.len();
         self.note_leaving()?;
         lines::focus_line(&mut self.trace, scope)?;
-        match self.core.scopes_mut().focus(scope) {
+        match self.core.focus(scope) {
             Ok(()) => {
                 self.chord.leave();
                 Ok(Answer::Did)
@@ -461,7 +478,7 @@ impl<C: HostCommand> Session<C> {
     {
         let mark = self.trace.len();
         lines::set_line(&mut self.trace, scope, key)?;
-        match self.core.scopes_mut().set(scope, key, value) {
+        match self.core.set_key(scope, key, value) {
             Ok(()) => Ok(Answer::Did),
             Err(failure) => self.refuse_instead(mark, fault_in(failure)?),
         }
@@ -477,7 +494,7 @@ impl<C: HostCommand> Session<C> {
     {
         let mark = self.trace.len();
         lines::unset_line(&mut self.trace, scope, key)?;
-        match self.core.scopes_mut().unset(scope, key) {
+        match self.core.unset_key(scope, key) {
             Ok(()) => Ok(Answer::Did),
             Err(_) => self.refuse_instead(mark, ScopeFault::UnknownScope),
         }
@@ -534,7 +551,7 @@ impl<C: HostCommand> Session<C> {
         }) }
         ensures err { OnErr result (self.new ≡ record self.old { trace = take mark self.old.trace }) }
     {
-        self.trace.truncate(mark);
+        self.truncate_trace(mark);
         self.refuse(Refusal::of(fault.number()))
     }
 

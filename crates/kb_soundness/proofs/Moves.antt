@@ -10,7 +10,7 @@ use Rattle.kb_core.specs.declared.arg.Arg.TheVariants.{Text, Number, Truth}
 use Rattle.kb_core.specs.declared.arg.Kind.{Kind}
 use Rattle.kb_core.specs.declared.arg.Kind.TheVariants as kind
 use Rattle.kb_core.specs.declared.parameter.Param.{Param}
-use Rattle.kb_core.specs.declared.run.Core.{Core}
+use Rattle.kb_core.specs.Core.{Core}
 use Rattle.kb_core.specs.Arg.{is_of}
 use Rattle.kb_core.specs.Declaration.{Declaration}
 use Rattle.kb_core.specs.Signature.{fits}

@@ -30,11 +30,12 @@ fold step (x ∷ xs) s = joined (step x s) (fold step xs (step x s).state)
 abbrev pub after_all : {X S : Type 0} → (X → S → Out S) → List X → Traced S → Traced S
 after_all step told old = after (fold step told old.state) old
 
--- A prefix of the list was done, and then a stop came. At the stop, a part of the next input may be done.
+-- A prefix of the list was done, and then a stop came at the next input, of which a part may be done.
 pub record StopsAmong {X S : Type 0} (step : X → S → Out S) (Halts : S → S → Type 0)
     (told : List X) (old new : Traced S) : Type 0 where
   pub done : List X
+  pub stopped_at : X
   pub rest : List X
-  pub whole : told ≡ done ++ rest
+  pub whole : told ≡ done ++ stopped_at ∷ rest
   pub halts : Halts (after_all step done old).state new.state
   pub trace : new.trace ≡ (after_all step done old).trace

@@ -1,7 +1,7 @@
 -- The start of a command in which nothing runs.
 use Rattle.std.proofs.Common.{◌≡◌, inl, ℕ, List, [], Bool, false, refl, sym, ap, arith, if◌then◌else◌, ◌∙◌}
 use Rattle.kb_core.specs.declared.arg.Arg.{Arg}
-use Rattle.kb_core.specs.declared.run.Core.{Core}
+use Rattle.kb_core.specs.Core.{Core}
 use Rattle.kb_core.specs.Signature.{fits}
 use Rattle.kb_vm.specs.declared.machine.Outcome.{Outcome}
 use Rattle.kb_vm.specs.declared.machine.End.TheVariants as end

@@ -5,7 +5,7 @@ use Rattle.std.proofs.Common.{option_map}
 use Rattle.json.specs.Print.{print_from, escape_byte}
 use Rattle.kb_core.specs.declared.native.Native.{Native}
 use Rattle.kb_core.specs.declared.native.Native.TheVariants.{TypeText}
-use Rattle.kb_core.specs.declared.run.Core.{Core}
+use Rattle.kb_core.specs.Core.{Core}
 use Rattle.kb_core.specs.Core.{new_core}
 use Rattle.kb_code.specs.declared.instr.Instr.{Instr}
 use Rattle.kb_code.specs.declared.instr.Instr.TheVariants as i

@@ -6,7 +6,7 @@ use Rattle.std.specs.FinMap as fin_map
 use Rattle.kb_context.specs.Scopes.{context}
 use Rattle.kb_core.specs.declared.arg.Arg.{Arg}
 use Rattle.kb_core.specs.declared.arg.Arg.TheVariants.{Text, Number, Truth}
-use Rattle.kb_core.specs.declared.run.Core.{Core}
+use Rattle.kb_core.specs.Core.{Core}
 use Rattle.kb_core.specs.Signature.{fits}
 use Rattle.kb_code.specs.declared.instr.Instr.{Instr}
 use Rattle.kb_code.specs.declared.instr.Instr.TheVariants as i

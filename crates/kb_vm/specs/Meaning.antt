@@ -4,7 +4,7 @@ use Rattle.std.specs.Prelude.{◌≡◌, ℕ, zero, suc, ◌-◌, nat_le, nat_lt
 use Rattle.std.specs.Prelude.{Option, Some, None, option_map, slice_get}
 use Rattle.kb_core.specs.declared.arg.Arg.{Arg}
 use Rattle.kb_core.specs.declared.native.Native.{Native}
-use Rattle.kb_core.specs.declared.run.Core.{Core}
+use Rattle.kb_core.specs.Core.{Core}
 use Rattle.kb_core.specs.Core.{core_after}
 use Rattle.kb_core.specs.Signature.{fits}
 use Rattle.kb_code.specs.declared.instr.Instr.{Instr}

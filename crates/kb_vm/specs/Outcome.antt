@@ -1,6 +1,6 @@
 -- The outcome of a start.
 use Rattle.std.specs.Prelude.{◌≡◌, ℕ, ◌+◌, ◌≤◌, List, [], ◌++◌, length, sum_by, Option, Some, None}
-use Rattle.kb_core.specs.declared.run.Core.{Core}
+use Rattle.kb_core.specs.Core.{Core}
 use Rattle.kb_core.specs.Native.{budget_of}
 use Rattle.kb_vm.specs.declared.machine.Outcome.{Outcome}
 use Rattle.kb_vm.specs.declared.machine.End.{End}

@@ -4,7 +4,7 @@ use Rattle.std.specs.Prelude.{[], ◌∷◌, sum_by}
 use Rattle.std.specs.Prelude.{Option, Some, None, Result, Ok, Err, length, drop, slice_get}
 use Rattle.kb_core.specs.declared.arg.Arg.{Arg}
 use Rattle.kb_core.specs.declared.native.Native.{Native}
-use Rattle.kb_core.specs.declared.run.Core.{Core}
+use Rattle.kb_core.specs.Core.{Core}
 use Rattle.kb_code.specs.declared.instr.Instr.{Instr}
 use Rattle.kb_code.specs.Handler.{HandlerData}
 use Rattle.kb_vm.specs.declared.trap.Trap.{Trap}

@@ -96,7 +96,7 @@ fn push_context<'a>(
     }
     match texts.get(usize::from(index)) {
         Some(key) => {
-            let value = context(arena, &core.scopes, key.as_str())?;
+            let value = context(arena, core.scopes(), key.as_str())?;
             Ok(push(operands, value))
         }
         None => Ok(Action::Stop(Trap::BadCode)),
@@ -301,11 +301,11 @@ pub(crate) fn perform<'r: 'a, 'a>(
         Instr::Context(n) => push_context(arena, operands, core, handler.handler().texts(), n),
         Instr::Before => Ok(push(
             operands,
-            Operand::Number(size_of(core.buffer.before.as_str())),
+            Operand::Number(size_of(core.buffer().before.as_str())),
         )),
         Instr::After => Ok(push(
             operands,
-            Operand::Number(size_of(core.buffer.after.as_str())),
+            Operand::Number(size_of(core.buffer().after.as_str())),
         )),
     }
 }

@@ -1,5 +1,6 @@
 pub mod ClauseLemmas
 pub mod DescentLemmas
+pub mod FlatLemmas
 pub mod GrammarLemmas
 pub mod MarkedLemmas
 pub mod NumberLemmas

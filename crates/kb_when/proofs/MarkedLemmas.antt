@@ -1,6 +1,6 @@
 -- The value of a tree with separate marks equals that of the tree with its marks inside.
 use Rattle.std.proofs.Common.{◌≡◌, ℕ, List, [], ◌∷◌, ◌++◌, Bool, drop, length, refl, sym, ◌∙◌, ap}
-use Rattle.std.proofs.Common.{append_assoc, append-nil, map, not, zero, suc, ◌<◌, get_or, subst, arith}
+use Rattle.std.proofs.Common.{append_assoc, append-nil, map, not}
 use Rattle.std.proofs.Common.{Result, Ok, Err, IfErr}
 use Rattle.std.specs.Prelude.{◌&&◌, ◌||◌}
 use Rattle.std.proofs.lemmas.List.{map-append}
@@ -16,7 +16,7 @@ use Rattle.kb_when.specs.Tree.{marked_step, marked_of, markeds_of, clause_of, cl
 use Rattle.kb_pattern.specs.Pattern.{MarkedPattern}
 use Rattle.kb_when.specs.Marked.{Marked, always, never, key, equals, compare, matches, member, not_of}
 use Rattle.kb_when.specs.Marked.{all_of, any_of, Markeds, no_clauses, clause, tree_of, trees_of, patterns_in}
-use Rattle.kb_when.specs.Marked.{all_patterns_in, marks_of, all_marks, HasPattern, marked_value}
+use Rattle.kb_when.specs.Marked.{all_patterns_in, marks_of, all_marks, marked_value}
 use Rattle.kb_when.specs.Marked.{all_marked_hold, any_marked_holds}
 use Rattle.kb_when.specs.Value.{value, all_hold, any_holds}
 
@@ -107,38 +107,10 @@ pub value_beside : (keys : Keys) (m : Marked) → value keys (marks_of m) (tree_
 value_beside keys m =
     ap (λ (l : List Bool). value keys l (tree_of m)) (sym (append-nil (marks_of m))) ∙ value_by keys m []
 
--- a pattern in a part is one in the whole
-has_left : (ps qs : List MarkedPattern) → HasPattern ps → HasPattern (ps ++ qs)
-has_left [] qs h = absurd h
-has_left (p ∷ ps) qs h = tt {0}
-
-has_right : (ps qs : List MarkedPattern) → HasPattern qs → HasPattern (ps ++ qs)
-has_right [] qs h = h
-has_right (p ∷ ps) qs h = tt {0}
-
-pub has_among : (ts : List Tree) (i : ℕ) (t : Tree) → i < length ts → t ≡ get_or ts i t
-    → HasPattern (patterns_in (marked_of t)) → HasPattern (all_patterns_in (markeds_of (map marked_of ts)))
-has_among [] i t lt e h = absurd (omega (arith, lt))
-has_among (u ∷ us) zero t lt e h =
-    let P : Tree → Type 0 = λ x. HasPattern (patterns_in (marked_of x)) in
-    has_left (patterns_in (marked_of u)) (all_patterns_in (markeds_of (map marked_of us))) (subst P e h)
-has_among (u ∷ us) (suc i) t lt e h =
-    has_right (patterns_in (marked_of u)) (all_patterns_in (markeds_of (map marked_of us)))
-    (has_among us i t (omega (arith, lt)) e h)
-
 -- a fact that holds anyway, where there is an error
 pub any_err : {A E : Type 0} (r : Result A E) (X : Type 0) → X → IfErr r (λ _. X)
 any_err (Ok a) X x = tt {0}
 any_err (Err e) X x = x
-
-has_some : (ps : List MarkedPattern) → HasPattern ps → 0 < length (map plain ps)
-has_some [] h = absurd h
-has_some (p ∷ ps) h = omega arith
-
-pub has_one : (m : Marked) → HasPattern (patterns_in m) → 0 < length (patterns_of (tree_of m))
-has_one m h =
-    let P : List (List ℕ × Flags) → Type 0 = λ ps. 0 < length ps in
-    subst P (sym (patterns_seen m)) (has_some (patterns_in m) h)
 
 -- trees, seen as their clauses without marks
 pub trees_seen : (ts : List Tree) → trees_of (markeds_of (map marked_of ts)) ≡ clauses_of (map clause_of ts)

@@ -2,7 +2,9 @@ pub mod Characters
 pub mod Clause
 pub mod ClauseCode
 pub mod ClauseText
+pub mod Flat
 pub mod Grammar
+pub mod Leaf
 pub mod Marked
 pub mod Marks
 pub mod Number

@@ -62,11 +62,6 @@ abbrev mutual
   all_patterns_in no_clauses = []
   all_patterns_in (clause m ms) = patterns_in m ++ all_patterns_in ms
 
--- there is at least one pattern
-abbrev pub HasPattern : List MarkedPattern → Type 0
-HasPattern [] = ⊥
-HasPattern (p ∷ ps) = Unit {0}
-
 -- only the marks
 abbrev pub marks_of : Marked → List Bool
 marks_of m = map (λ p. p.unread) (patterns_in m)

@@ -1,6 +1,7 @@
 -- The clause of a tree of the program, with its marks and without.
 use Rattle.std.specs.Prelude.{List, [], ◌∷◌}
 use Rattle.kb_when.specs.Clause.{Clause, Clauses, no_clauses, clause}
+use Rattle.kb_when.specs.Leaf.{marked_of_leaf}
 use Rattle.kb_when.specs.Marked as marked
 use Rattle.kb_when.specs.Marked.{Marked, Markeds, tree_of}
 use Rattle.kb_when.specs.declared.tree.Tree.{Tree, fold-Tree}
@@ -19,11 +20,7 @@ markeds_of (m ∷ ms) = marked.clause m (markeds_of ms)
 abbrev pub marked_step : Tree-F Marked → Marked
 marked_step Tree-F.True = marked.always
 marked_step Tree-F.False = marked.never
-marked_step (Tree-F.Key k) = marked.key k
-marked_step (Tree-F.Equals k v) = marked.equals k v
-marked_step (Tree-F.Compare k o n) = marked.compare k o n
-marked_step (Tree-F.Matches k p) = marked.matches k p
-marked_step (Tree-F.Member k other) = marked.member k other
+marked_step (Tree-F.Atom a) = marked_of_leaf a.value
 marked_step (Tree-F.Not t) = marked.not_of t.value
 marked_step (Tree-F.And ts) = marked.all_of (markeds_of ts.items)
 marked_step (Tree-F.Or ts) = marked.any_of (markeds_of ts.items)

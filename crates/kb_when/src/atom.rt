@@ -3,12 +3,14 @@
 ghost use Rattle.std.specs.Prelude.{◌≡◌, ◌∷◌, [], IfOk, IfErr, MatchOption, if◌then◌else◌};
 ghost use Rattle.kb_pattern.specs.Pattern.{flags_of};
 ghost use Rattle.kb_when.specs.Clause.{key as key_clause, not_of, equals, compare, matches, member};
+ghost use Rattle.kb_when.specs.Leaf.{clause_of_leaf};
 ghost use Rattle.kb_when.specs.Tree.{clause_of};
 ghost use Rattle.kb_when.specs.Words.{is_equal, is_unequal};
 ghost use Rattle.kb_when.specs.Reading.{behind_key, behind_not, at_value, at_other, at_number, at_pattern};
 ghost use Rattle.kb_when.specs.Parser.{clause_of_atom, clause_of_condition, ReadsAtom, FailsAt};
 
 use crate::fault::WhenFault;
+use crate::leaf::Leaf;
 use crate::number::read_number;
 use crate::operator::Operator;
 use crate::token::Token;
@@ -17,6 +19,7 @@ use crate::words::{is_reserved, is_word};
 use kb_base::{NoMemory, Text};
 use kb_pattern::{Flags, Pattern};
 use std::alloc::Global;
+use std::rc::Rc;
 
 /// An atom, with words borrowed from the tokens.
 #[derive(Clone, Copy)]
@@ -245,11 +248,18 @@ fn no_member<'t>(
     }
 }
 
+/// The tree of an atom. Error: `NoMemory`.
+fn leaf_tree(alloc: Global, leaf: Leaf) -> Result<Tree, NoMemory>
+    ensures { IfOk result (λ t. clause_of t ≡ clause_of_leaf leaf) }
+{
+    Ok(Tree::atom(Rc::new(alloc, leaf)?))
+}
+
 /// The tree of a key alone. Error: `NoMemory`.
-fn key_tree(key: &Text) -> Result<Tree, NoMemory>
+fn key_tree(alloc: Global, key: &Text) -> Result<Tree, NoMemory>
     ensures { IfOk result (λ t. clause_of t ≡ key_clause key.now) }
 {
-    Ok(Tree::key(key.copied()?))
+    leaf_tree(alloc, Leaf::Key(key.copied()?))
 }
 
 /// Copies of two texts. Error: `NoMemory`.
@@ -261,18 +271,23 @@ fn both(first: &Text, second: &Text) -> Result<(Text, Text), NoMemory>
 }
 
 /// The tree of a key and the text that its value must equal. Error: `NoMemory`.
-fn equal_tree(key: &Text, value: &Text) -> Result<Tree, NoMemory>
+fn equal_tree(alloc: Global, key: &Text, value: &Text) -> Result<Tree, NoMemory>
     ensures { IfOk result (λ t. clause_of t ≡ equals key.now value.now) }
 {
     let (key, value) = both(key, value)?;
-    Ok(Tree::equal(key, value))
+    leaf_tree(alloc, Leaf::Equals(key, value))
 }
 
 /// The tree of a key and the number with which its value is compared. Error: `NoMemory`.
-fn compare_tree(key: &Text, operator: Operator, number: i64) -> Result<Tree, NoMemory>
+fn compare_tree(
+    alloc: Global,
+    key: &Text,
+    operator: Operator,
+    number: i64,
+) -> Result<Tree, NoMemory>
     ensures { IfOk result (λ t. clause_of t ≡ compare key.now operator number) }
 {
-    Ok(Tree::compare(key.copied()?, operator, number))
+    leaf_tree(alloc, Leaf::Compare(key.copied()?, operator, number))
 }
 
 /// The tree of a key and the pattern that its value must match. Error: `NoMemory`.
@@ -281,15 +296,15 @@ fn matching_tree(alloc: Global, key: &Text, text: &Text, letters: &Text) -> Resu
 {
     let (key, text) = both(key, text)?;
     let pattern = Pattern::new(alloc, text, Flags::of(letters.as_str()))?;
-    Ok(Tree::matching(key, pattern))
+    leaf_tree(alloc, Leaf::Matches(key, pattern))
 }
 
 /// The tree of a key, and the key of the list or object that must contain its value. Error: `NoMemory`.
-fn member_tree(key: &Text, other: &Text) -> Result<Tree, NoMemory>
+fn member_tree(alloc: Global, key: &Text, other: &Text) -> Result<Tree, NoMemory>
     ensures { IfOk result (λ t. clause_of t ≡ member key.now other.now) }
 {
     let (key, other) = both(key, other)?;
-    Ok(Tree::member(key, other))
+    leaf_tree(alloc, Leaf::Member(key, other))
 }
 
 impl Atom<'_> {
@@ -301,11 +316,11 @@ impl Atom<'_> {
         match self {
             Atom::True => Ok(Tree::always()),
             Atom::False => Ok(Tree::never()),
-            Atom::Key(key) => key_tree(key),
-            Atom::Equals(key, value) => equal_tree(key, value),
-            Atom::Compare(key, operator, number) => compare_tree(key, operator, number),
+            Atom::Key(key) => key_tree(alloc, key),
+            Atom::Equals(key, value) => equal_tree(alloc, key, value),
+            Atom::Compare(key, operator, number) => compare_tree(alloc, key, operator, number),
             Atom::Matches(key, text, letters) => matching_tree(alloc, key, text, letters),
-            Atom::Member(key, other) => member_tree(key, other),
+            Atom::Member(key, other) => member_tree(alloc, key, other),
         }
     }
 }

@@ -1,10 +1,11 @@
 //! When clauses.
-ghost use Rattle.std.specs.Prelude.{◌≡◌, ◌<◌, ◌↔◌, [], length, IsTrue, IfOk, IfErr};
+ghost use Rattle.std.specs.Prelude.{◌≡◌, ◌↔◌, [], IsTrue, IfOk, IfErr, option_copied};
 ghost use Rattle.kb_base.specs.Failure.{Gives};
 ghost use Rattle.kb_when.specs.ClauseText.{clause_in};
 ghost use Rattle.kb_when.specs.Tree.{clause_of};
 
 use crate::fault::WhenFault;
+use crate::flat::Flat;
 use crate::parser::parse_tokens;
 use crate::tokenizer::tokenize;
 use crate::tree::Tree;
@@ -22,6 +23,7 @@ use std::marker::Model;
 #[derive(Debug, Drop)]
 pub struct Clause {
     tree: Tree,
+    flat: Flat,
     unread: Seq<ClausePattern>,
     alloc: Global,
 }
@@ -36,9 +38,11 @@ impl Model for Clause {
 
     ghost view = { λ c. beside (marked_of c.tree) };
 
+    ghost use Rattle.kb_when.specs.Flat.{Decides};
     ghost use Rattle.kb_when.specs.Unread.{IsKept};
 
-    ghost invariant = { λ c. IsKept (marked_of c.tree) c.unread };
+    ghost invariant = { λ c. IsKept (marked_of c.tree) c.unread
+        × Decides c.flat.jumps.items (marked_of c.tree) c.flat.entry };
 }
 
 /// Parses a text into a tree. Errors: as for `Clause::parse`.
@@ -54,6 +58,7 @@ impl Clause {
     ghost use Rattle.kb_context.specs.Scopes.{context};
     ghost use Rattle.kb_when.specs.Tokenizer.{CountSuffices};
     ghost use Rattle.kb_when.specs.ClauseText.{StandsFor, ReadsByGrammar};
+    ghost use Rattle.kb_when.specs.Marks.{HasReadPattern, when_holds, WhenHasReadPattern};
     ghost use Rattle.kb_when.specs.Value.{value};
     ghost use Rattle.kb_when.specs.Clause.{never, patterns_of};
     ghost use Rattle.kb_pattern.specs.Pattern.{AreRight};
@@ -81,8 +86,10 @@ impl Clause {
     {
         let tree = read_tree(alloc, text)?;
         let unread = unread_patterns(alloc, &tree)?;
+        let flat = Flat::new(alloc, &tree)?;
         Ok(Clause {
             tree,
+            flat,
             unread,
             alloc,
         })
@@ -94,6 +101,7 @@ impl Clause {
     {
         Clause {
             tree: Tree::never(),
+            flat: Flat::never(alloc),
             unread: Seq::new(alloc),
             alloc,
         }
@@ -117,14 +125,27 @@ impl Clause {
     /// is absent, `false`, 0 or the empty text. If a key is absent or its value is a list or an object,
     /// then `==`, `<`, `<=`, `>`, `>=` and `=~` are false. A pattern that is marked as unread never
     /// matches. Evaluation stops at the first operand that decides. Error: `NoMemory` if a search for a
-    /// pattern is refused memory; a clause without patterns allocates nothing.
-    #[tactic(auto, using(crate::proofs::MarkedLemmas::value_beside, crate::proofs::MarkedLemmas::has_one))]
+    /// pattern is refused memory; a clause whose patterns are all marked as unread allocates nothing.
+    #[tactic(auto, using(crate::proofs::MarkedLemmas::value_beside))]
     pub fn holds(&self, scopes: &Scopes) -> Result<bool, NoMemory>
         ensures value { IfOk result (λ holds.
-            holds ≡ value (context scopes.now) self.now.marks self.now.tree) }
-        ensures memory { IfErr result (λ _. 0 < length (patterns_of self.now.tree)) }
+            holds ≡ value (context scopes.now.seen) self.now.marks self.now.tree) }
+        ensures memory { IfErr result (λ _. HasReadPattern self.now) }
     {
-        self.tree.holds(self.alloc, scopes)
+        self.flat.holds(self.alloc, scopes)
+    }
+
+    /// Whether a clause that may be missing holds, as for `Clause::holds`. A missing clause holds (VS Code's
+    /// documentation of keybindings: `when` is optional). Error: as for `Clause::holds`.
+    pub fn optional_holds(clause: Option<&Clause>, scopes: &Scopes) -> Result<bool, NoMemory>
+        ensures value { IfOk result (λ holds.
+            holds ≡ when_holds (context scopes.now.seen) (option_copied clause.entry)) }
+        ensures memory { IfErr result (λ _. WhenHasReadPattern (option_copied clause.entry)) }
+    {
+        match clause {
+            Some(clause) => clause.holds(scopes),
+            None => Ok(true),
+        }
     }
 
     /// Whether both clauses have the same tree, as the removal of a rule requires. The marks are not

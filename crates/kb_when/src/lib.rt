@@ -5,6 +5,8 @@ mod atom;
 mod characters;
 pub mod clause;
 pub mod fault;
+mod flat;
+mod leaf;
 mod number;
 mod operator;
 mod parser;

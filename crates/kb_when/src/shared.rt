@@ -1,8 +1,9 @@
 //! Clauses with several owners.
-ghost use Rattle.std.specs.Prelude.{◌≡◌, IfOk};
+ghost use Rattle.std.specs.Prelude.{◌≡◌, IfOk, IfErr, option_copied};
 
 use crate::clause::Clause;
 use kb_base::NoMemory;
+use kb_context::Scopes;
 use std::alloc::Global;
 use std::marker::Model;
 use std::rc::Rc;
@@ -25,6 +26,9 @@ impl Model for SharedClause {
 }
 
 impl SharedClause {
+    ghost use Rattle.kb_context.specs.Scopes.{context};
+    ghost use Rattle.kb_when.specs.Marks.{when_holds, WhenHasReadPattern};
+
     /// Makes a clause shareable. Error: `NoMemory`.
     pub fn new(alloc: Global, clause: Clause) -> Result<SharedClause, NoMemory>
         ensures { IfOk result (λ made. made ≡ clause) }
@@ -49,5 +53,17 @@ impl SharedClause {
         ensures { result.now ≡ self.now }
     {
         &self.clause
+    }
+
+    /// Whether a clause that may be missing holds. Error: `NoMemory`. Both as for `Clause::optional_holds`.
+    pub fn optional_holds(clause: Option<&SharedClause>, scopes: &Scopes) -> Result<bool, NoMemory>
+        ensures value { IfOk result (λ holds.
+            holds ≡ when_holds (context scopes.now.seen) (option_copied clause.entry)) }
+        ensures memory { IfErr result (λ _. WhenHasReadPattern (option_copied clause.entry)) }
+    {
+        match clause {
+            Some(clause) => clause.as_clause().holds(scopes),
+            None => Ok(true),
+        }
     }
 }

@@ -1,12 +1,10 @@
 //! Trees of clauses.
 ghost use Rattle.std.specs.Prelude.{◌≡◌, map};
-ghost use Rattle.std.specs.Str.{bytes_eq};
 ghost use Rattle.kb_when.specs.Same.{same_all};
 ghost use Rattle.kb_when.specs.Tree.{clause_of, clauses_of};
 
-use crate::operator::Operator;
-use kb_base::Text;
-use kb_pattern::Pattern;
+use crate::leaf::Leaf;
+use std::rc::Rc;
 
 /// The tree of a clause. Parentheses have no node of their own.
 #[derive(Debug, Drop)]
@@ -15,16 +13,8 @@ pub(crate) enum Tree {
     True,
     /// `false`.
     False,
-    /// A key alone.
-    Key(Text),
-    /// A key and the text that its value must equal.
-    Equals(Text, Text),
-    /// A key and the number with which its value is compared.
-    Compare(Text, Operator, i64),
-    /// A key and the pattern that its value must match.
-    Matches(Text, Pattern),
-    /// A key, and the key of the list or object that must contain its value.
-    Member(Text, Text),
+    /// An atom, shared with the flat form of the clause.
+    Atom(Rc<Leaf>),
     /// The negation of a tree.
     Not(Box<Tree>),
     /// Two or more trees that must all hold, in the order of the text.
@@ -36,8 +26,8 @@ pub(crate) enum Tree {
 /// One constructor for each case. The clause of a tree is a fold, which does not compute in a proof. The
 /// contracts of these functions state its value for each case.
 impl Tree {
-    ghost use Rattle.kb_when.specs.Clause.{always, never, key, equals, compare, matches, member};
-    ghost use Rattle.kb_when.specs.Clause.{not_of, all_of, any_of};
+    ghost use Rattle.kb_when.specs.Clause.{always, never, not_of, all_of, any_of};
+    ghost use Rattle.kb_when.specs.Leaf.{clause_of_leaf};
     ghost use Rattle.kb_when.specs.Marked as marked;
     ghost use Rattle.kb_when.specs.Tree.{marked_of, clause_of, clauses_of};
 
@@ -54,34 +44,10 @@ impl Tree {
         Tree::False
     }
 
-    pub(crate) fn key(name: Text) -> Tree
-        ensures { clause_of result ≡ key name }
+    pub(crate) fn atom(leaf: Rc<Leaf>) -> Tree
+        ensures { clause_of result ≡ clause_of_leaf leaf.value }
     {
-        Tree::Key(name)
-    }
-
-    pub(crate) fn equal(name: Text, text: Text) -> Tree
-        ensures { clause_of result ≡ equals name text }
-    {
-        Tree::Equals(name, text)
-    }
-
-    pub(crate) fn compare(name: Text, operator: Operator, number: i64) -> Tree
-        ensures { clause_of result ≡ compare name operator number }
-    {
-        Tree::Compare(name, operator, number)
-    }
-
-    pub(crate) fn matching(name: Text, pattern: Pattern) -> Tree
-        ensures { clause_of result ≡ matches name pattern.text pattern.flags }
-    {
-        Tree::Matches(name, pattern)
-    }
-
-    pub(crate) fn member(name: Text, other: Text) -> Tree
-        ensures { clause_of result ≡ member name other }
-    {
-        Tree::Member(name, other)
+        Tree::Atom(leaf)
     }
 
     pub(crate) fn negation(tree: Box<Tree>) -> Tree
@@ -105,12 +71,6 @@ impl Tree {
     }
 }
 
-fn same_text(one: &Text, other: &Text) -> bool
-    ensures { result ≡ bytes_eq one.now other.now }
-{
-    one.as_str() == other.as_str()
-}
-
 #[cycle(same)]
 fn same_trees(trees: &[Tree], others: &[Tree]) -> bool
     ensures { result ≡
@@ -128,57 +88,16 @@ fn same_trees(trees: &[Tree], others: &[Tree]) -> bool
 }
 
 impl Tree {
-    ghost use Rattle.kb_when.specs.Same.{same, is_key, is_equals, is_compare, is_matches, is_member};
+    ghost use Rattle.kb_when.specs.Same.{same};
+    ghost use Rattle.kb_when.specs.Leaf.{clause_of_leaf};
     ghost use Rattle.kb_when.specs.Tree.{clause_of};
 
-    /// Whether this is the key alone.
-    fn is_key(&self, key: &Text) -> bool
-        ensures { result ≡ is_key key.now (clause_of self.now) }
+    /// Whether this tree is the same atom.
+    fn is_atom(&self, leaf: &Leaf) -> bool
+        ensures { result ≡ same (clause_of_leaf leaf.now) (clause_of self.now) }
     {
         match self {
-            Tree::Key(other) => same_text(key, other),
-            _ => false,
-        }
-    }
-
-    /// Whether this is the key with the same text.
-    fn is_equals(&self, key: &Text, text: &Text) -> bool
-        ensures { result ≡ is_equals key.now text.now (clause_of self.now) }
-    {
-        match self {
-            Tree::Equals(other, value) => same_text(key, other) && same_text(text, value),
-            _ => false,
-        }
-    }
-
-    /// Whether this is the key with the same comparison and the same number.
-    fn is_compare(&self, key: &Text, operator: Operator, number: i64) -> bool
-        ensures { result ≡ is_compare key.now operator number (clause_of self.now) }
-    {
-        match self {
-            Tree::Compare(other, by, with) => {
-                same_text(key, other) && operator.is(*by) && number == *with
-            }
-            _ => false,
-        }
-    }
-
-    /// Whether this is the key with the same pattern.
-    fn is_matches(&self, key: &Text, pattern: &Pattern) -> bool
-        ensures { result ≡ is_matches key.now pattern.now.text pattern.now.flags (clause_of self.now) }
-    {
-        match self {
-            Tree::Matches(other, with) => same_text(key, other) && pattern.is(with),
-            _ => false,
-        }
-    }
-
-    /// Whether this is the key with the same list or object.
-    fn is_member(&self, key: &Text, among: &Text) -> bool
-        ensures { result ≡ is_member key.now among.now (clause_of self.now) }
-    {
-        match self {
-            Tree::Member(other, list) => same_text(key, other) && same_text(among, list),
+            Tree::Atom(other) => leaf.same(other),
             _ => false,
         }
     }
@@ -192,11 +111,7 @@ impl Tree {
         match self {
             Tree::True => matches!(other, Tree::True),
             Tree::False => matches!(other, Tree::False),
-            Tree::Key(key) => other.is_key(key),
-            Tree::Equals(key, text) => other.is_equals(key, text),
-            Tree::Compare(key, operator, number) => other.is_compare(key, *operator, *number),
-            Tree::Matches(key, pattern) => other.is_matches(key, pattern),
-            Tree::Member(key, among) => other.is_member(key, among),
+            Tree::Atom(leaf) => other.is_atom(leaf),
             Tree::Not(tree) => match other {
                 Tree::Not(other) => tree.same(other),
                 _ => false,

@@ -3,6 +3,7 @@ ghost use Rattle.std.specs.Prelude.{◌≡◌, [], map, OnOk, IfOk};
 ghost use Rattle.kb_when.specs.Tree.{marked_of};
 ghost use Rattle.kb_when.specs.Unread.{IsKept};
 
+use crate::leaf::Leaf;
 use crate::tree::Tree;
 use kb_base::{NoMemory, Seq, Text};
 use kb_pattern::Pattern;
@@ -25,7 +26,9 @@ pub(crate) struct Noted {
 }
 
 impl Noted {
-    ghost use Rattle.kb_when.specs.Unread.{note};
+    ghost use Rattle.kb_when.specs.Leaf.{marked_of_leaf};
+    ghost use Rattle.kb_when.specs.Marked.{patterns_in};
+    ghost use Rattle.kb_when.specs.Unread.{note, note_all, HaveRightMarks};
     ghost use Rattle.kb_pattern.specs.Pattern.{HasRightMark};
 
     /// No patterns.
@@ -51,6 +54,20 @@ impl Noted {
             self.unread.push(ClausePattern { number, pattern })?;
         }
         Ok(())
+    }
+
+    /// Adds the pattern of an atom, if it has one. Error: `NoMemory`.
+    fn note_leaf(&mut self, leaf: &Leaf) -> Result<(), NoMemory>
+        ensures noted { OnOk result (self.new ≡ note_all self.old (patterns_in (marked_of_leaf leaf.now))) }
+        ensures right { OnOk result (HaveRightMarks (patterns_in (marked_of_leaf leaf.now))) }
+    {
+        match leaf {
+            Leaf::Matches(_, pattern) => self.note(pattern),
+            Leaf::Key(_) => Ok(()),
+            Leaf::Equals(_, _) => Ok(()),
+            Leaf::Compare(_, _, _) => Ok(()),
+            Leaf::Member(_, _) => Ok(()),
+        }
     }
 }
 
@@ -81,16 +98,12 @@ impl Tree {
         ensures right { OnOk result (HaveRightMarks (patterns_in (marked_of self.now))) }
     {
         match self {
-            Tree::Matches(_, pattern) => noted.note(pattern),
+            Tree::Atom(leaf) => noted.note_leaf(leaf),
             Tree::Not(tree) => tree.note_patterns(noted),
             Tree::And(trees) => Tree::note_trees(trees, noted),
             Tree::Or(trees) => Tree::note_trees(trees, noted),
             Tree::True => Ok(()),
             Tree::False => Ok(()),
-            Tree::Key(_) => Ok(()),
-            Tree::Equals(_, _) => Ok(()),
-            Tree::Compare(_, _, _) => Ok(()),
-            Tree::Member(_, _) => Ok(()),
         }
     }
 }

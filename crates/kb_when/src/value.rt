@@ -1,14 +1,14 @@
 //! Evaluation of clauses.
-ghost use Rattle.std.specs.Prelude.{◌≡◌, IfOk, IfErr, map, option_copied};
+ghost use Rattle.std.specs.Prelude.{◌≡◌, true, false, not, IfOk, IfErr, option_copied};
 ghost use Rattle.std.specs.FinMap.{get};
 ghost use Rattle.std.specs.List.{list_any};
 ghost use Rattle.std.specs.Str.{bytes_eq};
 ghost use Rattle.kb_context.specs.Scopes.{context};
 ghost use Rattle.kb_when.specs.Value.{key_holds, equals_holds, compare_holds, match_holds, member_holds};
 
+use crate::leaf::Leaf;
 use crate::number::{is_spelling, read_number};
 use crate::operator::Operator;
-use crate::tree::Tree;
 use itoa::Buffer;
 use kb_base::{NoMemory, Seq, Text};
 use kb_context::{ContextValue, Scopes};
@@ -55,13 +55,15 @@ fn compare_of(value: Option<&ContextValue>, operator: Operator, number: i64) -> 
 }
 
 /// Whether the pattern matches somewhere in a key's value. A number is matched in its decimal form, a
-/// boolean as `true` or `false`. Error: `NoMemory`.
+/// boolean as `true` or `false`. Error: `NoMemory`, only if the pattern is not marked as unread.
 fn match_of(
     alloc: Global,
     value: Option<&ContextValue>,
     pattern: &Pattern,
 ) -> Result<bool, NoMemory>
-    ensures { IfOk result (λ holds. holds ≡ match_holds (option_copied value.entry) pattern.now) }
+    ensures value { IfOk result (λ holds.
+        holds ≡ match_holds (option_copied value.entry) pattern.now) }
+    ensures memory { IfErr result (λ _. pattern.now.unread ≡ false) }
 {
     match value {
         Some(ContextValue::Text(text)) => pattern.matches(alloc, text.as_str()),
@@ -104,29 +106,31 @@ fn member_of(value: Option<&ContextValue>, other: Option<&ContextValue>) -> bool
 
 /// Whether a key alone holds in these scopes.
 fn key_in(scopes: &Scopes, key: &Text) -> bool
-    ensures { result ≡ key_holds (get (context scopes.now) key.now) }
+    ensures { result ≡ key_holds (get (context scopes.now.seen) key.now) }
 {
     key_of(scopes.get(key.as_str()))
 }
 
 /// Whether a key's value in these scopes is this text, or a number whose decimal form is this text.
 fn equals_in(scopes: &Scopes, key: &Text, text: &Text) -> bool
-    ensures { result ≡ equals_holds (get (context scopes.now) key.now) text.now }
+    ensures { result ≡ equals_holds (get (context scopes.now.seen) key.now) text.now }
 {
     equals_of(scopes.get(key.as_str()), text.as_str())
 }
 
 /// Whether the comparison holds for a key's value in these scopes.
 fn compare_in(scopes: &Scopes, key: &Text, operator: Operator, number: i64) -> bool
-    ensures { result ≡ compare_holds (get (context scopes.now) key.now) operator number }
+    ensures { result ≡ compare_holds (get (context scopes.now.seen) key.now) operator number }
 {
     compare_of(scopes.get(key.as_str()), operator, number)
 }
 
-/// Whether the pattern matches a key's value in these scopes. Error: `NoMemory`.
+/// Whether the pattern matches a key's value in these scopes. Error: `NoMemory`, only if the pattern is not
+/// marked as unread.
 fn match_in(alloc: Global, scopes: &Scopes, key: &Text, pattern: &Pattern) -> Result<bool, NoMemory>
-    ensures { IfOk result (λ holds.
-        holds ≡ match_holds (get (context scopes.now) key.now) pattern.now) }
+    ensures value { IfOk result (λ holds.
+        holds ≡ match_holds (get (context scopes.now.seen) key.now) pattern.now) }
+    ensures memory { IfErr result (λ _. pattern.now.unread ≡ false) }
 {
     match_of(alloc, scopes.get(key.as_str()), pattern)
 }
@@ -134,69 +138,30 @@ fn match_in(alloc: Global, scopes: &Scopes, key: &Text, pattern: &Pattern) -> Re
 /// Whether the other key's value in these scopes contains this key's value.
 fn member_in(scopes: &Scopes, key: &Text, other: &Text) -> bool
     ensures { result ≡
-        member_holds (get (context scopes.now) key.now) (get (context scopes.now) other.now) }
+        member_holds (get (context scopes.now.seen) key.now) (get (context scopes.now.seen) other.now) }
 {
     member_of(scopes.get(key.as_str()), scopes.get(other.as_str()))
 }
 
-impl Tree {
-    ghost use Rattle.kb_when.specs.Tree.{marked_of, markeds_of};
-    ghost use Rattle.kb_when.specs.Marked.{marked_value, all_marked_hold, any_marked_holds};
-    ghost use Rattle.kb_when.specs.Marked.{patterns_in, all_patterns_in, HasPattern};
+impl Leaf {
+    ghost use Rattle.kb_when.specs.Leaf.{marked_of_leaf};
+    ghost use Rattle.kb_when.specs.Marked.{marked_value, marks_of};
 
-    /// Whether all of these trees hold. Error: `NoMemory`, only if one has a pattern.
-    #[cycle(holding)]
-    fn all_hold(alloc: Global, trees: &[Tree], scopes: &Scopes) -> Result<bool, NoMemory>
-        ensures value { IfOk result (λ holds. holds ≡
-            all_marked_hold (context scopes.now) (markeds_of (map marked_of trees.now))) }
-        ensures memory { IfErr result (λ _.
-            HasPattern (all_patterns_in (markeds_of (map marked_of trees.now)))) }
-    {
-        for tree in trees {
-            if !tree.holds(alloc, scopes)? {
-                return Ok(false);
-            }
-        }
-        Ok(true)
-    }
-
-    /// Whether one of these trees holds. Error: `NoMemory`, only if one has a pattern.
-    #[cycle(holding)]
-    fn any_holds(alloc: Global, trees: &[Tree], scopes: &Scopes) -> Result<bool, NoMemory>
-        ensures value { IfOk result (λ holds. holds ≡
-            any_marked_holds (context scopes.now) (markeds_of (map marked_of trees.now))) }
-        ensures memory { IfErr result (λ _.
-            HasPattern (all_patterns_in (markeds_of (map marked_of trees.now)))) }
-    {
-        for tree in trees {
-            if tree.holds(alloc, scopes)? {
-                return Ok(true);
-            }
-        }
-        Ok(false)
-    }
-
-    /// Whether the tree holds for the keys that are visible from the focus. Error: `NoMemory`, only if it
-    /// has a pattern.
-    #[cycle(holding)]
+    /// Whether the atom holds for the keys that are visible from the focus. Error: `NoMemory`, only if it has
+    /// a pattern that is not marked as unread.
     pub(crate) fn holds(&self, alloc: Global, scopes: &Scopes) -> Result<bool, NoMemory>
         ensures value { IfOk result (λ holds.
-            holds ≡ marked_value (context scopes.now) (marked_of self.now)) }
-        ensures memory { IfErr result (λ _. HasPattern (patterns_in (marked_of self.now))) }
+            holds ≡ marked_value (context scopes.now.seen) (marked_of_leaf self.now)) }
+        ensures memory { IfErr result (λ _. list_any not (marks_of (marked_of_leaf self.now)) ≡ true) }
     {
         match self {
-            Tree::True => Ok(true),
-            Tree::False => Ok(false),
-            Tree::Key(key) => Ok(key_in(scopes, key)),
-            Tree::Equals(key, text) => Ok(equals_in(scopes, key, text)),
-            Tree::Compare(key, operator, number) => {
+            Leaf::Key(key) => Ok(key_in(scopes, key)),
+            Leaf::Equals(key, text) => Ok(equals_in(scopes, key, text)),
+            Leaf::Compare(key, operator, number) => {
                 Ok(compare_in(scopes, key, *operator, *number))
             }
-            Tree::Matches(key, pattern) => match_in(alloc, scopes, key, pattern),
-            Tree::Member(key, other) => Ok(member_in(scopes, key, other)),
-            Tree::Not(tree) => Ok(!tree.holds(alloc, scopes)?),
-            Tree::And(trees) => Tree::all_hold(alloc, trees, scopes),
-            Tree::Or(trees) => Tree::any_holds(alloc, trees, scopes),
+            Leaf::Matches(key, pattern) => match_in(alloc, scopes, key, pattern),
+            Leaf::Member(key, other) => Ok(member_in(scopes, key, other)),
         }
     }
 }

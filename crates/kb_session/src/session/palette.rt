@@ -35,7 +35,8 @@ impl<C: HostCommand> Session<C> {
             Does (happens (event.Palette query.now)) self.old answer self.new) }
         ensures err { OnErr result (Undone self.old self.new) }
     {
-        let scopes = &self.core.core().scopes;
+        self.core.refresh()?;
+        let scopes = self.core.core().scopes();
         let commands = self.bindings.palette();
         let entries = list(self.alloc, query, commands, &self.history, scopes)?;
         note_palette(&mut self.trace, entries.as_slice())?;

@@ -1,5 +1,5 @@
 use Rattle.std.proofs.Common.{List, ap, ◌∙◌}
-use Rattle.kb_context.specs.declared.scopes.Scope.{Scope}
+use Rattle.kb_context.specs.declared.scope_tree.Scope.{Scope}
 use Rattle.kb_context.specs.Draft.{parent_behind}
 use Rattle.kb_context.proofs.DraftLemmas.{IsPlaced-after}
 use Rattle.kb_context.proofs.draft.Draft.push_fitting.Goals as goal

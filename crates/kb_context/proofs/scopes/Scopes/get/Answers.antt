@@ -1,10 +1,14 @@
-use Rattle.std.proofs.Common.{subst}
-use Rattle.kb_context.specs.Scopes.{ReachesRoot}
-use Rattle.kb_context.proofs.OutwardLemmas.{no_further}
+use Rattle.std.proofs.Common.{rules, ◌≡◌, Some, ap, ◌∙◌, option_and_then}
+use Rattle.std.specs.FinMap as map
+use Rattle.kb_context.specs.Scopes.{context, value_at, RevisedScopes}
+use Rattle.kb_context.proofs.SeatLemmas.{value_at_seat}
 use Rattle.kb_context.proofs.scopes.Scopes.get.Goals as goal
 
-pub returns-clause-whole : goal.returns-clause-whole
-returns-clause-whole c =
-    subst ReachesRoot c.self.view_is
-    (no_further c.self.inside.scopes.items c.self.inside.focus c.self.invariant.rooted
-    c.self.invariant.inside)
+pub returns-clause-value : goal.returns-clause-value
+returns-clause-value c =
+    let fresh : c.self.inside.made_at ≡ Some c.self.inside.revision = search rules in
+    c.value_in_seat.ensures.value
+    ∙ ap (option_and_then (λ at. value_at c.self.inside.tree at c.args.key.now))
+    (c.get-2.ensures ∙ c.self.invariant.same fresh c.args.key.now)
+    ∙ value_at_seat c.self.inside.tree c.args.key.now
+    ∙ ap (λ (s : RevisedScopes). map.get (context s.seen) c.args.key.now) c.self.view_is

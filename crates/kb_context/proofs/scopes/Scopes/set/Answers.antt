@@ -1,10 +1,7 @@
-use Rattle.std.proofs.Common.{length, subst, ◌<◌}
-use Rattle.kb_context.specs.Scopes.{ScopesData}
-use Rattle.kb_context.proofs.ScopesLemmas.{placed_within}
+use Rattle.kb_context.proofs.SeatLemmas.{flat_in}
 use Rattle.kb_context.proofs.scopes.Scopes.set.Goals as goal
 
-pub set_at-requires : goal.set_at-requires
-set_at-requires c =
-    subst (λ (s : ScopesData). c.in-Some.field-0.now < length s.scopes) c.self.view_is
-    (placed_within c.args.scope.now c.self.inside.scopes.items c.self.inside.places _
-    (c.self.invariant.placed c.args.scope.now) c.in-Some.ensures)
+pub follow-self-inside-requires : goal.follow-self-inside-requires
+follow-self-inside-requires c = λ fresh.
+    flat_in c.self.inside.tree c.set.new.self c.self.inside.flat c.args.scope.now c.args.key.now c.args.value
+    c.in_ok-set.ensures.ok (c.self.invariant.same fresh)

@@ -6,8 +6,8 @@ use Rattle.regex.specs.declared.string.regex.Regex.{Regex}
 use Rattle.kb_pattern.proofs.PatternLemmas.{held_apart}
 use Rattle.kb_pattern.proofs.pattern.Pattern.matches.Goals as goal
 
-pub returns-in_ok-matcher-in-Some : goal.returns-in_ok-matcher-in-Some
-returns-in_ok-matcher-in-Some c =
+pub returns-in_ok-matcher-in-Some-clause-value : goal.returns-in_ok-matcher-in-Some-clause-value
+returns-in_ok-matcher-in-Some-clause-value c =
     c.is_match.ensures.found
     ∙ ap (λ (re : Re). is_some (find_str re c.args.text.now 0)) c.in_ok-matcher-in-Some.ensures.pattern
     ∙ ap (λ (r : Regex). is_some (find_str (regex_pattern r) c.args.text.now 0)) c.deref.ensures

@@ -25,3 +25,9 @@ returns-clause-stands c = stands _ _ c.in_ok-tree.ensures
 
 pub returns-clause-only : goal.returns-clause-only
 returns-clause-only c = λ u s. only _ _ u c.in_ok-tree.ensures s
+
+pub returns-in_err-flat-clause-counted : goal.returns-in_err-flat-clause-counted
+returns-in_err-flat-clause-counted c = count_suffices c.args.text.now
+
+pub returns-in_err-flat-clause-grammar : goal.returns-in_err-flat-clause-grammar
+returns-in_err-flat-clause-grammar c = by_grammar c.args.text.now

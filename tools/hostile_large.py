@@ -1,0 +1,478 @@
+"""The large files of tools/hostile-files: what they hold, which answers they get, and what they cost.
+
+Run as a program it is the process that measures others: its own memory is small, and a started process counts the memory of
+the one that started it.
+"""
+
+import collections
+import json
+import os
+import random
+import subprocess
+import sys
+import tempfile
+
+MIB = 1 << 20
+FILE_LIMIT = 16 * MIB
+GROWTH = 2.4
+# Times and memory below these are not compared: they are those of a program that does nothing, and what a clock can tell.
+LEAST_SECONDS = 0.1
+LEAST_MEMORY = 24 * MIB
+MARK, MARKED = b"key f19\n", b"key f19: unbound\n"
+MANIFEST = b'{"publisher":"p","name":"e"}'
+TYPE = b'{"command":"x.hi","budget":1004,"depth":1,"texts":["hi"],"calls":["type"],"code":"010000300000000000"}'
+ONE_HANDLER = b'{"version":1,"handlers":[' + TYPE + b"]}"
+
+# A run: the files, the words of the command line, the script, and what its outputs have to be (their ends, where they are long).
+Job = collections.namedtuple("Job", "files words script status out err")
+
+
+def filled(size, before, piece, after=b""):
+    """A content of at most this size: as many pieces as fit between two parts."""
+    return before + piece * ((size - len(before) - len(after)) // len(piece)) + after
+
+
+# ---- ways in
+
+
+def load_answer(number, named, names):
+    """What a load answers: status and the end of both outputs."""
+    if number == 5:
+        return 4, b"", b"stopped: out of memory\n"
+    if number:
+        return 3, b"", b"load refused: %s %d %s\n" % (named, number, names[number].encode())
+    return 0, MARKED, b""
+
+
+def by_load(option, named):
+    def job(content, number, names):
+        return Job({"f": content}, [option, "f"], MARK, *load_answer(number, named, names))
+
+    return job
+
+
+def by_manifest(content, number, names):
+    return Job({"e/package.json": content}, ["e"], MARK, *load_answer(number, b"ext 0 package.json", names))
+
+
+def by_handlers(content, number, names):
+    files = {"e/package.json": MANIFEST, "e/handlers.json": content}
+    return Job(files, ["e"], MARK, *load_answer(number, b"ext 0 handlers.json", names))
+
+
+def event_answer(number, done, names):
+    if number == 5:
+        return 4, b"", b"stopped: out of memory\n"
+    if number == 1:
+        return 0, b"unread line 1\n" + MARKED, b""
+    return 0, (b"refused %d %s\n" % (number, names[number].encode()) if number else done) + MARKED, b""
+
+
+def by_reload(content, number, names):
+    line = b"reload " + content[: FILE_LIMIT - 64].replace(b"\n", b"\r") + b"\n"
+    return Job({}, [], line + MARK, *event_answer(number, b"reloaded\n", names))
+
+
+def by_update(content, number, names):
+    line = b"update p.e " + content[: FILE_LIMIT - 64].replace(b"\n", b"\r") + b"\n"
+    files = {"e/package.json": MANIFEST, "e/handlers.json": ONE_HANDLER}
+    return Job(files, ["e"], line + MARK, *event_answer(number, b"updated p.e\n", names))
+
+
+RULES = {"load": by_load("--user", b"user"), "reload": by_reload}
+LAYOUT = {"load": by_load("--layout", b"layout")}
+UPDATES = {"load": by_handlers, "update": by_update}
+
+# ---- one token
+
+
+def members(size):
+    """Members of different names, of about this size."""
+    return b",".join(b'"k%07d":0' % it for it in range(size // 13))
+
+
+TOKENS = [
+    ("`[`", lambda n: b"[" * n, 4),
+    ("`]`", lambda n: b"]" * n, 4),
+    ("`{`", lambda n: b"{" * n, 4),
+    ("`}`", lambda n: b"}" * n, 4),
+    ("`:`", lambda n: b":" * n, 4),
+    ("`,`", lambda n: b"," * n, 4),
+    ("letters", lambda n: b"x" * n, 4),
+    ("NUL", lambda n: b"\0" * n, 4),
+    ("FF", lambda n: b"\xff" * n, 1),
+    ("backslashes", lambda n: b"\\" * n, 4),
+    ("an even number of quotes", lambda n: b'"' * (n & ~1), 4),
+    ("an odd number of quotes", lambda n: b'"' * ((n & ~1) - 1), 3),
+    ("an open string", lambda n: filled(n, b'"', b"x"), 3),
+    ("a string", lambda n: filled(n, b'["', b"x", b'"]'), 0),
+    ("a string of backslashes", lambda n: filled(n, b'["', b"\\\\", b'"]'), 0),
+    ("a string of \\u0000", lambda n: filled(n, b'["', b"\\u0000", b'"]'), 0),
+    ("a number", lambda n: filled(n, b"[", b"1", b"]"), 4),
+    ("a fraction", lambda n: filled(n, b"[0.", b"0", b"]"), 0),
+    ("a negative exponent", lambda n: filled(n, b"[1e-", b"1", b"]"), 0),
+    ("numbers", lambda n: filled(n, b"[", b"0,", b"0]"), 0),
+    ("truth values", lambda n: filled(n, b"[", b"true,", b"true]"), 0),
+    ("strings", lambda n: filled(n, b"[", b'"",', b'""]'), 0),
+    ("lists", lambda n: filled(n, b"[", b"[],", b"[]]"), 0),
+    ("objects", lambda n: filled(n, b"[", b"{},", b"{}]"), 0),
+    ("trailing commas", lambda n: filled(n, b"[", b"[0,],", b"]"), 0),
+    ("members of one name", lambda n: filled(n, b"[{", b'"a":0,', b'"a":0}]'), 0),
+    ("members of different names", lambda n: b'[{"key":"a","command":"x","args":{' + members(n - 64) + b"}}]", 0),
+    ("blanks", lambda n: b" " * n, 0),
+    ("line ends", lambda n: b"\n" * n, 0),
+    ("a line comment", lambda n: filled(n, b"//", b"x"), 0),
+    ("line comments", lambda n: filled(n, b"", b"//\n"), 0),
+    ("a block comment", lambda n: filled(n, b"/*", b"x", b"*/"), 0),
+    ("block comments", lambda n: filled(n, b"", b"/**/"), 0),
+    ("an open comment", lambda n: filled(n, b"/*", b"x"), 2),
+    ("slashes", lambda n: b"/" * n, 0),
+    ("stars", lambda n: b"*" * n, 4),
+]
+
+
+# ---- clauses and patterns
+
+
+def with_clause(before, piece, after=b""):
+    return lambda n: filled(n, b'[{"key":"a","command":"x","when":"' + before, piece, after + b'"}]')
+
+
+CLAUSES = [
+    ("atoms and `&&`", with_clause(b"", b"a && ", b"a"), 0),
+    ("atoms and `||`", with_clause(b"", b"a || ", b"a"), 0),
+    ("comparisons", with_clause(b"", b"a == b || a != 'c' && ", b"a"), 0),
+    ("groups", with_clause(b"", b"(a||b)&&", b"a"), 0),
+    ("`in` and `not in`", with_clause(b"", b"a in b || a not in b && ", b"a"), 0),
+    ("`(`", with_clause(b"", b"("), 0),
+    ("`!`", with_clause(b"", b"!", b"a"), 0),
+    ("`&`", with_clause(b"", b"&"), 0),
+    ("a key", with_clause(b"", b"k"), 0),
+    ("a quoted text", with_clause(b"a == '", b"k", b"'"), 0),
+    ("an open text", with_clause(b"a == '", b"k"), 0),
+    ("a number", with_clause(b"a < ", b"1"), 0),
+    ("blanks", with_clause(b"a", b" ", b"&& b"), 0),
+    ("a pattern of groups", with_clause(b"a =~ /", b"(", b"/"), 0),
+    ("a pattern of classes", with_clause(b"a =~ /", b"[", b"]/"), 0),
+    ("short patterns", with_clause(b"", b"a =~ /b/ && ", b"a"), 0),
+    # (as long as the file, so that it is always past the size limit of `regex`)
+    ("a pattern of letters", lambda n: with_clause(b"a =~ /", b"x", b"/")(4 * n), 5),
+    # (`regex` makes one class of them)
+    ("a pattern of alternatives", lambda n: with_clause(b"a =~ /x", b"|x", b"/")(4 * n), 0),
+]
+
+
+def pressed_job(content, number, names):
+    """A load of rules with a clause that doesn't hold, with a press of its key."""
+    answer = load_answer(number, b"user", names)
+    out = answer[1] and b"key a: unbound\n" + answer[1]
+    return Job({"f": content}, ["--user", "f"], b"key a\n" + MARK, answer[0], out, answer[2])
+
+
+def searched(pattern, letter):
+    """A context key with a long text, and a press of a key whose clause searches it."""
+
+    def job(content, number, names):
+        rules = b'[{"key":"a","command":"","when":"t =~ /' + pattern + b'/"}]'
+        script = b'set window t "' + letter * (len(content) - 32) + b'"\nkey a\n' + MARK
+        return Job({"f": rules}, ["--user", "f"], script, 0, b"set window t\nkey a: unbound\n" + MARKED, b"")
+
+    return job
+
+
+SEARCHES = [
+    ("`(x+x+)+y` over letters x", searched(b"(x+x+)+y", b"x")),
+    ("`(x|xx)*y` over letters x", searched(b"(x|xx)*y", b"x")),
+    (r"`\\w{20}[0-9]` over letters x", searched(rb"\\w{20}[0-9]", b"x")),
+    ("`.*.*.*=.*` over letters x", searched(b".*.*.*=.*", b"x")),
+]
+
+
+def patterns(n):
+    """Rules with patterns that compile to much more than their text, one for each 64 KiB of the size."""
+    rule = b'{"key":"a","command":"x","when":"t =~ /\\\\w{0,40}y/"},'
+    return b"[" + rule * max(n // 65536, 1) + b"]"
+
+
+# ---- handlers
+
+
+def code_of(count):
+    """Code of so many instructions, which costs as much."""
+    return b"020001050000" * ((count - 1) // 2) + b"000000" + b"000000" * ((count - 1) % 2)
+
+
+def some_handlers(sizes):
+    """A handlers.json with a handler of each of these numbers of instructions."""
+    made = (b'{"command":"x.h%d","budget":20000,"depth":1,"code":"%s"}' % (at, code_of(size)) for at, size in enumerate(sizes))
+    return b'{"version":1,"handlers":[' + b",".join(made) + b"]}"
+
+
+def longest_handlers(n):
+    """As many handlers of 9,999 instructions as fit: 279 into 16 MiB."""
+    return some_handlers([9999] * ((n - 64) // 60100))
+
+
+def most_handlers(n):
+    """1,000 handlers with as many instructions as fit."""
+    return some_handlers([(n // 1000 - 64) // 6 | 1] * 1000)
+
+
+def with_member(member, before, piece, after):
+    """One handler that has one long member."""
+    rest = TYPE[1:-1].replace(b'"texts":["hi"],' if member == b"texts" else b"", b"", 1) if member == b"texts" else TYPE[1:-1]
+    if member == b"code":
+        rest = rest.replace(b',"code":"010000300000000000"', b"")
+    head = b'{"version":1,"handlers":[{' + rest + b',"' + member + b'":'
+    return lambda n: filled(n, head + before, piece, after + b"}]}")
+
+
+HANDLERS = [
+    ("handlers of 9,999 instructions", longest_handlers, {"load": 0, "update": 95}),
+    ("1,000 handlers", most_handlers, {"load": 0, "update": 95}),
+    ("one text", with_member(b"texts", b'["', b"x", b'"]'), {"load": 0, "update": 0}),
+    ("too many texts", with_member(b"texts", b"[", b'"",', b'""]'), {"load": 44, "update": 44}),
+    ("code that is too long", with_member(b"code", b'"', b"020001050000", b'000000"'), {"load": 44, "update": 44}),
+    ("code that is no hexadecimal text", with_member(b"code", b'"', b"zz", b'"'), {"load": 42, "update": 42}),
+    ("an unknown member", with_member(b"more", b"[", b"0,", b"0]"), {"load": 0, "update": 0}),
+    ("too many handlers", lambda n: filled(n, b'{"version":1,"handlers":[', b"0,", b"0]}"), {"load": 44, "update": 44}),
+]
+
+# ---- manifests and layouts
+
+MANIFESTS = [
+    ("commands", lambda n: filled(n, b'{"name":"e","contributes":{"commands":[', b'{"command":"x","title":"y"},', b"]}}"), 0),
+    ("dropped entries", lambda n: filled(n, b'{"name":"e","contributes":{"commands":[', b"0,", b"0]}}"), 0),
+    ("key rules", lambda n: filled(n, b'{"name":"e","contributes":{"keybindings":[', b'{"command":"x","key":"a"},', b"]}}"), 0),
+    ("removals", lambda n: filled(n, b'{"name":"e","contributes":{"keybindings":[', b'{"command":"-x"},', b"]}}"), 0),
+    ("palette items", lambda n: filled(n, b'{"name":"e","contributes":{"menus":{"commandPalette":[', b'{"command":"x"},', b"]}}}"), 0),
+    ("dependencies", lambda n: filled(n, b'{"name":"e","extensionDependencies":[', b'"p.x",', b'"p.x"]}'), 90),
+    ("a name", lambda n: filled(n, b'{"name":"', b"e", b'"}'), 0),
+]
+LAYOUTS = [
+    ("scopes", lambda n: filled(n, b'{"scopes":[', b'{"name":"a"},', b"]}"), 21),
+    ("values of a list", lambda n: filled(n, b'{"scopes":[{"name":"a","keys":{"k":[', b'"",', b'""]}}]}'), 0),
+    ("a name", lambda n: filled(n, b'{"scopes":[{"name":"', b"a", b'"}]}'), 0),
+    ("keys", lambda n: b'{"scopes":[{"name":"a","keys":{' + members(n - 64) + b"}}]}", 22),
+]
+
+
+# ---- what doesn't grow with the bytes alone
+
+MASK = (1 << 64) - 1
+MULTIPLIER = 0x9E3779B97F4A7C15
+FIRST_STATE = 0x243F6A8885A308D3
+# Characters that stand for themselves in a JSON string.
+PLAIN = bytes(it for it in range(0x21, 0x7F) if it not in b'"\\')
+
+
+def multiplied(a, b):
+    product = a * b
+    return (product & MASK) ^ (product >> 64)
+
+
+def names_of_one_hash(count):
+    """Names that all have one hash in a `HashMap` whose hasher isn't given a seed: their second block of 16 bytes begins with
+    the hasher's state, so that it is multiplied by 0."""
+    chance = random.Random(1)
+    while True:
+        block = bytes(chance.choice(PLAIN) for _ in range(16))
+        low, high = (int.from_bytes(it, "little") for it in (block[:8], block[8:]))
+        state = multiplied(low ^ (FIRST_STATE + 48 & MASK), high ^ MULTIPLIER).to_bytes(8, "little")
+        if all(it in PLAIN for it in state):
+            return [block + state + b"%08d" % at + b"0123456789abcdef" for at in range(count)]
+
+
+def listed(size, before, piece, after):
+    """A list with a piece for each of some names of one hash."""
+    count = size // (len(piece) + 47)
+    return before + b",".join(piece % it for it in names_of_one_hash(count)) + after
+
+
+def compared(content, number, names):
+    """As many default rules as removals of the user, of one command and key, with different clauses."""
+    count = len(content) // 90
+    rules = b"[" + b",".join(b'{"key":"a","command":"x","when":"k%d && l"}' % it for it in range(count)) + b"]"
+    removals = b"[" + b",".join(b'{"key":"a","command":"-x","when":"k%d && m"}' % it for it in range(count)) + b"]"
+    return Job({"d": rules, "u": removals}, ["--defaults", "d", "--user", "u"], MARK, 0, MARKED, b"")
+
+
+COMMANDS = b'{"name":"e","contributes":{"commands":['
+OPEN = [
+    ("manifest: commands of one hash", lambda n: listed(n, COMMANDS, b'{"command":"%s","title":"t"}', b"]}}"), by_manifest),
+    ("rules, load: removals of one hash", lambda n: listed(n, b"[", b'{"command":"-%s"}', b"]"), RULES["load"]),
+    ("layout: keys of one hash", lambda n: listed(n, b'{"scopes":[{"name":"a","keys":{', b'"%s":0', b"}}]}"), LAYOUT["load"]),
+    ("rules and removals of one key", lambda n: b" " * n, compared),
+]
+
+
+def try_open(measurer, programs, names):
+    """Prints a table of the cases that are known to grow faster."""
+    sizes = [MIB // 16, MIB // 8, MIB // 4]
+    faults = []
+    for title, make, way in OPEN:
+        line, wrong = try_case(measurer, programs, (title, make, 0, way), sizes, names)
+        print(line, flush=True)
+        faults += [it for it in wrong if " grew " not in it]
+    return len(OPEN) * len(sizes), faults
+
+
+def cases():
+    """The title of each case, its content by size, its number, and its ways in."""
+    for title, make, number in TOKENS:
+        for way, job in RULES.items():
+            yield f"rules, {way}: {title}", make, number, job
+    for title, make, number in CLAUSES:
+        yield f"clause: {title}", lambda n, make=make: make(n // 4), number, pressed_job
+    for title, job in SEARCHES:
+        yield f"search: {title}", lambda n: b" " * (n // 4), 0, job
+    yield "rules with patterns, one for each 64 KiB", patterns, 0, RULES["load"]
+    for title, make, numbers in HANDLERS:
+        for way, job in UPDATES.items():
+            yield f"handlers, {way}: {title}", make, numbers[way], job
+    for title, make, number in MANIFESTS:
+        yield f"manifest: {title}", make, number, by_manifest
+    for title, make, number in LAYOUTS:
+        yield f"layout: {title}", make, number, LAYOUT["load"]
+
+
+# ---- measuring
+
+
+class Measurer:
+    """Runs programs in a process of its own, which has little memory."""
+
+    def __init__(self):
+        self.process = subprocess.Popen([sys.executable, "-S", os.path.abspath(__file__)], stdin=subprocess.PIPE, stdout=subprocess.PIPE)
+
+    def run(self, words, folder):
+        """The status, the seconds of processor time and the peak memory of a run."""
+        self.process.stdin.write(json.dumps([words, folder]).encode() + b"\n")
+        self.process.stdin.flush()
+        return json.loads(self.process.stdout.readline())
+
+    def close(self):
+        self.process.stdin.close()
+        self.process.wait()
+
+
+def serve():
+    """The process that measures: for each line the words of a program and its folder."""
+    for line in sys.stdin:
+        words, folder = json.loads(line)
+        opened = [os.open(os.path.join(folder, it), os.O_RDWR | os.O_CREAT) for it in ("script", "out", "err")]
+        child = os.fork()
+        if child == 0:
+            os.chdir(folder)
+            for at, file in enumerate(opened):
+                os.dup2(file, at)
+            os.execv(words[0], words)
+        _, status, usage = os.wait4(child, 0)
+        for file in opened:
+            os.close(file)
+        print(json.dumps([os.waitstatus_to_exitcode(status), usage.ru_utime + usage.ru_stime, usage.ru_maxrss * 1024]), flush=True)
+
+
+def end_of(path, count):
+    with open(path, "rb") as file:
+        file.seek(max(os.path.getsize(path) - count, 0))
+        return file.read()
+
+
+def fault_of(job, status, folder):
+    """What is wrong with the answer of a run, or None. Warnings may come before the end of standard error."""
+    out, err = (end_of(os.path.join(folder, it), 4096) for it in ("out", "err"))
+    lines = [it for it in err.split(b"\n")[1:] if it] if len(err) == 4096 else [it for it in err.split(b"\n") if it]
+    others = [it for it in lines if not it.startswith(b"warning ")]
+    if status == job.status and out == job.out and b"".join(it + b"\n" for it in others) == job.err:
+        return None
+    return "status %d, %r, %r" % (status, out[-200:], err[-200:])
+
+
+def measured(measurer, program, job, tries):
+    """The least seconds, the peak memory and the fault of a run with these files."""
+    with tempfile.TemporaryDirectory(prefix="hostile-large-") as folder:
+        for name, content in {**job.files, "script": job.script}.items():
+            path = os.path.join(folder, name)
+            os.makedirs(os.path.dirname(path), exist_ok=True)
+            with open(path, "wb") as file:
+                file.write(content)
+        runs = [measurer.run([*program, *job.words], folder) for _ in range(tries)]
+        return min(it[1] for it in runs), max(it[2] for it in runs), fault_of(job, runs[0][0], folder)
+
+
+def growth_fault(before, after):
+    """What grew more than it may when the size doubled, or None."""
+    if after[0] > LEAST_SECONDS and after[0] > GROWTH * before[0]:
+        return "time grew %.2f times" % (after[0] / before[0])
+    if after[1] > LEAST_MEMORY and after[1] > GROWTH * before[1]:
+        return "memory grew %.2f times" % (after[1] / before[1])
+    return None
+
+
+def try_case(measurer, programs, case, sizes, names):
+    """A line of the table, and what is wrong."""
+    title, make, number, way = case
+    found, faults, beside = [], [], None
+    for size in sizes:
+        job = way(make(size), number, names)
+        seconds, memory, fault = measured(measurer, programs[0], job, 2)
+        found.append((seconds, memory))
+        faults += [f"{title}, {size} bytes: {fault}"] if fault else []
+    if len(programs) > 1:
+        beside = measured(measurer, programs[1], job, 2)
+    for before, after in zip(found, found[1:]):
+        if fault := growth_fault(before, after):
+            faults.append(f"{title}: {fault}")
+    line = "| %s | %s | %s |" % (title, " ".join("%.2f" % it[0] for it in found), " ".join("%d" % (it[1] // MIB) for it in found))
+    if beside:
+        same = "" if beside[2] is None else " (another answer)"
+        line += " %.2f | %d%s |" % (beside[0], beside[1] // MIB, same)
+    return line, faults
+
+
+def try_limits(measurer, program, names):
+    """Each file with 16 MiB, and with one byte more. Scripts are limited too (golden/programs/scripts)."""
+    faults = []
+    roles = [
+        (by_load("--layout", b"layout"), "f", b'{"scopes":[{"name":"window"}]}'),
+        (by_load("--defaults", b"defaults"), "f", b"[]"),
+        (by_load("--user", b"user"), "f", b"[]"),
+        (by_manifest, "e/package.json", MANIFEST),
+        (by_handlers, "e/handlers.json", ONE_HANDLER),
+    ]
+    for job, path, content in roles:
+        for more in (0, 1):
+            made = job(content + b" " * (FILE_LIMIT + more - len(content)), 0, names)
+            if more:
+                made = made._replace(status=3, out=b"", err=b"cannot read " + path.encode() + b"\n")
+            fault = measured(measurer, program, made, 1)[2]
+            faults += [f"{path} with {FILE_LIMIT + more} bytes: {fault}"] if fault else []
+    for count, status, err in ((FILE_LIMIT, 0, b""), (FILE_LIMIT + 1, 4, b"script: too long\n")):
+        fault = measured(measurer, program, Job({}, [], b"\n" * count, status, b"", err), 1)[2]
+        faults += [f"a script of {count} line feeds: {fault}"] if fault else []
+    return 2 * len(roles) + 2, faults
+
+
+def try_large(programs, is_all, names, only=""):
+    """The count of large files, and what is wrong. Prints the table."""
+    sizes = [4 * MIB, 8 * MIB, 16 * MIB] if is_all else [MIB, 2 * MIB, 4 * MIB]
+    measurer = Measurer()
+    total, faults = (0, []) if only else try_limits(measurer, programs[0], names)
+    print("| file, of %s MiB | seconds | MiB |" % ", ".join(str(it // MIB) for it in sizes))
+    print("|---|---|---|")
+    for case in cases():
+        if only in case[0]:
+            line, wrong = try_case(measurer, programs, case, sizes, names)
+            print(line, flush=True)
+            total, faults = total + len(sizes), faults + wrong
+    if not only:
+        print("| what isn't linear, of 1/16, 1/8, 1/4 MiB | seconds | MiB |")
+        count, wrong = try_open(measurer, programs, names)
+        total, faults = total + count, faults + wrong
+    measurer.close()
+    return total, faults
+
+
+if __name__ == "__main__":
+    serve()
