@@ -17,11 +17,12 @@ use std::marker::Model;
 /// limits and the refusals are our decision. A refused call changes nothing.
 ///
 /// Contracts see the scopes and the number of changes. A flat map that they don't see has the index of the
-/// innermost scope of each key that the focus sees, as of the revision `made_at`.
+/// innermost scope of each key that the focus sees, as of the revision `made_at`. Both stand apart, since
+/// commands move the scopes with the core.
 #[derive(Debug, Drop)]
 pub struct Scopes {
-    tree: ScopeTree,
-    flat: TextMap<usize>,
+    tree: Box<ScopeTree>,
+    flat: Box<TextMap<usize>>,
     made_at: Option<u64>,
     revision: u64,
 }
@@ -34,9 +35,9 @@ impl Model for Scopes {
 
     ghost coded = { revised_code base.the_row.coded };
 
-    ghost view = { λ s. record { seen = s.tree; revision = s.revision } };
+    ghost view = { λ s. record { seen = s.tree.value; revision = s.revision } };
 
-    ghost invariant = { λ s. IsFlatFor s.tree s.flat s.made_at s.revision };
+    ghost invariant = { λ s. IsFlatFor s.tree.value s.flat.value s.made_at s.revision };
 }
 
 /// The revision behind `revision`, at which a map is up to date that was so before a change of one key and
@@ -86,8 +87,8 @@ impl Scopes {
         ensures err { IfErr result (IsRefusal (layout_fault layout)) }
     {
         Ok(Scopes {
-            tree: ScopeTree::new(alloc, layout)?,
-            flat: TextMap::new(alloc),
+            tree: Box::new(alloc, ScopeTree::new(alloc, layout)?)?,
+            flat: Box::new(alloc, TextMap::new(alloc))?,
             made_at: None,
             revision: 0,
         })

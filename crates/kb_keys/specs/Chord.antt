@@ -10,7 +10,7 @@ use Rattle.kb_keys.specs.Keystroke.{keystroke_of, spelling, same_stroke}
 
 -- the maximum number of keystrokes in a chord
 abbrev pub chord_limit : ℕ
-chord_limit = 2
+chord_limit = 4
 
 -- the non-empty texts between spaces
 abbrev pub steps_of : List ℕ → List (List ℕ)

@@ -15,7 +15,7 @@ use std::marker::Model;
 
 /// The maximum number of keystrokes in a chord (our decision; VS Code's documentation describes chords of
 /// two).
-pub const LIMIT: usize = 2;
+pub const LIMIT: usize = 4;
 
 /// Up to `LIMIT` keystrokes, in the order in which they are pressed. They are stored inline, so a chord
 /// never allocates. Some calls take an allocator only because the inner list requires one.

@@ -8,7 +8,7 @@ pub returns-clause-value : goal.returns-clause-value
 returns-clause-value c =
     let fresh : c.self.inside.made_at ≡ Some c.self.inside.revision = search rules in
     c.value_in_seat.ensures.value
-    ∙ ap (option_and_then (λ at. value_at c.self.inside.tree at c.args.key.now))
+    ∙ ap (option_and_then (λ at. value_at c.self.inside.tree.value at c.args.key.now))
     (c.get-2.ensures ∙ c.self.invariant.same fresh c.args.key.now)
-    ∙ value_at_seat c.self.inside.tree c.args.key.now
+    ∙ value_at_seat c.self.inside.tree.value c.args.key.now
     ∙ ap (λ (s : RevisedScopes). map.get (context s.seen) c.args.key.now) c.self.view_is
