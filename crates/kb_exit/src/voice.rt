@@ -7,16 +7,22 @@ use std::io;
 
 /// A destination of lines, such as standard error.
 pub trait Console {
-    ghost use Rattle.std.specs.Prelude.{ℕ, List, Option, None, [], ◌∷◌, ◌++◌, IfSome, OnOk};
+    ghost use Rattle.std.specs.Prelude.{◌≡◌, ℕ, Bool, true, List, Option, None, [], ◌∷◌, ◌++◌, IfSome};
+    ghost use Rattle.std.specs.Prelude.{OnOk, OnErr};
     ghost use Rattle.std.specs.Io.KnownBytes.{Appends};
 
     /// All that was written so far, where that is known.
     ghost said: { Self → Option (List ℕ) } = { λ _. None };
 
+    /// Whether it failed to write a line, or may have, where that isn't known.
+    ghost broken: { Self → Bool } = { λ _. true };
+
     /// Writes a line and a line feed.
     fn say<D: Display + Drop>(&mut self, line: D) -> io::Result<()>
-        ensures { OnOk result (IfSome (D.output line)
-            (λ text. Appends (said self.old) (said self.new) (text ++ 10 ∷ []))) };
+        ensures said { OnOk result (IfSome (D.output line)
+            (λ text. Appends (said self.old) (said self.new) (text ++ 10 ∷ []))) }
+        ensures fails { OnErr result (broken self.new ≡ true) }
+        ensures stays { broken self.old ≡ true → broken self.new ≡ true };
 }
 
 /// Standard error, of which contracts know nothing.
@@ -32,7 +38,7 @@ impl<R: Eprint> Console for SystemConsole<'_, R> {
 }
 
 /// Wraps a console and ignores write errors, since they cannot be reported anywhere. Contracts see whether
-/// all lines so far were written.
+/// all lines so far were written. A line is lost only if the console fails to write it.
 #[derive(Drop)]
 pub struct Voice<C: Drop> {
     console: C,
@@ -42,7 +48,8 @@ pub struct Voice<C: Drop> {
 impl<C: Console + Drop> Voice<C> {
     /// Wraps a console. No line was written yet.
     pub fn new(console: C) -> Voice<C>
-        ensures { heard_by C.said result ≡ record { whole = true; said = C.said console } }
+        ensures { heard_by C.said C.broken result
+            ≡ record { whole = true; said = C.said console; broken = C.broken console } }
     {
         Voice {
             console,
@@ -53,7 +60,8 @@ impl<C: Console + Drop> Voice<C> {
     /// Writes a line and a line feed.
     pub fn say<D: Display + Drop>(&mut self, line: D)
         ensures { IfSome (D.output line)
-            (λ text. Says (heard_by C.said self.old) (heard_by C.said self.new) (text ++ 10 ∷ [])) }
+            (λ text. Says (heard_by C.said C.broken self.old) (heard_by C.said C.broken self.new)
+            (text ++ 10 ∷ [])) }
     {
         let is_heard = self.console.say(line).is_ok();
         self.heard = self.heard && is_heard;

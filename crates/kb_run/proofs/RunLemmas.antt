@@ -3,7 +3,7 @@ use Rattle.std.proofs.Common.{◌≡◌, ◌<◌, ◌≤◌, ◌+◌, ◌++◌, 
 use Rattle.std.proofs.KnownBytes.{Appends-nil, Appends-trans}
 use Rattle.std.proofs.lemmas.List.{drop_more, drop_all}
 use Rattle.std.specs.Borrow.{Bor}
-use Rattle.std.specs.Prelude.{Option, Some, None, Result, Ok, Err, option_map, unwrap_or}
+use Rattle.std.specs.Prelude.{true, false, Option, Some, None, Result, Ok, Err, option_map, unwrap_or}
 use Rattle.std.specs.Io.KnownBytes.{append_known}
 use Rattle.kb_base.specs.declared.failure.Failure.{Failure}
 use Rattle.kb_core.specs.declared.native.Native.{Native}
@@ -49,13 +49,24 @@ plays had left old new before written has ran is_flushed end streams flushes is 
 pub ruleset playing = (plays)
 
 says_nothing : (before : Heard) → Says before before []
-says_nothing before whole = (whole, Appends-nil before.said)
+says_nothing before = record {
+  written = λ whole. (whole, Appends-nil before.said);
+  lost = λ whole gone. absurd (let no : true ≡ false = sym whole ∙ gone in cc);
+  stays = λ broken. broken;
+}
 
 says_more : (a b c : Heard) (first rest : List ℕ) → Says a b first → Says b c rest → Says a c (first ++ rest)
-says_more a b c first rest p q whole =
-    let later = q whole in
-    let sooner = p later.0 in
-    (sooner.0, Appends-trans a.said b.said c.said first rest sooner.1 later.1)
+says_more a b c first rest p q = record {
+  written = λ whole.
+      let later = q.written whole in
+      let sooner = p.written later.0 in
+      (sooner.0, Appends-trans a.said b.said c.said first rest sooner.1 later.1);
+  lost = λ whole gone. either b.whole refl whole gone;
+  stays = λ broken. q.stays (p.stays broken);
+} where
+  either : (is : Bool) → b.whole ≡ is → a.whole ≡ true → c.whole ≡ false → c.broken ≡ true
+  either true is whole gone = q.lost is gone
+  either false is whole gone = q.stays (p.lost whole is)
 
 -- a warning, and then those behind it
 pub warned_one : (sources : Sources) (before mid end : Heard) (warnings : List Warning) (i : ℕ) (d : Warning)

@@ -46,7 +46,8 @@ pub(crate) fn report<C: Console + Drop>(
     voice: &mut Voice<C>,
 ) -> u8
     ensures status { result ≡ status_by verification end.now }
-    ensures line { Reports verification end.now (heard_by C.said voice.old) (heard_by C.said voice.new) }
+    ensures line { Reports verification end.now
+        (heard_by C.said C.broken voice.old) (heard_by C.said C.broken voice.new) }
 {
     match end {
         Ok(()) => ending(end),
@@ -80,8 +81,8 @@ pub fn run_and_report<
         (closures_of (map H.stands_for setup.closures.natives.items)
         (map H.stands_for setup.closures.shelf.items))
         (I.remaining streams.old.input) (record {
-          said_before = heard_by C.said streams.old.voice;
-          said = heard_by C.said streams.new.voice;
+          said_before = heard_by C.said C.broken streams.old.voice;
+          said = heard_by C.said C.broken streams.new.voice;
           had = writer_contents O.contents streams.old.trace;
           has = O.contents (writer_inner streams.new.trace);
         }) result }

@@ -29,7 +29,7 @@ use std::io::{BufWriter, Read, Write};
 
 /// Writes a line for each warning of a session.
 fn say_warnings<H: HostCommand, C: Console + Drop>(session: &Session<H>, voice: &mut Voice<C>)
-    ensures { Says (heard_by C.said voice.old) (heard_by C.said voice.new)
+    ensures { Says (heard_by C.said C.broken voice.old) (heard_by C.said C.broken voice.new)
         (warning_text session.now.state.sources (warnings_of session.now.state.sources)) }
 {
     let warnings = session.warnings();
@@ -113,8 +113,8 @@ fn run_loaded<
         (closures_of (map H.stands_for setup.closures.natives.items)
         (map H.stands_for setup.closures.shelf.items))
         (script_bytes S.remaining script (I.remaining streams.old.input)) (record {
-          said_before = heard_by C.said streams.old.voice;
-          said = heard_by C.said streams.new.voice;
+          said_before = heard_by C.said C.broken streams.old.voice;
+          said = heard_by C.said C.broken streams.new.voice;
           had = writer_contents O.contents streams.old.trace;
           has = O.contents (writer_inner streams.new.trace);
         }) result }
@@ -204,8 +204,8 @@ fn run_files<
         (closures_of (map H.stands_for setup.closures.natives.items)
         (map H.stands_for setup.closures.shelf.items))
         (script_bytes S.remaining script (I.remaining streams.old.input)) (record {
-          said_before = heard_by C.said streams.old.voice;
-          said = heard_by C.said streams.new.voice;
+          said_before = heard_by C.said C.broken streams.old.voice;
+          said = heard_by C.said C.broken streams.new.voice;
           had = writer_contents O.contents streams.old.trace;
           has = O.contents (writer_inner streams.new.trace);
         }) result }
@@ -227,9 +227,9 @@ fn run_files<
 /// The load registers the host's closures, and the script takes more of them from the shelf. Warnings of the
 /// load are written before the script runs.
 ///
-/// With verified handlers the headline of the product holds (`KeepsHeadline`): the trace is the plain model's, each
-/// key starts exactly the command of the last rule whose keystrokes, clause and enablement match, or opens, keeps
-/// or leaves a chord, no handler gets stuck, and nothing but refused memory stops the session.
+/// With verified handlers the headline of the product holds (`KeepsHeadline`): the trace is the plain model's,
+/// each key starts exactly the command of the last rule whose keystrokes, clause and enablement match, or opens,
+/// keeps or leaves a chord, no handler gets stuck, and nothing but refused memory stops the session.
 ///
 /// Errors: why the run stopped before its end.
 #[tactic(auto, using(crate::proofs::RunLemmas::files))]
@@ -251,8 +251,8 @@ pub fn carry_out<
         (closures_of (map H.stands_for setup.closures.natives.items)
         (map H.stands_for setup.closures.shelf.items))
         (I.remaining streams.old.input) (record {
-          said_before = heard_by C.said streams.old.voice;
-          said = heard_by C.said streams.new.voice;
+          said_before = heard_by C.said C.broken streams.old.voice;
+          said = heard_by C.said C.broken streams.new.voice;
           had = writer_contents O.contents streams.old.trace;
           has = O.contents (writer_inner streams.new.trace);
         }) result }

@@ -17,8 +17,8 @@ use std::io::BufWriter;
 use std::process::ExitCode;
 use std::rt::Files;
 
-/// Runs what the options ask for, over the system's files and streams, as `run_and_report` does, and returns the
-/// exit status: 0, 2, 3 or 4, or 5 with raw handlers.
+/// Runs what the options ask for, over the system's files and streams, as `run_and_report` does, and returns
+/// the exit status: 0, 2, 3 or 4, or 5 with raw handlers.
 #[tactic(auto, using(crate::proofs::ReportLemmas::status, crate::proofs::ReportLemmas::on_system))]
 pub fn run_on_system<R: Files + Print + Eprint + Input, H: HostCommand>(
     rt: &R,

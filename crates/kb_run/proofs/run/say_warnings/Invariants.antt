@@ -8,5 +8,6 @@ abbrev pub invariant-loop-warning : goal.invariant-loop-warning
 invariant-loop-warning g l =
     let sources = l.fn.session.state.sources in
     (end : Heard)
-    → Says (heard_by g.C.Console.said l.voice) end (warning_text sources (drop l.warning-index l.warnings))
-    → Says (heard_by g.C.Console.said l.fn.voice) end (warning_text sources l.warnings)
+    → Says (heard_by g.C.Console.said g.C.Console.broken l.voice) end
+    (warning_text sources (drop l.warning-index l.warnings))
+    → Says (heard_by g.C.Console.said g.C.Console.broken l.fn.voice) end (warning_text sources l.warnings)
