@@ -1,13 +1,24 @@
 //! The closures of the sessions' host.
+ghost use Rattle.std.specs.Prelude.{◌≡◌};
+ghost use Rattle.std.specs.Result.{result_map_both};
 use kb_base::NoMemory;
-use kb_core::{Args, Core, NATIVES, Native, Ran, plain};
+use kb_core::{Args, Core, NATIVES, Native, Ran, at_budget, plain};
 use kb_registry::HostCommand;
 use std::alloc::{AllocError, Global};
 
-/// A closure that does what its native does, or that is refused memory in each call.
+/// What the closures of a host answer as their cost.
+#[derive(Clone, Copy, Debug, PartialEq, Eq)]
+pub enum Cost {
+    Nothing,
+    One,
+    Budget,
+}
+
+/// A closure that does what its native command does, or that is refused memory in each call.
 #[derive(Drop)]
 pub struct Command {
     pub native: Native,
+    pub cost: Cost,
     pub is_refused: bool,
 }
 
@@ -25,35 +36,57 @@ impl HostCommand for Command {
                 cost: Err(AllocError),
             };
         }
-        plain(self.native, core, args)
+        match self.cost {
+            Cost::Nothing => for_nothing(plain(self.native, core, args)),
+            Cost::One => plain(self.native, core, args),
+            Cost::Budget => at_budget(self.native, core, args),
+        }
     }
 }
 
-fn plain_command(native: Native) -> Command {
+/// The same run at cost 0.
+fn for_nothing(ran: Ran) -> Ran
+    ensures core { result.core ≡ ran.core }
+    ensures cost { result.cost ≡ result_map_both (λ _. 0) (λ refused. refused) ran.cost }
+{
+    let Ran { core, cost } = ran;
+    let cost = match cost {
+        Ok(_) => Ok(0),
+        Err(refused) => Err(refused),
+    };
+    Ran { core, cost }
+}
+
+fn command(native: Native, cost: Cost) -> Command {
     Command {
         native,
+        cost,
         is_refused: false,
     }
 }
 
-/// A closure for each native, in the order of `NATIVES`.
-pub(crate) fn all_commands(alloc: Global) -> Result<Vec<Command>, NoMemory> {
+/// A closure for each native command, in the order of `NATIVES`.
+pub(crate) fn all_commands(alloc: Global, cost: Cost) -> Result<Vec<Command>, NoMemory> {
     let mut commands = Vec::new(alloc);
     for native in NATIVES {
         commands
-            .push(plain_command(native))
+            .push(command(native, cost))
             .map_err(NoMemory::from)?;
     }
     Ok(commands)
 }
 
-/// A closure for each word that is the identifier of a native.
-pub(crate) fn commands_named(alloc: Global, words: &str) -> Result<Vec<Command>, NoMemory> {
+/// A closure for each word that is the identifier of a native command.
+pub(crate) fn commands_named(
+    alloc: Global,
+    words: &str,
+    cost: Cost,
+) -> Result<Vec<Command>, NoMemory> {
     let mut commands = Vec::new(alloc);
     for word in words.split(' ') {
         if let Some(native) = Native::named(word) {
             commands
-                .push(plain_command(native))
+                .push(command(native, cost))
                 .map_err(NoMemory::from)?;
         }
     }

@@ -4,7 +4,7 @@
 //! one file are joined by line feeds; one line may have several manifests, separated by ` ;; `.
 //! `natives NAME ..` and `shelf NAME ..` name the closures that the load and the scripts are given; without
 //! such a line there is one for each native.
-use crate::host::{Command, all_commands, commands_named};
+use crate::host::{Command, Cost, all_commands, commands_named};
 use kb_base::NoMemory;
 use kb_disk::lent;
 use kb_files::ExtensionFiles;
@@ -97,10 +97,11 @@ pub(crate) fn commands_in(
     alloc: Global,
     lines: &str,
     kind: &str,
+    cost: Cost,
 ) -> Result<Vec<Command>, NoMemory> {
     match first_text(lines, kind) {
-        Some(words) => commands_named(alloc, words),
-        None => all_commands(alloc),
+        Some(words) => commands_named(alloc, words, cost),
+        None => all_commands(alloc, cost),
     }
 }
 

@@ -3,7 +3,7 @@
 //! A block has the lines of the files (see `inputs`), then the lines of the script. Output lines begin with
 //! `> ` and follow the line that writes them. A line that begins with `? ` is not part of the script: it is
 //! another call of the session (see `run_query`).
-use crate::host::Command;
+use crate::host::{Command, Cost};
 use crate::inputs::{
     Files, all_handlers, commands_in, extensions_of, files_in, is_of_file, manifests_in,
 };
@@ -236,7 +236,12 @@ fn register(
     let Some(native) = Native::named(name) else {
         return add_output("no native", actual);
     };
-    match session.register(Command { native, is_refused }) {
+    let command = Command {
+        native,
+        cost: Cost::One,
+        is_refused,
+    };
+    match session.register(command) {
         Ok(ticket) => {
             let number = ticket.0;
             write!(actual, "> ticket {number}\n")
@@ -420,11 +425,12 @@ fn load_and_run(
     alloc: Global,
     inputs: Inputs<'_>,
     is_raw: bool,
+    cost: Cost,
     lines: &str,
     actual: &mut String,
 ) -> Result<(), NoMemory> {
-    let mut shelf = commands_in(alloc, lines, "shelf")?;
-    let natives = commands_in(alloc, lines, "natives")?;
+    let mut shelf = commands_in(alloc, lines, "shelf", cost)?;
+    let natives = commands_in(alloc, lines, "natives", cost)?;
     match load(alloc, inputs, natives, is_raw) {
         Ok(mut session) => {
             let end = run_lines(alloc, &mut session, &mut shelf, lines, actual);
@@ -449,6 +455,7 @@ fn run_over_files(
     alloc: Global,
     files: &Files,
     is_raw: bool,
+    cost: Cost,
     lines: &str,
     actual: &mut String,
 ) -> Result<(), NoMemory> {
@@ -456,11 +463,20 @@ fn run_over_files(
     let handlers = all_handlers(alloc, lines, manifests.len())?;
     let extensions = extensions_of(alloc, manifests.as_slice(), handlers.as_slice())?;
     let inputs = inputs_of(files, extensions.as_slice());
-    load_and_run(alloc, inputs, is_raw, lines, actual)
+    load_and_run(alloc, inputs, is_raw, cost, lines, actual)
+}
+
+// The warnings or the fault of the load, and the lines of the script with their outputs.
+fn output(alloc: Global, is_raw: bool, cost: Cost, lines: &str) -> Result<String, NoMemory> {
+    let mut output = String::new(alloc);
+    let files = files_in(alloc, lines)?;
+    run_over_files(alloc, &files, is_raw, cost, lines, &mut output)?;
+    Ok(output)
 }
 
 /// Runs a session, or a raw one, and appends its lines with the actual outputs to `actual`: those of the
-/// files, the warnings or the fault of the load, and those of the script.
+/// files, the warnings or the fault of the load, and those of the script. It does so with closures that cost
+/// 1, and again with those that cost nothing and their whole budget: outputs that differ are appended too.
 pub(crate) fn run(
     alloc: Global,
     is_raw: bool,
@@ -468,6 +484,14 @@ pub(crate) fn run(
     actual: &mut String,
 ) -> Result<(), NoMemory> {
     add_file_lines(lines, actual)?;
-    let files = files_in(alloc, lines)?;
-    run_over_files(alloc, &files, is_raw, lines, actual)
+    let usual = output(alloc, is_raw, Cost::One, lines)?;
+    actual.push_str(usual.as_str())?;
+    for cost in [Cost::Nothing, Cost::Budget] {
+        let other = output(alloc, is_raw, cost, lines)?;
+        if other != usual {
+            write!(actual, "⟨with other closures⟩\n")?;
+            actual.push_str(other.as_str())?;
+        }
+    }
+    Ok(())
 }

@@ -1,5 +1,5 @@
 //! Transcripts of scripts.
-use crate::host::all_commands;
+use crate::host::{Cost, all_commands};
 use kb_base::{Failure, NoMemory};
 use kb_end_to_end::{TranscriptFault, transcript};
 use kb_files::{Inputs, LoadFault};
@@ -41,8 +41,8 @@ fn rules_alone<'a>(layout: Option<&'a [u8]>, user: &'a [u8]) -> Inputs<'a> {
 pub(crate) fn text(alloc: Global, input: &str) -> Result<String, NoMemory> {
     let (user, script) = input.split_once(" ;; ").unwrap_or((input, ""));
     let inputs = rules_alone(None, user.as_bytes());
-    let natives = all_commands(alloc)?;
-    let shelf = all_commands(alloc)?;
+    let natives = all_commands(alloc, Cost::One)?;
+    let shelf = all_commands(alloc, Cost::One)?;
     match transcript(alloc, inputs, natives, shelf, script.as_bytes()) {
         Ok(out) => String::from_str(alloc, str::from_utf8(out.as_slice()).unwrap_or("no text")),
         Err(Failure::Fault(fault)) => fault_text(alloc, &fault),
