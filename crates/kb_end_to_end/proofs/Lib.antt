@@ -1,3 +1,5 @@
+pub mod AlikeLemmas
+pub mod LoadLemmas
 pub mod ModelRows
 pub mod ScopeRows
 pub mod Transcripts

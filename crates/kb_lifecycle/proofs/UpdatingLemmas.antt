@@ -79,7 +79,7 @@ module _ (commands : Commands) (h : HandlerData) where
 -- ---- several handlers
 
 module _ (commands : Commands) where
-  verified_are : (vs : List CheckedHandler) → All (IsVerified commands) vs →
+  pub verified_are : (vs : List CheckedHandler) → All (IsVerified commands) vs →
       vs ≡ map (with_callees commands) (map (λ v. v.handler) vs)
   verified_are [] all = refl
   verified_are (v ∷ vs) all =
