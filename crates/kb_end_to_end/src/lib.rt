@@ -10,9 +10,7 @@ ghost use Rattle.kb_bindings.specs.Load.{files_of};
 
 mod alike;
 
-pub use alike::{
-    handle_alike, loads_are_alike, raw_loads_are_alike, run_alike, scripts_are_alike,
-};
+pub use alike::{handle_alike, loads_are_alike, raw_loads_are_alike, run_alike, scripts_are_alike};
 use kb_base::Failure;
 use kb_files::{Inputs, LoadFault};
 use kb_registry::HostCommand;

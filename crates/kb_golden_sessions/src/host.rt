@@ -1,6 +1,7 @@
 //! The closures of the sessions' host.
 ghost use Rattle.std.specs.Prelude.{◌≡◌};
 ghost use Rattle.std.specs.Result.{result_map_both};
+
 use kb_base::NoMemory;
 use kb_core::{Args, Core, NATIVES, Native, Ran, at_budget, plain};
 use kb_registry::HostCommand;
