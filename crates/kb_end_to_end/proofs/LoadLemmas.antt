@@ -21,7 +21,11 @@ use Rattle.kb_session.specs.Session.{IsOf, Seen, loaded_raw, loaded_session, mar
 use Rattle.kb_verify.specs.Accepted.{CheckedHandler}
 use Rattle.kb_base.specs.declared.note.UnreadPattern.{UnreadPattern}
 
-same_ok : {A E : Type 0} (one other : A) → Ok {T = A} {E = E} one ≡ Ok other → one ≡ other
+-- (a name for `Ok` whose type of faults can be given)
+abbrev good : {A E : Type 0} → A → Result A E
+good x = Ok x
+
+same_ok : {A E : Type 0} (one other : A) → good {E = E} one ≡ good other → one ≡ other
 same_ok one other e = cc
 
 module _ (extensions : List Extension) (number : ℕ) (handlers : List HandlerData) (live : Live) where
@@ -47,9 +51,9 @@ joins_alike : (extensions : List Extension) (number : ℕ) (handlers : List (Lis
     → one ≡ other
 joins_alike extensions number [] live one other p q = same_ok one other (p ∙ sym q)
 joins_alike extensions number (h ∷ rest) live one other (inl stops) q =
-    absurd (let no : Ok {T = Live} {E = Failure LoadFault} one ≡ Err stops.failure = stops.is in cc)
+    absurd (let differ : good {E = Failure LoadFault} one ≡ Err stops.failure = stops.is in cc)
 joins_alike extensions number (h ∷ rest) live one other (inr first) (inl stops) =
-    absurd (let no : Ok {T = Live} {E = Failure LoadFault} other ≡ Err stops.failure = stops.is in cc)
+    absurd (let differ : good {E = Failure LoadFault} other ≡ Err stops.failure = stops.is in cc)
 joins_alike extensions number (h ∷ rest) live one other (inr first) (inr second) =
     let same : second.next ≡ first.next =
     admits_alike extensions number h live second.next first.next second.admits first.admits in
@@ -59,8 +63,8 @@ joins_alike extensions number (h ∷ rest) live one other (inr first) (inr secon
 live_alike : (natives : List Native) (extensions : List Extension) (handlers : List (List HandlerData))
     (one other : Live) → LiveChecked natives extensions handlers (Ok one)
     → LiveChecked natives extensions handlers (Ok other) → one ≡ other
-live_alike natives extensions handlers one other (inl no) q = absurd no
-live_alike natives extensions handlers one other (inr p) (inl no) = absurd no
+live_alike natives extensions handlers one other (inl none) q = absurd none
+live_alike natives extensions handlers one other (inr p) (inl none) = absurd none
 live_alike natives extensions handlers one other (inr p) (inr q) =
     let same : q.live ≡ p.live = same_ok q.live p.live (sym q.held ∙ p.held) in
     joins_alike extensions 0 handlers p.live one other p.join
