@@ -334,9 +334,24 @@ impl<C: HostCommand> Session<C> {
         }
     }
 
-    /// Handles one event. If memory is refused, the trace may have some of its lines.
+    /// Handles one event. If memory is refused, the trace may have some of its lines. A key press, of which there
+    /// are most, goes by itself: the match on all events first makes places for all their texts.
     #[tactic(auto, using(crate::proofs::Stopping::stopping))]
     fn take(&mut self, event: Event) -> Result<Handled, NoMemory>
+        requires running { self.old.state.stopped ≡ false }
+        ensures ok { IfOk result (λ handled. Does (happens event) self.old handled.answer self.new) }
+        ensures stops { IfOk result (λ handled. self.new.state.stopped ≡ stops handled.finish) }
+        ensures err { OnErr result (IsHalf event self.old self.new) }
+    {
+        match event {
+            Event::Key(key) => self.press(key),
+            event => self.take_any(event),
+        }
+    }
+
+    /// Handles one event, as `take` does.
+    #[tactic(auto, using(crate::proofs::Stopping::stopping))]
+    fn take_any(&mut self, event: Event) -> Result<Handled, NoMemory>
         requires running { self.old.state.stopped ≡ false }
         ensures ok { IfOk result (λ handled. Does (happens event) self.old handled.answer self.new) }
         ensures stops { IfOk result (λ handled. self.new.state.stopped ≡ stops handled.finish) }
