@@ -1,3 +1,8 @@
+pub mod Booleans
+pub mod Lists
+pub mod BlockLemmas
+pub mod Tables
+pub mod Entries
 pub mod Reading
 pub mod CodingLemmas
 pub mod CalleesLemmas
