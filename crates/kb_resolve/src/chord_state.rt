@@ -2,6 +2,7 @@
 ghost use Rattle.std.specs.Prelude.{◌≡◌, ◌≢◌, ◌<◌, ◌↔◌, [], ◌∷◌, ◌++◌, length, IfOk, IfErr};
 ghost use Rattle.std.specs.Prelude.{OnOk, OnErr, IsTrue};
 ghost use Rattle.kb_context.specs.Scopes.{context};
+ghost use Rattle.kb_keys.specs.Chord.{chord_limit};
 ghost use Rattle.kb_resolve.specs.ChordState.{step, pressed_after};
 ghost use Rattle.kb_resolve.specs.Enablements.{enablement_in};
 ghost use Rattle.kb_resolve.specs.Pressed.{step_of};
@@ -13,12 +14,12 @@ use crate::resolved::Resolved;
 use crate::resolver::Resolver;
 use kb_base::NoMemory;
 use kb_context::Scopes;
-use kb_keys::{Chord, Keystroke, LIMIT};
+use kb_keys::{Chord, Keystroke};
 use std::alloc::Global;
 use std::marker::Model;
 
-/// The keystrokes of the open chord: fewer than `LIMIT`, and none if no chord is open. Contracts see
-/// their list.
+/// The keystrokes of the open chord: fewer than four, and none if no chord is open. Contracts see their
+/// list.
 #[derive(Debug, Drop)]
 pub struct ChordState {
     pressed: Chord,
@@ -26,14 +27,14 @@ pub struct ChordState {
 
 impl Model for ChordState {
     ghost use Rattle.std.specs.Prelude.{◌<◌, List, length};
-    ghost use Rattle.kb_keys.specs.declared.chord.TheConstants.{LIMIT};
+    ghost use Rattle.kb_keys.specs.Chord.{chord_limit};
     ghost use Rattle.kb_keys.specs.declared.keystroke.Keystroke.{Keystroke};
 
     ghost Value = { List Keystroke };
 
     ghost view = { λ s. s.pressed };
 
-    ghost invariant = { λ s. length s.pressed < LIMIT };
+    ghost invariant = { λ s. length s.pressed < chord_limit };
 }
 
 impl ChordState {
@@ -49,7 +50,7 @@ impl ChordState {
     /// The keystrokes of the open chord, in order, or none if no chord is open.
     pub fn pressed(&self) -> &[Keystroke]
         ensures strokes { result.now ≡ self.now }
-        ensures fits { length self.now < LIMIT }
+        ensures fits { length self.now < chord_limit }
     {
         self.pressed.as_slice()
     }

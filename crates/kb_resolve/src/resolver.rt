@@ -1,6 +1,7 @@
 //! The search for the rule that matches pressed keystrokes.
 ghost use Rattle.std.specs.Prelude.{◌≡◌, ◌<◌, length, map, option_map, count_by, IfOk, IfErr};
 ghost use Rattle.kb_context.specs.Scopes.{context};
+ghost use Rattle.kb_keys.specs.Chord.{chord_limit};
 ghost use Rattle.kb_resolve.specs.Enablements.{enablement_in};
 ghost use Rattle.kb_resolve.specs.Index.{begins, positions_of, rules_at};
 ghost use Rattle.kb_resolve.specs.Resolved.{more, resolution_of};
@@ -12,7 +13,7 @@ use crate::index::Index;
 use crate::resolved::Resolved;
 use kb_base::NoMemory;
 use kb_context::Scopes;
-use kb_keys::{Keystroke, LIMIT};
+use kb_keys::Keystroke;
 use kb_rules::{Rule, RuleSet};
 use kb_when::Clause;
 use std::alloc::Global;
@@ -93,9 +94,9 @@ impl Resolver {
         ensures greatest { IsGreatest pressed.now (context scopes.now.seen) (enablement_in enablements.now)
             self.now (resolved pressed.now (context scopes.now.seen) (enablement_in enablements.now) self.now) }
 
-        // A rule has at most `LIMIT` keystrokes, so one more keystroke can be pressed.
+        // A rule has at most four keystrokes, so one more keystroke can be pressed.
         ensures fits { IfOk result (λ found.
-            resolution_of found ≡ more → length pressed.now < LIMIT) }
+            resolution_of found ≡ more → length pressed.now < chord_limit) }
 
         // Without a pattern that is evaluated, no memory is needed.
         ensures memory { IfErr result (λ _.
