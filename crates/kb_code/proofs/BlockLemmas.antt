@@ -7,11 +7,12 @@ use Rattle.std.proofs.lemmas.Bool.Decides.{Decides-eqb}
 use Rattle.kb_code.specs.declared.instr.Instr.{Instr}
 use Rattle.kb_code.specs.declared.instr.Instr.TheVariants as i
 use Rattle.kb_code.specs.Blocks.{closed, opened, around_from, around_at, first_of, block_of, same, same_block, Closes}
+use Rattle.kb_code.specs.Plain.{is_plain}
 use Rattle.kb_code.specs.Blocks.{is_bad, outermost, bad_block, IsFormed, IsAround, IsInnermost, BlockIsInnermost}
 
 -- ---- the blocks around the next place
 
-abbrev opened_by : ℕ → Option Instr → List ℕ → List ℕ
+abbrev pub opened_by : ℕ → Option Instr → List ℕ → List ℕ
 opened_by p None around = around
 opened_by p (Some x) around = opened p x around
 
@@ -26,7 +27,7 @@ next_from s (suc p) around (x ∷ code) =
     ∙ ap (λ n. opened_by n (slice_get code p) (around_from (suc s) (opened s x around) code p))
     (let e : suc s + p ≡ s + suc p = omega arith in e)
 
-next_by : (code : List Instr) (p : ℕ) → around_at code (suc p) ≡ opened_by p (slice_get code p) (around_at code p)
+pub next_by : (code : List Instr) (p : ℕ) → around_at code (suc p) ≡ opened_by p (slice_get code p) (around_at code p)
 unfolding around_at
 next_by code p =
     next_from 0 p [] code
@@ -39,12 +40,6 @@ around_next code p x at = next_by code p ∙ ap (λ o. opened_by p o (around_at 
 pub around_first : (code : List Instr) → around_at code 0 ≡ []
 unfolding around_at
 around_first code = refl
-
--- neither a REPEAT nor an END
-abbrev pub is_plain : Instr → Bool
-is_plain (i.Repeat n) = false
-is_plain i.End = false
-is_plain _ = true
 
 pub opened_plain : (p : ℕ) (x : Instr) (around : List ℕ) → is_plain x ≡ true → opened p x around ≡ around
 opened_plain p (i.Repeat n) around e = absurd (cc)
@@ -141,7 +136,7 @@ pub past_code : (code : List Instr) (p : ℕ) → IsFormed code → length code 
 unfolding around_at
 past_code code p formed le = past_from 0 p [] code formed.blocks le
 
--- ---- an END closes one block, and a block has one END
+-- ---- an `End` closes one block, and a block has one `End`
 
 -- each is smaller than the one before it
 abbrev pub Falling : ℕ → List ℕ → Type 0
@@ -198,7 +193,7 @@ unfolding Lacks
 lacks_first q [] l e = absurd (cc)
 lacks_first q (r ∷ around) l e = let s : q ≡ r = cc in l.0 s
 
--- the block that an END closes is around it
+-- the block that an `End` closes is around it
 pub closed_around : (code : List Instr) (q e : ℕ) → Closes code q e →
     (around : List ℕ) × (around_at code e ≡ q ∷ around)
 closed_around code q e c = by (around_at code e) refl c.block
@@ -238,37 +233,6 @@ one_end code q a b c d = by (nat_lt a b) (nat_lt b a) refl refl
     by false false less more =
         let l = ltb-false a b less in let m = ltb-false b a more in omega (arith, l, m)
 
--- ---- code without blocks
-
--- no instruction is a REPEAT
-abbrev pub IsPlain : List Instr → Type 0
-IsPlain code = (p n : ℕ) → slice_get code p ≡ Some (i.Repeat n) → ⊥
-
-plain_next : (code : List Instr) (p : ℕ) (o : Option Instr) (around : List ℕ) → IsPlain code →
-    slice_get code p ≡ o → around ≡ [] → opened_by p o around ≡ []
-plain_next code p None around plain is e = e
-plain_next code p (Some (i.Repeat n)) around plain is e = absurd (plain p n is)
-plain_next code p (Some i.End) [] plain is e = refl
-plain_next code p (Some i.End) (q ∷ around) plain is e = absurd (cc)
-plain_next code p (Some x) around plain is e = e
-
--- no block is around any of its places, so that each jump stays in its block
-pub plain_none : (code : List Instr) (p : ℕ) → IsPlain code → around_at code p ≡ []
-plain_none code zero plain = around_first code
-plain_none code (suc p) plain =
-    next_by code p ∙ plain_next code p (slice_get code p) (around_at code p) plain refl (plain_none code p plain)
-
-pub plain_same : (code : List Instr) (p q : ℕ) → IsPlain code → same_block code p q ≡ true
-plain_same code p q plain =
-    ap (λ a. same (first_of a) (block_of code q)) (plain_none code p plain)
-    ∙ ap (λ a. same None (first_of a)) (plain_none code q plain)
-
--- in well-formed code it has no END either
-pub plain_no_end : (code : List Instr) (e : ℕ) → IsPlain code → IsFormed code → slice_get code e ≡ Some i.End → ⊥
-plain_no_end code e plain formed at =
-    let n = not_bad code e i.End formed at in
-    let b = ap (is_bad i.End) (plain_none code e plain) in cc
-
 -- ---- the block of a place is the innermost around it
 
 end_of_code : (code : List Instr) (p : ℕ) (pre around : List ℕ) (q : ℕ) → IsFormed code → length code ≤ p →
@@ -279,7 +243,7 @@ end_of_code code p pre around q formed le is =
     let m = length-append pre (q ∷ around) in
     omega (arith, l, m)
 
--- the END of a block that is open, with those inside of it
+-- the `End` of a block that is open, with those inside of it
 end_from : (code : List Instr) (q : ℕ) (around : List ℕ) → IsFormed code → (d p : ℕ) (pre : List ℕ) →
     length code ≤ p + d → around_at code p ≡ pre ++ q ∷ around → (e : ℕ) × Closes code q e × (p ≤ e)
 end_from code q around formed zero p pre le is =

@@ -20,6 +20,7 @@ use Rattle.kb_code.specs.declared.version.Version.{Version}
 use Rattle.kb_code.specs.declared.version.Version.TheVariants.{One, Two}
 use Rattle.kb_code.specs.Code.{instr_fault, earlier, first_fault}
 use Rattle.kb_code.specs.Instr.{opcode_of, operand_of, instructions}
+use Rattle.kb_code.proofs.Tables.{neither}
 use Rattle.kb_code.specs.Coding.{bytes_of, allowed, with_operand, instr_at, code_from, code_of, ReadsTheSame}
 
 and_left : (a b : Bool) → (a && b) ≡ true → a ≡ true
@@ -132,10 +133,6 @@ read_itself version place instr none =
 -- the operand fits two bytes
 abbrev pub has_room : Instr → Bool
 has_room instr = nat_lt (operand_of instr) 65536
-
-neither : (a b : Option CodeFault) → earlier a b ≡ None → (a ≡ None) × (b ≡ None)
-neither None b e = (refl, e)
-neither (Some fault) b e = absurd (cc)
 
 read_from : (version : Version) (place : ℕ) (code : List Instr) → first_fault version place code ≡ None →
     list_all has_room code ≡ true → code_from version place (flat_map bytes_of code) ≡ Ok code

@@ -1,4 +1,4 @@
--- The place after a REPEAT is reached where a place of its block is.
+-- The place after a `Repeat` is reached where a place of its block is.
 use Rattle.std.proofs.Common.{◌≡◌, ℕ, suc, List, [], ◌∷◌, sym, ap, ◌∙◌, subst, ⊎_elim}
 use Rattle.std.specs.Prelude.{◌==◌}
 use Rattle.std.proofs.lemmas.Bool.Decides.{Decides-eqb}

@@ -3,6 +3,7 @@ pub mod Lists
 pub mod BlockLemmas
 pub mod Tables
 pub mod Entries
+pub mod PlainLemmas
 pub mod Reading
 pub mod CodingLemmas
 pub mod CalleesLemmas

@@ -48,7 +48,7 @@ start_within code p size lt = by (around_at code p) (falling code p)
     by [] f = tt
     by (q ∷ around) f = let l = f.0 in omega (arith, l, lt)
 
--- the table of ENDs, where one is passed
+-- the table of `End`s, where one is passed
 pub ends_more : (code : List Instr) (ends : List ℕ) (p : ℕ) (x : Instr) → slice_get code p ≡ Some x →
     AreEnds code ends p → AreEnds code (with_end ends (block_of code p) p x) (p + 1)
 ends_more code ends p x at are = by (block_of code p) x refl at
@@ -159,7 +159,7 @@ no_block : (o : Option ℕ) → option_map BadBlock o ≡ None → o ≡ None
 no_block None e = refl
 no_block (Some p) e = absurd (cc)
 
-neither : (a b : Option CodeFault) → earlier a b ≡ None → (a ≡ None) × (b ≡ None)
+pub neither : (a b : Option CodeFault) → earlier a b ≡ None → (a ≡ None) × (b ≡ None)
 neither None b e = (refl, e)
 neither (Some fault) b e = absurd (cc)
 

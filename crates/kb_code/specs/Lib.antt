@@ -3,6 +3,7 @@ pub mod Instr
 pub mod Blocks
 pub mod Tables
 pub mod Code
+pub mod Plain
 pub mod Coding
 pub mod Exits
 pub mod Handler

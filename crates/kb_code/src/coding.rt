@@ -85,12 +85,7 @@ fn code_from(
 
 /// The instruction at a place. Errors: `BadOpcode` and `BadOperand`, with the place.
 #[tactic(auto, unfolding(crate::specs::Coding::instr_at))]
-fn instr_at(
-    version: Version,
-    place: usize,
-    opcode: u8,
-    operand: u16,
-) -> Result<Instr, CodeFault>
+fn instr_at(version: Version, place: usize, opcode: u8, operand: u16) -> Result<Instr, CodeFault>
     ensures { result ≡ instr_at version place opcode operand }
 {
     let Some(instr) = Instr::of(opcode, operand) else {

@@ -2,6 +2,7 @@
 ghost use Rattle.kb_code.specs.Blocks.{BlockIsInnermost};
 ghost use Rattle.kb_code.specs.Coding.{ReadsTheSame};
 ghost use Rattle.kb_code.specs.Face.{SameFaceDeclaresTheSame};
+ghost use Rattle.kb_code.specs.Plain.{PlainHasNoBlocks, VersionOneIsPlain};
 ghost use Rattle.kb_code.specs.Reachable.{EndAddsNone};
 ghost use Rattle.kb_code.specs.Same.{SameIsEqual};
 
@@ -28,4 +29,14 @@ pub fn end_adds_none()
 /// Bytes that are code of version 1 are the same code in version 2.
 pub fn reads_the_same()
     ensures { ReadsTheSame }
+{}
+
+/// The code of version 1 is the code without `Repeat` and `End`.
+pub fn version_one_is_plain()
+    ensures { VersionOneIsPlain }
+{}
+
+/// In code without `Repeat` and `End` no place has a block, so no jump leaves its block.
+pub fn plain_has_no_blocks()
+    ensures { PlainHasNoBlocks }
 {}
