@@ -10,6 +10,7 @@ use Rattle.kb_verify.specs.declared.fault.VerifyFault.TheVariants.{Wrong, OverBu
 use Rattle.kb_verify.specs.Callable.{Commands}
 use Rattle.kb_verify.specs.Shapes.{HasShapes, IsFirstWrong}
 use Rattle.kb_verify.specs.Paths.{IsWithinBudget, IsOverBudget}
+use Rattle.kb_verify.specs.Route.{route_of}
 use Rattle.kb_verify.specs.Accepted.{IsAccepted, IsFirstTooDeep}
 
 -- a handler without code falls off its end at place 0
@@ -19,7 +20,7 @@ IsEmpty h wrong place = (length h.code ≡ 0) × (wrong ≡ defect.FallsOff) × 
 -- the meaning of each fault; shapes are checked before the budget, and the budget before the depth
 abbrev pub IsFault : Commands → HandlerData → VerifyFault → Type 0
 IsFault commands h (Wrong wrong place) = IsEmpty h wrong place ⊎ IsFirstWrong commands h place wrong
-IsFault commands h (OverBudget path) = HasShapes commands h × IsOverBudget commands h path
+IsFault commands h (OverBudget path) = HasShapes commands h × IsOverBudget commands h (route_of path.items)
 IsFault commands h (OverDepth place) =
     HasShapes commands h × IsWithinBudget commands h × IsFirstTooDeep commands h place
 

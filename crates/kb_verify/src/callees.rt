@@ -41,7 +41,7 @@ pub(crate) fn shallow_callees(
         (λ failure. IsFailure callable.now handler.now failure) }
 {
     let mut callees = Vec::new(alloc);
-    for place in 0..handler.code().len() {
+    for place in 0..handler.code().instrs().len() {
         if let Some((index, signature)) = callee_at(callable, handler, marks, place) {
             if signature.as_signature().depth() >= handler.signature().depth() {
                 return Err(Failure::Fault(VerifyFault::OverDepth(place)));
@@ -69,7 +69,7 @@ fn callee_at<'a>(
         ((index : _) → Calls handler.now place index → ⊥)
         (λ found. IsCallee callable.now handler.now place found.0 found.1.now) }
 {
-    let Instr::Call(index) = handler.code()[place] else {
+    let Instr::Call(index) = handler.code().instrs()[place] else {
         return None;
     };
     if let Mark::Unreached = &marks[place] {

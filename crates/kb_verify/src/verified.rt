@@ -5,11 +5,12 @@ ghost use Rattle.kb_verify.specs.Faults.{IsFailure, IsTrueFault};
 ghost use Rattle.kb_verify.specs.Paths.{IsDearestCost, IsWithinBudget};
 ghost use Rattle.kb_verify.specs.Shapes.{HasShapes};
 
-use crate::backward::{dearest_costs, dearest_path};
+use crate::backward::dearest_costs;
 use crate::callable::Callable;
 use crate::callees::{Callee, shallow_callees};
 use crate::fault::{Defect, VerifyFault};
 use crate::forward::assign;
+use crate::route::dearest_path;
 use kb_base::{Failure, Seq};
 use kb_code::Handler;
 use std::alloc::Global;
@@ -94,7 +95,7 @@ pub(crate) fn examine(
         × AreCallees callable.now handler.now found.1)
         (λ failure. IsFailure callable.now handler.now failure) }
 {
-    if handler.code().is_empty() {
+    if handler.code().instrs().is_empty() {
         return Err(Failure::Fault(VerifyFault::Wrong(Defect::FallsOff, 0)));
     }
     let marks = assign(alloc, callable, handler)?;
@@ -120,6 +121,6 @@ fn cost_within_budget(
     if cost <= u64::from(handler.signature().budget()) {
         return Ok(cost);
     }
-    let path = dearest_path(alloc, callable, handler, costs.as_slice())?;
+    let path = dearest_path(alloc, callable, handler, costs.as_slice(), 0)?;
     Err(Failure::Fault(VerifyFault::OverBudget(path)))
 }
