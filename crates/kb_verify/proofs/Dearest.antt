@@ -45,39 +45,39 @@ total_same costs p q past v price (Around k a) le =
 
 -- a `Repeat` has one `End`
 end_same : (commands : Commands) (h : HandlerData) (costs : List ℕ) (p d e : ℕ) (x : Instr) → HasEnd h.code p d x → HasEnd h.code p e x →
-    dearest costs p d x ≡ dearest costs p e x
-end_same commands h costs p d e (i.Repeat n) a b = ap (λ r. dearest costs p r (i.Repeat n)) (one_end h.code p d e a b)
+    dearest commands h costs p d x ≡ dearest commands h costs p e x
+end_same commands h costs p d e (i.Repeat n) a b = ap (λ r. dearest commands h costs p r (i.Repeat n)) (one_end h.code p d e a b)
 end_same commands h costs p d e i.Return a b = refl
 end_same commands h costs p d e x a b = refl
 
 -- one more place, from the end
 pub one_less : (commands : Commands) (h : HandlerData) (costs : List ℕ) (p v : ℕ) (x : Instr) → slice_get h.code p ≡ Some x →
-    p < length costs → ((e : ℕ) → HasEnd h.code p e x → v ≡ dearest costs p e x) →
+    p < length costs → ((e : ℕ) → HasEnd h.code p e x → v ≡ dearest commands h costs p e x) →
     ((q : ℕ) → p < q → IsDearest commands h costs q) →
     (q : ℕ) → p ≤ q → IsDearest commands h (slice_set costs p v) q
 one_less commands h costs p v x at lt is all q le y e at_q has =
-    let same : dearest (slice_set costs p v) q e y ≡ dearest costs q e y =
-    ap capped (total_same costs p q (e + 1) v (cost y) (exits_of (suc q) y) le) in
+    let same : dearest commands h (slice_set costs p v) q e y ≡ dearest commands h costs q e y =
+    ap capped (total_same costs p q (e + 1) v (cost commands h y) (exits_of (suc q) y) le) in
     elim (ℕ_discrete q p) [
       | yes d ↦ let one : x ≡ y = cc (at, at_q, d) in
           let here : HasEnd h.code p e x = subst (HasEnd h.code p e) (sym one) (subst (λ r. HasEnd h.code r e y) d has) in
           ap (slice_index (slice_set costs p v)) d ∙ get_or-set_same costs p v 0 lt ∙ is e here
-          ∙ ap (dearest costs p e) one ∙ ap (λ r. dearest costs r e y) (sym d) ∙ sym same
+          ∙ ap (dearest commands h costs p e) one ∙ ap (λ r. dearest commands h costs r e y) (sym d) ∙ sym same
       | no d ↦ get_or-set_other costs p q v 0 d ∙ all q (omega (arith, d, le)) y e at_q has ∙ sym same
     ]
 
 -- an instruction with such exits is a `Repeat`
-repeat_has : (commands : Commands) (h : HandlerData) (p n q e : ℕ) (x : Instr) → exits_of (suc p) x ≡ Around n q →
-    Closes h.code p e → HasEnd h.code p e x
-repeat_has h.code p n q e (i.Repeat m) is c = c
-repeat_has h.code p n q e i.Return is c = tt
-repeat_has h.code p n q e x is c = tt
+repeat_has : (code : List Instr) (p n q e : ℕ) (x : Instr) → exits_of (suc p) x ≡ Around n q →
+    Closes code p e → HasEnd code p e x
+repeat_has code p n q e (i.Repeat m) is c = c
+repeat_has code p n q e i.Return is c = tt
+repeat_has code p n q e x is c = tt
 
-has_none : (commands : Commands) (h : HandlerData) (p e : ℕ) (x : Instr) (exits : Exits) → exits_of (suc p) x ≡ exits →
-    ((n q : ℕ) → exits ≡ Around n q → ⊥) → HasEnd h.code p e x
-has_none h.code p e (i.Repeat n) exits is none = absurd (none n (suc p) (sym is))
-has_none h.code p e i.Return exits is none = tt
-has_none h.code p e x exits is none = tt
+has_none : (code : List Instr) (p e : ℕ) (x : Instr) (exits : Exits) → exits_of (suc p) x ≡ exits →
+    ((n q : ℕ) → exits ≡ Around n q → ⊥) → HasEnd code p e x
+has_none code p e (i.Repeat n) exits is none = absurd (none n (suc p) (sym is))
+has_none code p e i.Return exits is none = tt
+has_none code p e x exits is none = tt
 
 -- the cost of a place by its exits
 pub cost_at : (commands : Commands) (h : HandlerData) (costs : List ℕ) → AreCosts commands h costs → (p : ℕ) (x : Instr) (exits : Exits) →

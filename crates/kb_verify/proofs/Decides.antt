@@ -21,7 +21,6 @@ use Rattle.kb_code.specs.Handler.{HandlerData}
 use Rattle.kb_code.specs.Reachable.{Follows, Reachable, first, onward}
 use Rattle.kb_verify.specs.declared.fault.Defect.{Defect}
 use Rattle.kb_verify.specs.declared.fault.Defect.TheVariants as defect
-use Rattle.kb_verify.specs.declared.fault.VerifyFault.TheVariants.{Wrong, OverBudget, OverDepth}
 use Rattle.kb_verify.specs.declared.forward.Mark.{Mark}
 use Rattle.kb_verify.specs.declared.forward.Mark.TheVariants as mark
 use Rattle.kb_verify.specs.Callable.{Commands, declaration_at}
@@ -30,7 +29,7 @@ use Rattle.kb_verify.specs.Shapes.{HasShapes, IsFirstWrong}
 use Rattle.kb_verify.specs.Paths.{cost, Steps, Nothing, Choice, Turns, Path, returns, ends, goes_on, falls}
 use Rattle.kb_verify.specs.Paths.{jumps, repeats, IsWithinBudget, IsOverBudget}
 use Rattle.kb_verify.specs.Accepted.{IsShallow, IsFirstTooDeep}
-use Rattle.kb_verify.specs.Faults.{IsDecided}
+use Rattle.kb_verify.specs.Faults.{IsDecided, has_defect, is_dear, is_deep}
 use Rattle.kb_verify.specs.Marks.{mark_at, Meets, FlowsTo, FlowsFrom, IsMarked, ComesRound, GoesWrong}
 use Rattle.kb_code.specs.Same.{same_kind}
 use Rattle.kb_verify.proofs.Calls.{IsShallowBelow, shallow_called, shallow_passed, none_undeclared}
@@ -429,15 +428,15 @@ module _ (commands : Commands) (h : HandlerData) where
   decided_budget : IsFormed h.code → 0 < length h.code → HasShapes commands h →
       IsShallow commands h ⊎ HasTooDeep →
       IsWithinBudget commands h ⊎ ((path : Steps) × IsOverBudget commands h path) → IsDecided commands h
-  decided_budget formed some has depth (inr over) = ?
-  decided_budget formed some has (inr deep) (inl within) = inr (OverDepth deep.0, (has, within, deep.1))
+  decided_budget formed some has depth (inr over) = inr (is_dear over.0 has over.1)
+  decided_budget formed some has (inr deep_at) (inl within) = inr (is_deep deep_at.0 has within deep_at.1)
   decided_budget formed some has (inl shallow) (inl within) =
       inl (record { formed = formed; some_code = some; shapes = has; within_budget = within; within_depth = shallow })
 
   -- the verdict on a handler with code
   decided_shapes : IsFormed h.code → 0 < length h.code → AreRight (length h.code) ⊎ HasWrong →
       IsDecided commands h
-  decided_shapes formed some (inr wrong) = inr (Wrong wrong.1 wrong.0, inr wrong.2)
+  decided_shapes formed some (inr wrong_at) = inr (has_defect wrong_at.1 wrong_at.0 (inr wrong_at.2))
   decided_shapes formed some (inl right) =
       let has = all_looked commands h right.0 right.1 in
       decided_budget formed some has (shallow_or_deep right.0 right.1 has) (within_or_over formed some has)
@@ -445,7 +444,7 @@ module _ (commands : Commands) (h : HandlerData) where
   -- a handler is accepted, or it has a fault
   pub accepted_or_faulty : IsFormed h.code → IsDecided commands h
   accepted_or_faulty formed = elim (ℕ_discrete (length h.code) 0) [
-    | yes none ↦ inr (Wrong defect.FallsOff 0, inl (none, refl, refl))
+    | yes none ↦ inr (has_defect defect.FallsOff 0 (inl (none, refl, refl)))
     | no some ↦
         let size : 0 < length h.code = omega (arith, some) in
         decided_shapes formed size (shapes_or_wrong size)

@@ -9,7 +9,7 @@ use Rattle.kb_verify.specs.declared.fault.VerifyFault.{VerifyFault}
 use Rattle.kb_verify.specs.declared.fault.VerifyFault.TheVariants.{Wrong, OverBudget, OverDepth}
 use Rattle.kb_verify.specs.Callable.{Commands}
 use Rattle.kb_verify.specs.Shapes.{HasShapes, IsFirstWrong}
-use Rattle.kb_verify.specs.Paths.{IsWithinBudget, IsOverBudget}
+use Rattle.kb_verify.specs.Paths.{Steps, IsWithinBudget, IsOverBudget}
 use Rattle.kb_verify.specs.Route.{route_of}
 use Rattle.kb_verify.specs.Accepted.{IsAccepted, IsFirstTooDeep}
 
@@ -41,6 +41,14 @@ abbrev pub IsTrueFault : Failure VerifyFault → Type 0
 IsTrueFault NoMemory = ⊥
 IsTrueFault (Fault fault) = Unit {0}
 
+-- a handler has a fault; the path of `is_dear` may be too long for a list in memory
+pub data IsRefused (commands : Commands) (h : HandlerData) : Type 0 where
+  has_defect : (defect : Defect) (place : ℕ) → IsEmpty h defect place ⊎ IsFirstWrong commands h place defect →
+      IsRefused commands h
+  is_dear : (path : Steps) → HasShapes commands h → IsOverBudget commands h path → IsRefused commands h
+  is_deep : (place : ℕ) → HasShapes commands h → IsWithinBudget commands h → IsFirstTooDeep commands h place →
+      IsRefused commands h
+
 -- a handler is accepted, or it has a fault
 abbrev pub IsDecided : Commands → HandlerData → Type 0
-IsDecided commands h = IsAccepted commands h ⊎ ((fault : VerifyFault) × IsFault commands h fault)
+IsDecided commands h = IsAccepted commands h ⊎ IsRefused commands h

@@ -140,7 +140,8 @@ fn falls_on(code: &Code, place: usize) -> Result<(), Defect>
     requires { place < length code.now }
     ensures { result ≡ falls_on code.now place }
 {
-    if place + 1 < code.instrs().len() {
+    let size = code.instrs().len();
+    if place + 1 < size {
         Ok(())
     } else {
         Err(Defect::FallsOff)

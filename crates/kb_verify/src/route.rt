@@ -43,7 +43,8 @@ pub(crate) fn dearest_path(
             Exits::Around(_turns, inner) => {
                 let turn = dearest_path(alloc, callable, handler, costs, inner)?;
                 steps.push(Step::Turns(turn))?;
-                place = handler.code().end(place) + 1;
+                let end = handler.code().end(place);
+                place = end + 1;
             }
         }
     }

@@ -1,5 +1,6 @@
 //! Handlers that the verifier accepted.
 ghost use Rattle.std.specs.Prelude.{◌≡◌, ◌<◌, length, MatchResult, IfOk, IfErr};
+ghost use Rattle.kb_code.specs.Blocks.{IsFormed};
 ghost use Rattle.kb_verify.specs.Accepted.{AreCallees, IsAccepted, IsChecked};
 ghost use Rattle.kb_verify.specs.Faults.{IsFailure, IsTrueFault};
 ghost use Rattle.kb_verify.specs.Paths.{IsDearestCost, IsWithinBudget};
@@ -95,7 +96,8 @@ pub(crate) fn examine(
         × AreCallees callable.now handler.now found.1)
         (λ failure. IsFailure callable.now handler.now failure) }
 {
-    if handler.code().instrs().is_empty() {
+    let instrs = handler.code().instrs();
+    if instrs.is_empty() {
         return Err(Failure::Fault(VerifyFault::Wrong(Defect::FallsOff, 0)));
     }
     let marks = assign(alloc, callable, handler)?;
@@ -110,6 +112,7 @@ fn cost_within_budget(
     callable: &Callable,
     handler: &Handler,
 ) -> Result<u64, Failure<VerifyFault>>
+    requires formed { IsFormed handler.now.code }
     requires some_code { 0 < length handler.now.code }
     requires shapes { HasShapes callable.now handler.now }
     ensures { MatchResult result

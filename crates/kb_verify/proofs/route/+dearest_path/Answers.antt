@@ -106,15 +106,16 @@ dearest_path-requires t c =
     let l = c.walk.invariant.later in let later = b.later in
     (let d = c.decreases in omega (arith, later, in_code, l, d), (b.inner, (shapes, c.requires.costs)))
 
-pub overflow_add-place-in-Around : goal.overflow_add-place-in-Around
-overflow_add-place-in-Around t c =
+pub overflow_add-place : goal.overflow_add-place
+overflow_add-place t c =
     let commands = c.args.callable.now in let h = c.args.handler.now in let costs = c.args.costs.now in let p = c.walk.place in
     let same : c.code.result.now ≡ h.code = search rules in
     let formed = subst IsFormed same c.instrs-instrs.ensures.formed in let shapes = c.requires.shapes in
     let e = read_exits h.code c.instrs-instrs.result.now p c.exits_at.result (Around c.in-Around._turns c.in-Around.inner) (c.instrs-instrs.ensures.same ∙ same) c.exits_at.ensures c.in-Around.is in
     let b = has_block commands h formed shapes.0 shapes.1 costs c.requires.costs c.args.start p c.in-Around._turns c.in-Around.inner c.walk.invariant.routed.here e in
     let past = reach_within h.code (b.end + 1) b.past in
-    let is = c.end-place.ensures b.end b.closes in
+    let read : c.code-in-Around.result.now ≡ h.code = search rules in
+    let is = c.end-end.ensures b.end (subst (λ xs. Closes xs p b.end) (sym read) b.closes) in
     let size = c.requires.costs.size in
     omega (arith, past, is, size)
 
@@ -125,7 +126,8 @@ walk-smaller t c =
     let formed = subst IsFormed same c.instrs-instrs.ensures.formed in let shapes = c.requires.shapes in
     let e = read_exits h.code c.instrs-instrs.result.now p c.exits_at.result (Around c.in-Around._turns c.in-Around.inner) (c.instrs-instrs.ensures.same ∙ same) c.exits_at.ensures c.in-Around.is in
     let b = has_block commands h formed shapes.0 shapes.1 costs c.requires.costs c.args.start p c.in-Around._turns c.in-Around.inner c.walk.invariant.routed.here e in
-    let is = c.end-place.ensures b.end b.closes in
+    let read : c.code-in-Around.result.now ≡ h.code = search rules in
+    let is = c.end-end.ensures b.end (subst (λ xs. Closes xs p b.end) (sym read) b.closes) in
     let in_code = reach_within h.code p c.walk.invariant.routed.here in
     let after = b.after in
     omega (arith, is, after, in_code)
@@ -137,7 +139,8 @@ walk-preserved t c =
     let formed = subst IsFormed same c.instrs-instrs.ensures.formed in let shapes = c.requires.shapes in
     let e = read_exits h.code c.instrs-instrs.result.now p c.exits_at.result (Around c.in-Around._turns c.in-Around.inner) (c.instrs-instrs.ensures.same ∙ same) c.exits_at.ensures c.in-Around.is in
     let b = has_block commands h formed shapes.0 shapes.1 costs c.requires.costs c.args.start p c.in-Around._turns c.in-Around.inner c.walk.invariant.routed.here e in
-    let is = c.end-place.ensures b.end b.closes in
+    let read : c.code-in-Around.result.now ≡ h.code = search rules in
+    let is = c.end-end.ensures b.end (subst (λ xs. Closes xs p b.end) (sym read) b.closes) in
     let w = routed_turn commands h formed shapes.0 shapes.1 costs c.requires.costs c.args.start p c.in-Around._turns c.in-Around.inner b.end c.walk.steps.items c.push-in-Around.new.self.items c.in_ok-turn-in-Around.turn e b.closes c.in_ok-turn-in-Around.ensures c.in_ok-push-in-Around.ensures.items c.walk.invariant.routed in
     let l = c.walk.invariant.later in
     record {
