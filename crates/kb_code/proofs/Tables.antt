@@ -171,6 +171,25 @@ formed version code none =
       turns = λ p n at. each_turns version 0 p n code both.0 at;
     }
 
+-- and the other way round
+turn_of : (p : ℕ) (x : Instr) → ((n : ℕ) → x ≡ i.Repeat n → 0 < n) → instr_fault Two p x ≡ None
+turn_of p (i.Repeat zero) some = let lt = some 0 refl in absurd (omega (arith, lt))
+turn_of p (i.Repeat (suc n)) some = refl
+turn_of p i.Return some = refl
+turn_of p x some = refl
+
+turns_of : (s : ℕ) (code : List Instr) → ((p n : ℕ) → slice_get code p ≡ Some (i.Repeat n) → 0 < n) →
+    first_fault Two s code ≡ None
+turns_of s [] some = refl
+turns_of s (x ∷ code) some =
+    ap (λ f. earlier f (first_fault Two (suc s) code)) (turn_of s x (λ n e. some 0 n (ap Some e)))
+    ∙ turns_of (suc s) code (λ p. some (suc p))
+
+pub formed_code : (code : List Instr) → IsFormed code → code_fault Two code ≡ None
+formed_code code formed =
+    ap (λ f. earlier f (option_map BadBlock (bad_block 0 [] code))) (turns_of 0 code formed.turns)
+    ∙ ap (option_map BadBlock) formed.blocks
+
 -- at the first place
 pub starts_none : (code : List Instr) (starts : List (Option ℕ)) → starts ≡ [] → AreStarts code starts 0
 starts_none code starts e = record { size = ap length e; each = λ p lt. absurd (omega (arith, lt)) }

@@ -29,7 +29,11 @@ use Rattle.kb_verify.specs.Shapes.{HasShapes, IsFirstWrong}
 use Rattle.kb_verify.specs.Paths.{cost, Steps, Nothing, Choice, Turns, Path, returns, ends, goes_on, falls}
 use Rattle.kb_verify.specs.Paths.{jumps, repeats, IsWithinBudget, IsOverBudget}
 use Rattle.kb_verify.specs.Accepted.{IsShallow, IsFirstTooDeep}
-use Rattle.kb_verify.specs.Faults.{IsDecided, has_defect, is_dear, is_deep}
+use Rattle.kb_verify.specs.Faults.{IsDecided, has_defect, is_dear, is_deep, not_code}
+use Rattle.kb_code.specs.Code.{code_fault}
+use Rattle.kb_code.specs.declared.fault.CodeFault.{CodeFault}
+use Rattle.kb_code.specs.declared.version.Version.TheVariants.{Two}
+use Rattle.kb_code.proofs.Tables.{formed}
 use Rattle.kb_verify.specs.Marks.{mark_at, Meets, FlowsTo, FlowsFrom, IsMarked, ComesRound, GoesWrong}
 use Rattle.kb_code.specs.Same.{same_kind}
 use Rattle.kb_verify.proofs.Calls.{IsShallowBelow, shallow_called, shallow_passed, none_undeclared}
@@ -252,11 +256,11 @@ module _ (commands : Commands) (h : HandlerData) where
     pub is_path : Path commands h p path spent
     pub dearest : AtMost p spent
 
-  module _ (formed : IsFormed h.code) (has : HasShapes commands h) where
+  module _ (is_formed : IsFormed h.code) (has : HasShapes commands h) where
     leads : (p q : ℕ) (x : Instr) (exits : Exits) → Reachable h.code p → slice_get h.code p ≡ Some x →
         exits_of (suc p) x ≡ exits → is_exit exits q ≡ true → Follows h.code p q
     leads p q x exits r at e is =
-        follows_at commands h formed has.0 has.1 p q x r at (ap (λ y. is_exit y q) e ∙ is)
+        follows_at commands h is_formed has.0 has.1 p q x r at (ap (λ y. is_exit y q) e ∙ is)
 
     -- the step for a place, from the paths of all later reachable places
     dearest_by : (p : ℕ) (x : Instr) → Reachable h.code p → slice_get h.code p ≡ Some x →
@@ -317,7 +321,7 @@ module _ (commands : Commands) (h : HandlerData) where
           }
         ]
     dearest_by p x reach at later (Around n q) e =
-        let b = block_at commands h formed has.0 has.1 p n q x reach at e in
+        let b = block_at commands h is_formed has.0 has.1 p n q x reach at e in
         let end = b.end in
         let after = b.after in
         let next : end + 1 ≡ suc end = omega arith in
@@ -348,8 +352,8 @@ module _ (commands : Commands) (h : HandlerData) where
   -- no path is over the budget, or some path is
   within_or_over : IsFormed h.code → 0 < length h.code → HasShapes commands h →
       IsWithinBudget commands h ⊎ ((path : Steps) × IsOverBudget commands h path)
-  within_or_over formed some has =
-      let found = dearest_from formed has (length h.code) 0 (omega arith) (first some) in
+  within_or_over is_formed some has =
+      let found = dearest_from is_formed has (length h.code) 0 (omega arith) (first some) in
       elim (cases_lt h.signature.budget found.spent) [
         | inl over ↦ inr (found.path, record { cost = found.spent; is_path = found.is_path; over = over })
         | inr le ↦ inl (λ path c is. let most = found.dearest path c is in omega (arith, most, le))
@@ -428,24 +432,31 @@ module _ (commands : Commands) (h : HandlerData) where
   decided_budget : IsFormed h.code → 0 < length h.code → HasShapes commands h →
       IsShallow commands h ⊎ HasTooDeep →
       IsWithinBudget commands h ⊎ ((path : Steps) × IsOverBudget commands h path) → IsDecided commands h
-  decided_budget formed some has depth (inr over) = inr (is_dear over.0 has over.1)
-  decided_budget formed some has (inr deep_at) (inl within) = inr (is_deep deep_at.0 has within deep_at.1)
-  decided_budget formed some has (inl shallow) (inl within) =
-      inl (record { formed = formed; some_code = some; shapes = has; within_budget = within; within_depth = shallow })
+  decided_budget is_formed some has depth (inr over) = inr (is_dear over.0 is_formed has over.1)
+  decided_budget is_formed some has (inr deep_at) (inl within) = inr (is_deep deep_at.0 is_formed has within deep_at.1)
+  decided_budget is_formed some has (inl shallow) (inl within) =
+      inl (record { formed = is_formed; some_code = some; shapes = has; within_budget = within; within_depth = shallow })
+
+  -- the verdict on a handler whose reachable places have shapes
+  decided_formed : 0 < length h.code → AreRight (length h.code) → (o : Option CodeFault) →
+      code_fault Two h.code ≡ o → IsDecided commands h
+  decided_formed some right (Some fault) is =
+      inr (not_code fault some (all_looked commands h right.0 right.1) is)
+  decided_formed some right None is =
+      let has = all_looked commands h right.0 right.1 in
+      let is_formed = formed Two h.code is in
+      decided_budget is_formed some has (shallow_or_deep right.0 right.1 has) (within_or_over is_formed some has)
 
   -- the verdict on a handler with code
-  decided_shapes : IsFormed h.code → 0 < length h.code → AreRight (length h.code) ⊎ HasWrong →
-      IsDecided commands h
-  decided_shapes formed some (inr wrong_at) = inr (has_defect wrong_at.1 wrong_at.0 (inr wrong_at.2))
-  decided_shapes formed some (inl right) =
-      let has = all_looked commands h right.0 right.1 in
-      decided_budget formed some has (shallow_or_deep right.0 right.1 has) (within_or_over formed some has)
+  decided_shapes : 0 < length h.code → AreRight (length h.code) ⊎ HasWrong → IsDecided commands h
+  decided_shapes some (inr wrong_at) = inr (has_defect wrong_at.1 wrong_at.0 (inr wrong_at.2))
+  decided_shapes some (inl right) = decided_formed some right (code_fault Two h.code) refl
 
   -- a handler is accepted, or it has a fault
-  pub accepted_or_faulty : IsFormed h.code → IsDecided commands h
-  accepted_or_faulty formed = elim (ℕ_discrete (length h.code) 0) [
+  pub accepted_or_faulty : IsDecided commands h
+  accepted_or_faulty = elim (ℕ_discrete (length h.code) 0) [
     | yes none ↦ inr (has_defect defect.FallsOff 0 (inl (none, refl, refl)))
     | no some ↦
         let size : 0 < length h.code = omega (arith, some) in
-        decided_shapes formed size (shapes_or_wrong size)
+        decided_shapes size (shapes_or_wrong size)
   ]

@@ -1,5 +1,5 @@
 -- A handler with a fault is not accepted.
-use Rattle.std.proofs.Common.{◌≡◌, ◌<◌, ◌≤◌, ◌⊎◌, ⊎_elim, ℕ, suc, Bool, true, false, List, [], length, Ok, Err}
+use Rattle.std.proofs.Common.{◌≡◌, ◌<◌, ◌≤◌, ◌⊎◌, ⊎_elim, ℕ, suc, Bool, true, false, List, [], length, Ok, Err, Some, None}
 use Rattle.std.proofs.Common.{refl, sym, ap, ◌∙◌, subst, arith}
 use Rattle.std.specs.Prelude.{nat_lt}
 use Rattle.std.proofs.lemmas.Bool.{ltb-true, ltb-false}
@@ -22,7 +22,14 @@ use Rattle.kb_verify.specs.Accepted.{IsAccepted}
 use Rattle.kb_verify.proofs.Edges.{reach_within}
 use Rattle.kb_verify.specs.declared.fault.VerifyFault.{VerifyFault}
 use Rattle.kb_verify.specs.declared.fault.VerifyFault.TheVariants.{Wrong, OverBudget, OverDepth}
-use Rattle.kb_verify.specs.Faults.{IsEmpty, IsFault, IsFailure, IsSameFault, IsTrueFault}
+use Rattle.kb_verify.specs.Faults.{IsEmpty, IsFault, IsFailure, IsSameFault, IsTrueFault, IsRefused, has_defect}
+use Rattle.kb_verify.specs.Faults.{is_dear, is_deep, not_code, number_in}
+use Rattle.kb_verify.specs.Fault.{number_of}
+use Rattle.kb_code.specs.Blocks.{IsFormed}
+use Rattle.kb_code.specs.Code.{code_fault}
+use Rattle.kb_code.specs.declared.fault.CodeFault.{CodeFault}
+use Rattle.kb_code.specs.declared.version.Version.TheVariants.{Two}
+use Rattle.kb_code.proofs.Tables.{formed_code}
 
 not_less : (p q : ℕ) → (p < q → ⊥) → q ≤ p
 not_less p q never = go (nat_lt p q) refl
@@ -132,8 +139,8 @@ module _ (commands : Commands) (h : HandlerData) where
   refuted : (fault : VerifyFault) → IsFault commands h fault → IsAccepted commands h → ⊥
   refuted (Wrong wrong place) is a =
       ⊎_elim (λ e. let some = a.some_code in omega (arith, e.0, some)) (λ w. first_refutes place wrong w a.shapes) is
-  refuted (OverBudget path) is a = let l = a.within_budget (route_of path.items) is.1.cost is.1.is_path in let over = is.1.over in omega (arith, l, over)
-  refuted (OverDepth place) is a = let l = a.within_depth place is.2.index is.2.declaration is.2.callee in let deep = is.2.deep in omega (arith, l, deep)
+  refuted (OverBudget path) is a = let l = a.within_budget (route_of path.items) is.2.cost is.2.is_path in let over = is.2.over in omega (arith, l, over)
+  refuted (OverDepth place) is a = let l = a.within_depth place is.3.index is.3.declaration is.3.callee in let deep = is.3.deep in omega (arith, l, deep)
 
   pub fault_refutes : (e : Failure VerifyFault) → IsFailure commands h e → IsTrueFault e →
       IsAccepted commands h → ⊥
@@ -166,14 +173,48 @@ module _ (commands : Commands) (h : HandlerData) where
     where
       no_code : {p : ℕ} {d : Defect} → length h.code ≡ 0 → IsFirstWrong commands h p d → ⊥
       no_code e v = let l = reach_within h.code _ v.reachable in omega (arith, e, l)
-  fault_unique (Wrong d p) (OverBudget path) x y = wrong_not d p x y.0 (pathed (route_of path.items) y.1)
-  fault_unique (Wrong d p) (OverDepth q) x y = wrong_not d p x y.0 (reach_within h.code q y.2.callee.calls.reached)
-  fault_unique (OverBudget path) (Wrong d p) x y = wrong_not d p y x.0 (pathed (route_of path.items) x.1)
-  fault_unique (OverDepth q) (Wrong d p) x y = wrong_not d p y x.0 (reach_within h.code q x.2.callee.calls.reached)
+  fault_unique (Wrong d p) (OverBudget path) x y = wrong_not d p x y.1 (pathed (route_of path.items) y.2)
+  fault_unique (Wrong d p) (OverDepth q) x y = wrong_not d p x y.1 (reach_within h.code q y.3.callee.calls.reached)
+  fault_unique (OverBudget path) (Wrong d p) x y = wrong_not d p y x.1 (pathed (route_of path.items) x.2)
+  fault_unique (OverDepth q) (Wrong d p) x y = wrong_not d p y x.1 (reach_within h.code q x.3.callee.calls.reached)
   fault_unique (OverBudget path) (OverBudget other) x y = tt
-  fault_unique (OverBudget path) (OverDepth q) x y = over_not (route_of path.items) y.1 x.1
-  fault_unique (OverDepth q) (OverBudget path) x y = over_not (route_of path.items) x.1 y.1
+  fault_unique (OverBudget path) (OverDepth q) x y = over_not (route_of path.items) y.2 x.2
+  fault_unique (OverDepth q) (OverBudget path) x y = over_not (route_of path.items) x.2 y.2
   fault_unique (OverDepth p) (OverDepth q) x y =
-      let le : p ≤ q = not_less q p (λ lt. let l = x.2.first q y.2.index y.2.declaration lt y.2.callee in let deep = y.2.deep in omega (arith, l, deep)) in
-      let ge : q ≤ p = not_less p q (λ lt. let l = y.2.first p x.2.index x.2.declaration lt x.2.callee in let deep = x.2.deep in omega (arith, l, deep)) in
+      let le : p ≤ q = not_less q p (λ lt. let l = x.3.first q y.3.index y.3.declaration lt y.3.callee in let deep = y.3.deep in omega (arith, l, deep)) in
+      let ge : q ≤ p = not_less p q (λ lt. let l = y.3.first p x.3.index x.3.declaration lt x.3.callee in let deep = x.3.deep in omega (arith, l, deep)) in
       omega (arith, le, ge)
+
+  -- ---- what refuses a handler
+
+  unformed : (fault : CodeFault) → code_fault Two h.code ≡ Some fault → IsFormed h.code → ⊥
+  unformed fault is formed = let e : Some fault ≡ None = sym is ∙ formed_code h.code formed in absurd (cc)
+
+  pub refused_not : IsRefused commands h → IsAccepted commands h → ⊥
+  refused_not (has_defect d p is) a = refuted (Wrong d p) is a
+  refused_not (is_dear path formed has over) a = over_not path a.within_budget over
+  refused_not (is_deep place formed has within deep) a =
+      let l = a.within_depth place deep.index deep.declaration deep.callee in let k = deep.deep in omega (arith, l, k)
+  refused_not (not_code fault some has is) a = unformed fault is a.formed
+
+  -- the number of what refuses it is that of its fault
+  pub refused_number : (r : IsRefused commands h) (fault : VerifyFault) → IsFault commands h fault →
+      number_in r ≡ number_of fault
+  refused_number (has_defect d p is) (Wrong e q) y =
+      let same = fault_unique (Wrong d p) (Wrong e q) is y in
+      ap (λ x. number_of (Wrong x p)) same.0 ∙ ap (λ n. number_of (Wrong e n)) same.1
+  refused_number (has_defect d p is) (OverBudget path) y =
+      absurd (wrong_not d p is y.1 (pathed (route_of path.items) y.2))
+  refused_number (has_defect d p is) (OverDepth q) y =
+      absurd (wrong_not d p is y.1 (reach_within h.code q y.3.callee.calls.reached))
+  refused_number (is_dear path formed has over) (Wrong d p) y = absurd (wrong_not d p y has (pathed path over))
+  refused_number (is_dear path formed has over) (OverBudget other) y = refl
+  refused_number (is_dear path formed has over) (OverDepth q) y = absurd (over_not path y.2 over)
+  refused_number (is_deep q formed has within deep) (Wrong d p) y =
+      absurd (wrong_not d p y has (reach_within h.code q deep.callee.calls.reached))
+  refused_number (is_deep q formed has within deep) (OverBudget path) y =
+      absurd (over_not (route_of path.items) within y.2)
+  refused_number (is_deep q formed has within deep) (OverDepth p) y = refl
+  refused_number (not_code fault some has is) (Wrong d p) y = absurd (wrong_not d p y has some)
+  refused_number (not_code fault some has is) (OverBudget path) y = absurd (unformed fault is y.0)
+  refused_number (not_code fault some has is) (OverDepth p) y = absurd (unformed fault is y.0)

@@ -1,5 +1,6 @@
 //! The commands that a handler calls, and the check of their depths.
 ghost use Rattle.std.specs.Prelude.{◌≡◌, ◌<◌, length, MatchOption, MatchResult};
+ghost use Rattle.kb_code.specs.Blocks.{IsFormed};
 ghost use Rattle.kb_code.specs.Reachable.{Calls};
 ghost use Rattle.kb_verify.specs.Accepted.{AreCallees, IsCallee, IsShallow};
 ghost use Rattle.kb_verify.specs.Faults.{IsFailure};
@@ -33,6 +34,7 @@ pub(crate) fn shallow_callees(
     marks: &[Mark],
 ) -> Result<Seq<Callee>, Failure<VerifyFault>>
     requires marked { IsMarked callable.now handler.now (length handler.now.code) marks.now }
+    requires formed { IsFormed handler.now.code }
     requires some_code { 0 < length handler.now.code }
     requires shapes { HasShapes callable.now handler.now }
     requires within_budget { IsWithinBudget callable.now handler.now }

@@ -1,6 +1,5 @@
 //! Theorems about the definitions, independent of any run.
 ghost use Rattle.std.specs.Prelude.{◌≡◌, ℕ, List, Some, slice_get};
-ghost use Rattle.kb_code.specs.Blocks.{IsFormed};
 ghost use Rattle.kb_code.specs.Handler.{HandlerData};
 ghost use Rattle.kb_core.specs.Declaration.{Declaration};
 ghost use Rattle.kb_verify.specs.Accepted.{AreCallees, HasCallee, IsAccepted, IsCallee};
@@ -16,9 +15,9 @@ pub fn one_fault()
         IsFault commands h a → IsFault commands h b → IsSameFault a b }
 {}
 
-/// Each handler with well-formed blocks is accepted or has a fault, whatever commands it may call.
+/// Each handler is accepted or has a fault, whatever commands it may call.
 pub fn accepted_or_faulty()
-    ensures { (commands : Commands) (h : HandlerData) → IsFormed h.code → IsDecided commands h }
+    ensures { (commands : Commands) (h : HandlerData) → IsDecided commands h }
 {}
 
 /// Each reachable call of a handler has an entry in its list of callees.
