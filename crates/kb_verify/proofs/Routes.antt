@@ -39,12 +39,12 @@ last_before : (ss : List Step) (s : Step) (rest : Steps) →
 last_before [] s rest = refl
 last_before (x ∷ ss) s rest = ap (before x) (last_before ss s rest)
 
-choice_before : (jumped : Bool) (rest : Steps) → before (step.Choice jumped) rest ≡ Choice jumped rest
+pub choice_before : (jumped : Bool) (rest : Steps) → before (step.Choice jumped) rest ≡ Choice jumped rest
 choice_before jumped rest =
     ap (λ s. before s rest) (sym (rolls-Choice jumped))
     ∙ ap (λ f. f rest) (fold-roll-Step (Steps → Steps) step_before (Step-F.Choice jumped))
 
-turn_before : (v : Vec Step Global) (rest : Steps) → before (step.Turns v) rest ≡ Turns (route_of v.items) rest
+pub turn_before : (v : Vec Step Global) (rest : Steps) → before (step.Turns v) rest ≡ Turns (route_of v.items) rest
 turn_before v rest =
     ap (λ s. before s rest) (sym (rolls-Turns v))
     ∙ ap (λ f. f rest) (fold-roll-Step (Steps → Steps) step_before (Step-F.Turns v))
