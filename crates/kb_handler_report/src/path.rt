@@ -1,8 +1,6 @@
 //! Lists the places of a path through code.
-ghost use Rattle.std.specs.Prelude.{◌≡◌, ◌×◌, ◌+◌, ◌*◌, ◌^◌, ℕ, Bool, IfOk, OnOk, if◌then◌else◌};
-ghost use Rattle.kb_code.specs.Blocks.{Closes};
+ghost use Rattle.std.specs.Prelude.{◌≡◌, ℕ, Bool, IfOk, if◌then◌else◌};
 ghost use Rattle.kb_handler_report.specs.Visits.{IsAdded, IsListed};
-ghost use Rattle.kb_verify.specs.Costs.{capped};
 ghost use Rattle.kb_verify.specs.Paths.{Choice, Path, Steps, Turns};
 ghost use Rattle.kb_verify.specs.Route.{route_of};
 
