@@ -35,7 +35,7 @@ pub struct Loaded {
 /// Errors: the first file that is refused, and why, in this order (our decision): the layout (1 to 4, 40,
 /// 41, 21, 22), the default rules, the user's rules (1 to 4, 41 each), more than 100 extensions (44), for
 /// each extension in load order its manifest (1 to 4, 40, 41) and, if there is one, its file of handlers (1
-/// to 4, 40 to 44, 50 to 52), an extension that repeats the identifier of an earlier one (91), one that
+/// to 4, 40 to 44, 50 to 53), an extension that repeats the identifier of an earlier one (91), one that
 /// depends on an extension that isn't before it (90); or refused memory.
 pub fn load_files(alloc: Global, inputs: Inputs<'_>) -> Result<Loaded, Failure<LoadFault>>
     ensures read { LoadsFiles (files_of inputs.entry) result }

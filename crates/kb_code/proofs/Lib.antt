@@ -1,3 +1,9 @@
+pub mod Booleans
+pub mod Lists
+pub mod BlockLemmas
+pub mod Tables
+pub mod Entries
+pub mod PlainLemmas
 pub mod Reading
 pub mod CodingLemmas
 pub mod CalleesLemmas

@@ -1,11 +1,12 @@
 -- One pass over the instructions finds the callees.
 use Rattle.std.proofs.Common.{◌≡◌, refl, ap, sym, subst, ◌∙◌, ℕ, zero, suc, ◌+◌, ◌<◌, ◌≤◌, Bool, true, false}
 use Rattle.std.proofs.Common.{List, [], ◌∷◌, ◌++◌, length, append_assoc, append-nil, arith}
-use Rattle.std.specs.Prelude.{◌||◌, ◌==◌, if◌then◌else◌, nat_lt, Option, Some, None, slice_get}
+use Rattle.std.specs.Prelude.{◌||◌, ◌&&◌, ◌==◌, if◌then◌else◌, nat_lt, Option, Some, None, slice_get}
 use Rattle.std.proofs.lemmas.Bool.{ltb-true, ltb-false, false≢true}
 use Rattle.std.proofs.lemmas.Bool.Decides.{Decides-eqb}
 use Rattle.kb_code.specs.declared.instr.Instr.{Instr}
 use Rattle.kb_code.specs.declared.instr.Instr.TheVariants.{Call}
+use Rattle.kb_code.specs.Blocks.{is_inside}
 use Rattle.kb_code.specs.Callees.{called, callees_from, callees_of}
 use Rattle.kb_code.specs.Exits.{exits_of, is_exit}
 use Rattle.kb_code.specs.Handler.{HandlerData}
@@ -28,6 +29,13 @@ or_right false b is = is
 or_left : (a b : Bool) → a ≡ true → (a || b) ≡ true
 or_left true b is = refl
 or_left false b is = absurd (false≢true is)
+
+and_true : (a b : Bool) → (a && b) ≡ true → (a ≡ true) × (b ≡ true)
+and_true true b e = (refl, e)
+and_true false b e = absurd (false≢true e)
+
+true_and : (a b : Bool) → a ≡ true → b ≡ true → (a && b) ≡ true
+true_and a b e f = ap (λ x. x && b) e ∙ f
 
 abbrev or_other : Instr → Option Instr → Instr
 or_other x None = x
@@ -60,20 +68,23 @@ module _ (h : HandlerData) where
     pub told : (q : ℕ) → p ≤ q → q < length code → Came code p q → reached q ≡ true
 
   abbrev beyond : ℕ → (ℕ → Bool) → Instr → ℕ → Bool
-  beyond p reached x q = reached q || is_exit (exits_of (suc p) x) q
+  beyond p reached x q = reached q || (is_exit (exits_of (suc p) x) q && is_inside code p q)
 
   -- at a place that is reached
   true_beyond : (p : ℕ) (reached : ℕ → Bool) (x : Instr) → IsTold p reached → slice_get code p ≡ Some x →
       Reachable code p → (q : ℕ) → suc p ≤ q → q < length code → beyond p reached x q ≡ true → Reachable
       code q
   true_beyond p reached x is at here q from within told = by (reached q) refl told where
-    by : (b : Bool) → reached q ≡ b → (b || is_exit (exits_of (suc p) x) q) ≡ true → Reachable code q
+    by : (b : Bool) → reached q ≡ b → (b || (is_exit (exits_of (suc p) x) q && is_inside code p q)) ≡ true →
+        Reachable code q
     by true old e = is.true_of q (omega (arith, from)) within old
     by false old e =
+        let both = and_true (is_exit (exits_of (suc p) x) q) (is_inside code p q) e in
         reach.onward here (record {
           instr = x;
           at = at;
-          exit = e;
+          exit = both.0;
+          inside = both.1;
           later = omega (arith, from);
           within =
               within;
@@ -90,8 +101,10 @@ module _ (h : HandlerData) where
     by false ge =
         let same : r ≡ p = omega (arith, below, ltb-false r p ge) in
         let same_instr : follows.instr ≡ x = some_inj _ _ (sym follows.at ∙ ap (slice_get code) same ∙ at) in
-        or_right _ _ (sym (ap (λ y. is_exit y q) (ap (λ n. exits_of (suc n) follows.instr) same ∙ ap
+        or_right _ _ (true_and _ _
+        (sym (ap (λ y. is_exit y q) (ap (λ n. exits_of (suc n) follows.instr) same ∙ ap
         (exits_of (suc p)) same_instr)) ∙ follows.exit)
+        (ap (λ n. is_inside code n q) (sym same) ∙ follows.inside))
 
   -- at a place that isn't reached
   told_past : (p : ℕ) (reached : ℕ → Bool) → IsTold p reached → ¬ (Reachable code p) →
@@ -117,7 +130,7 @@ module _ (h : HandlerData) where
   -- the look at what is left, at each place
   looked_at : (p : ℕ) (reached : ℕ → Bool) (ns : List ℕ) (left : List Instr) → p + length left ≡ length code →
       ((i : ℕ) → slice_get code (i + p) ≡ slice_get left i) → IsTold p reached → CalleesBelow h p ns →
-      CalleesBelow h (length code) (ns ++ callees_from calls p reached left)
+      CalleesBelow h (length code) (ns ++ callees_from code calls p reached left)
   looked_at p reached ns [] size at is below =
       subst (CalleesBelow h (length code)) (sym (append-nil ns))
       (subst (λ q. CalleesBelow h q ns) (omega (arith, size)) below)
@@ -140,13 +153,13 @@ module _ (h : HandlerData) where
         next i = ap (slice_get code) (omega arith) ∙ at (suc i)
 
         by : (b : Bool) → reached p ≡ b →
-            (Reachable code p → CalleesBelow h (length code) ((ns ++ called calls x) ++ callees_from calls
+            (Reachable code p → CalleesBelow h (length code) ((ns ++ called calls x) ++ callees_from code calls
             (suc p) (beyond p reached x) left)) →
-            (¬ (Reachable code p) → CalleesBelow h (length code) (ns ++ callees_from calls (suc p) reached
+            (¬ (Reachable code p) → CalleesBelow h (length code) (ns ++ callees_from code calls (suc p) reached
             left)) →
-            CalleesBelow h (length code) (ns ++ (if b then called calls x ++ callees_from calls (suc p)
+            CalleesBelow h (length code) (ns ++ (if b then called calls x ++ callees_from code calls (suc p)
             (beyond p reached x) left
-            else callees_from calls (suc p) reached left))
+            else callees_from code calls (suc p) reached left))
         by true e there past =
             subst (CalleesBelow h (length code)) (append_assoc ns (called calls x) _)
             (there (is.true_of p (omega arith) (omega (arith, size)) e))

@@ -1,5 +1,9 @@
 pub mod Fault
 pub mod Instr
+pub mod Blocks
+pub mod Tables
+pub mod Code
+pub mod Plain
 pub mod Coding
 pub mod Exits
 pub mod Handler

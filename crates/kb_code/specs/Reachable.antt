@@ -2,14 +2,16 @@
 use Rattle.std.specs.Prelude.{◌≡◌, ◌<◌, ℕ, suc, true, List, [], ◌∷◌, ◌++◌, length, Some, slice_get}
 use Rattle.kb_code.specs.declared.instr.Instr.{Instr}
 use Rattle.kb_code.specs.declared.instr.Instr.TheVariants.{Call}
+use Rattle.kb_code.specs.Blocks.{Closes, is_inside}
 use Rattle.kb_code.specs.Exits.{exits_of, is_exit}
 use Rattle.kb_code.specs.Handler.{HandlerData}
 
--- the instruction at a place can continue at a later place of the code
+-- the instruction at a place can continue at a later place of the code: the next one, or one of the same block
 pub record Follows (code : List Instr) (p q : ℕ) : Type 0 where
   pub instr : Instr
   pub at : slice_get code p ≡ Some instr
   pub exit : is_exit (exits_of (suc p) instr) q ≡ true
+  pub inside : is_inside code p q ≡ true
   pub later : p < q
   pub within : q < length code
 
@@ -30,3 +32,8 @@ pub data CalleesBelow (h : HandlerData) : ℕ → List ℕ → Type 0 where
   called : {p n : ℕ} {ns : List ℕ} → CalleesBelow h p ns → Calls h p n → CalleesBelow h (suc p) (ns ++ n ∷ [])
   passed : {p : ℕ} {ns : List ℕ} → CalleesBelow h p ns → ((n : ℕ) → Calls h p n → ⊥) →
       CalleesBelow h (suc p) ns
+
+-- the place after a `Repeat` is reachable if the `End` of its block is, so an `End` that goes back makes no
+-- other place reachable
+abbrev pub EndAddsNone : Type 0
+EndAddsNone = (code : List Instr) (q e : ℕ) → Closes code q e → Reachable code e → Reachable code (suc q)

@@ -4,8 +4,8 @@ ghost use Rattle.kb_code.specs.Fault.{number_of};
 
 use thiserror::Error;
 
-/// Why bytes cannot be decoded. A place is the index of an instruction, counted from 0. The numbers are
-/// our decision.
+/// Why bytes or instructions are not code. A place is the index of an instruction, counted from 0. The
+/// numbers are our decision.
 #[derive(Clone, Copy, Debug, PartialEq, Eq, Error)]
 pub enum CodeFault {
     /// The number of bytes is not a multiple of three, the size of an instruction.
@@ -17,10 +17,14 @@ pub enum CodeFault {
     /// The instruction at this place does not allow its operand.
     #[error("the instruction at place {0} may not have its operand")]
     BadOperand(usize),
+    /// The blocks are not well formed at this place: an `End` without an open block, a ninth open block, a
+    /// `Return` inside a block, or else the outermost `Repeat` that is never closed.
+    #[error("the blocks are not well formed at place {0}")]
+    BadBlock(usize),
 }
 
 impl CodeFault {
-    /// The fault's number in messages: 50 to 52.
+    /// The fault's number in messages: 50 to 53.
     pub fn number(self) -> u32
         ensures { result ≡ number_of self }
     {
@@ -28,6 +32,7 @@ impl CodeFault {
             CodeFault::BadLength => 50,
             CodeFault::BadOpcode(_) => 51,
             CodeFault::BadOperand(_) => 52,
+            CodeFault::BadBlock(_) => 53,
         }
     }
 }

@@ -5,7 +5,7 @@ ghost use Rattle.kb_code.specs.Callees.{callees_of};
 ghost use Rattle.kb_code.specs.Reachable.{CalleesBelow};
 
 use crate::callees::callees_from;
-use crate::instr::Instr;
+use crate::code::Code;
 use kb_base::{NoMemory, Seq, Text};
 use kb_core::Signature;
 use std::alloc::Global;
@@ -20,7 +20,7 @@ pub struct Handler {
     signature: Signature,
     texts: Seq<Text>,
     calls: Seq<Text>,
-    code: Seq<Instr>,
+    code: Code,
 }
 
 impl Model for Handler {
@@ -47,7 +47,7 @@ impl Handler {
         signature: Signature,
         texts: Seq<Text>,
         calls: Seq<Text>,
-        code: Seq<Instr>,
+        code: Code,
     ) -> Handler
         requires { 1 ≤ signature.depth }
         ensures { result ≡ record {
@@ -96,11 +96,11 @@ impl Handler {
         self.calls.as_slice()
     }
 
-    /// The instructions.
-    pub fn code(&self) -> &[Instr]
+    /// The code.
+    pub fn code(&self) -> &Code
         ensures { result.now ≡ self.now.code }
     {
-        self.code.as_slice()
+        &self.code
     }
 
     /// The callees: the indices in the list of calls that `Call` instructions at reachable places use, one
@@ -111,6 +111,7 @@ impl Handler {
         ensures callees { IfOk result (λ callees. callees ≡ callees_of self.now) }
         ensures each { CalleesBelow self.now (length self.now.code) (callees_of self.now) }
     {
-        callees_from(alloc, self.calls().len(), self.code())
+        let code = self.code();
+        callees_from(alloc, self.calls().len(), code, code.instrs())
     }
 }

@@ -55,6 +55,11 @@ pub enum Instr {
     Before,
     /// Pushes the number of characters after the caret.
     After,
+    /// Opens a block that runs this many times, at least once. (Version 2.)
+    Repeat(u16),
+    /// Ends an iteration of the innermost open block: continues after its `Repeat`, or after itself in the
+    /// last iteration. (Version 2.)
+    End,
 }
 
 impl Instr {
@@ -87,6 +92,8 @@ impl Instr {
             Instr::Context(_) => 0x40,
             Instr::Before => 0x42,
             Instr::After => 0x43,
+            Instr::Repeat(_) => 0x50,
+            Instr::End => 0x51,
         }
     }
 
@@ -101,7 +108,8 @@ impl Instr {
             | Instr::Jump(n)
             | Instr::JumpIfFalse(n)
             | Instr::Call(n)
-            | Instr::Context(n) => n,
+            | Instr::Context(n)
+            | Instr::Repeat(n) => n,
             Instr::Truth(truth) => u16::from(truth),
             _ => 0,
         }
@@ -137,6 +145,8 @@ impl Instr {
             0x40 => Instr::Context(operand),
             0x42 => Instr::Before,
             0x43 => Instr::After,
+            0x50 => Instr::Repeat(operand),
+            0x51 => Instr::End,
             _ => return None,
         })
     }

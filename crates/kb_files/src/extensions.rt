@@ -62,7 +62,7 @@ impl ReadExtensions {
 ///
 /// Errors: the first file that is refused, and why, in this order (our decision): more than 100 extensions
 /// (44), for each extension in load order its manifest (1 to 4, 40, 41) and then its handlers (1 to 4, 40 to
-/// 44, 50 to 52), the first extension that repeats the identifier of an earlier one (91), the first that
+/// 44, 50 to 53), the first extension that repeats the identifier of an earlier one (91), the first that
 /// depends on an extension that isn't before it (90); or `NoMemory`.
 pub fn read_extensions(
     alloc: Global,

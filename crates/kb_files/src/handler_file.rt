@@ -13,7 +13,7 @@ use std::alloc::Global;
 /// (`HandlerFile::read` says its format, which is our decision).
 ///
 /// Errors: the first fault of the file, those of its text (1 to 4), then those of its handlers (40 to 44, 50
-/// to 52, in the order that `HandlerFile::read` says), as 41 of a blank text, which reads as the empty list;
+/// to 53, in the order that `HandlerFile::read` says), as 41 of a blank text, which reads as the empty list;
 /// or `NoMemory`.
 pub fn read_handlers(alloc: Global, bytes: &[u8]) -> Result<Seq<Handler>, Failure<Refusal>>
     ensures { Gives (λ handlers. handlers) result (handlers_in bytes.now) }

@@ -2,7 +2,7 @@
 use crate::signatures::signature_text;
 use hex::encode as in_digits;
 use kb_base::{Failure, NoMemory, Seq, Text};
-use kb_code::{CodeFault, Handler, Instr, decode, encode};
+use kb_code::{Code, CodeFault, Handler, Instr, Version, decode, encode};
 use kb_core::Signature;
 use kb_golden_text::fault_text;
 use kb_handler_file::{HandlerFile, HandlersFault};
@@ -57,7 +57,7 @@ fn add_handler(alloc: Global, output: &mut String, handler: &Handler) -> Result<
     write!(output, "\"{name}\" {declared}")?;
     add_texts(output, "texts", handler.texts())?;
     add_texts(output, "calls", handler.calls())?;
-    add_code(alloc, output, handler.code())
+    add_code(alloc, output, handler.code().instrs())
 }
 
 fn add_all(alloc: Global, output: &mut String, handlers: &[Handler]) -> Result<(), NoMemory> {
@@ -113,6 +113,7 @@ fn code_fault(alloc: Global, failure: Failure<CodeFault>) -> Result<String, NoMe
         CodeFault::BadLength => {}
         CodeFault::BadOpcode(place) => write!(output, " at {place}")?,
         CodeFault::BadOperand(place) => write!(output, " at {place}")?,
+        CodeFault::BadBlock(place) => write!(output, " at {place}")?,
     }
     Ok(output)
 }
@@ -141,20 +142,26 @@ fn decoded_text(alloc: Global, code: &[Instr]) -> Result<String, NoMemory> {
     Ok(output)
 }
 
-/// The instructions that hexadecimal digits encode, and the bytes that encode these again, or the first
-/// fault.
-pub(crate) fn code(alloc: Global, text: &str) -> Result<String, NoMemory> {
+// The code of these bytes: its instructions, and then its blocks.
+fn code_of(alloc: Global, bytes: &[u8], version: Version) -> Result<Code, Failure<CodeFault>> {
+    let instrs = decode(alloc, bytes, version)?;
+    Code::new(alloc, instrs, version)
+}
+
+/// The instructions of a version that hexadecimal digits encode, and the bytes that encode these again, or
+/// the first fault.
+pub(crate) fn code(alloc: Global, text: &str, version: Version) -> Result<String, NoMemory> {
     let Ok(bytes) = hex::decode(alloc, text) else {
         return String::from_str(alloc, "no digits");
     };
-    match decode(alloc, bytes.as_slice()) {
-        Ok(code) => decoded_text(alloc, code.as_slice()),
+    match code_of(alloc, bytes.as_slice(), version) {
+        Ok(code) => decoded_text(alloc, code.instrs()),
         Err(failure) => code_fault(alloc, failure),
     }
 }
 
 // A handler of this code, with `calls` names in its list of calls.
-fn handler_of(alloc: Global, calls: usize, code: Seq<Instr>) -> Result<Handler, NoMemory> {
+fn handler_of(alloc: Global, calls: usize, code: Code) -> Result<Handler, NoMemory> {
     let mut names = Seq::new(alloc);
     for _ in 0..calls {
         names.push(Text::from_str(alloc, "type")?)?;
@@ -191,7 +198,7 @@ pub(crate) fn callees(alloc: Global, calls: &str, text: &str) -> Result<String, 
         return String::from_str(alloc, "no digits");
     };
     let calls = calls.parse::<usize>().unwrap_or(0);
-    match decode(alloc, bytes.as_slice()) {
+    match code_of(alloc, bytes.as_slice(), Version::Two) {
         Ok(code) => callees_text(alloc, &handler_of(alloc, calls, code)?),
         Err(failure) => code_fault(alloc, failure),
     }

@@ -6,6 +6,7 @@ mod signatures;
 mod verifier;
 
 use kb_base::NoMemory;
+use kb_code::Version;
 pub use signatures::signature_text;
 use std::alloc::Global;
 use std::str;
@@ -22,12 +23,13 @@ fn run_text_case(alloc: Global, kind: &str, text: &str) -> Result<String, NoMemo
     match kind {
         "native" => signatures::declared(alloc, text),
         "arguments" => signatures::arguments(alloc, text),
-        "code" => handlers::code(alloc, text),
+        "code" => handlers::code(alloc, text, Version::One),
+        "code 2" => handlers::code(alloc, text, Version::Two),
         _ => run_callees(alloc, kind, text),
     }
 }
 
-/// The output of a case of kind `native`, `arguments`, `handlers`, `code`, `callees N` or `verify`.
+/// The output of a case of kind `native`, `arguments`, `handlers`, `code`, `code 2`, `callees N` or `verify`.
 pub fn run_case(alloc: Global, kind: &str, input: &[u8]) -> Result<String, NoMemory> {
     match kind {
         "handlers" => handlers::handlers(alloc, input),

@@ -23,15 +23,25 @@ pub fn callable_with(alloc: Global, handlers: &[Handler]) -> Result<Callable, No
     callable_of(alloc, NATIVES.as_slice(), &[], &[], handlers)
 }
 
-fn add_path(output: &mut String, path: &[Step]) -> Result<(), NoMemory> {
+// At most 8 blocks are nested.
+const NEST_LIMIT: usize = 8;
+
+fn add_path(output: &mut String, path: &[Step], nested: usize) -> Result<(), NoMemory> {
     let count = path.len();
     if count > PATH_LIMIT {
         return write!(output, " {count} steps");
     }
     for step in path {
         match step {
-            Step::Falls => output.push_str(" falls")?,
-            Step::Jumps => output.push_str(" jumps")?,
+            Step::Choice(false) => output.push_str(" falls")?,
+            Step::Choice(true) => output.push_str(" jumps")?,
+            Step::Turns(turn) => {
+                output.push_str(" turns(")?;
+                if nested < NEST_LIMIT {
+                    add_path(output, turn.as_slice(), nested + 1)?;
+                }
+                output.push_str(" )")?;
+            }
         }
     }
     Ok(())
@@ -43,7 +53,7 @@ fn refused_by(alloc: Global, fault: &VerifyFault) -> Result<String, NoMemory> {
     let name = fault_name(number);
     let mut output = format!(in alloc; "{number} {name} {place}")?;
     if let VerifyFault::OverBudget(path) = fault {
-        add_path(&mut output, path.as_slice())?;
+        add_path(&mut output, path.as_slice(), 0)?;
     }
     Ok(output)
 }

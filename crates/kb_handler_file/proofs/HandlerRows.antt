@@ -50,7 +50,7 @@ no_version : fault_of (codes "{\"handlers\":1}") ≡ 40
 unfolding serde_json_on_literals hex_on_literals list_of entry_of param_of signature_of handler_in instrs_of code_of instr_at
 no_version = refl
 
-another_version : fault_of (codes "{\"version\":2}") ≡ 41
+another_version : fault_of (codes "{\"version\":3}") ≡ 41
 unfolding serde_json_on_literals hex_on_literals list_of entry_of param_of signature_of handler_in instrs_of code_of instr_at
 another_version = refl
 
@@ -141,3 +141,20 @@ later_before_twice = refl
 first_handler : fault_of (codes "{\"version\":1,\"handlers\":[{\"command\":\"a\",\"budget\":1,\"depth\":1,\"code\":\"0\"},{\"command\":\"b\"}]}") ≡ 42
 unfolding serde_json_on_literals hex_on_literals list_of entry_of param_of signature_of handler_in instrs_of code_of instr_at
 first_handler = refl
+
+-- version 2 has blocks, and its faults of blocks come after those of instructions
+two : fault_of (codes "{\"version\":2,\"handlers\":[{\"command\":\"a\",\"budget\":1,\"depth\":1,\"code\":\"500002510000000000\"}]}") ≡ 0
+unfolding serde_json_on_literals hex_on_literals list_of entry_of param_of signature_of handler_in instrs_of code_of instr_at
+two = refl
+
+no_blocks_in_one : fault_of (codes "{\"version\":1,\"handlers\":[{\"command\":\"a\",\"budget\":1,\"depth\":1,\"code\":\"500002510000000000\"}]}") ≡ 51
+unfolding serde_json_on_literals hex_on_literals list_of entry_of param_of signature_of handler_in instrs_of code_of instr_at
+no_blocks_in_one = refl
+
+never_runs : fault_of (codes "{\"version\":2,\"handlers\":[{\"command\":\"a\",\"budget\":1,\"depth\":1,\"code\":\"510000500000\"}]}") ≡ 52
+unfolding serde_json_on_literals hex_on_literals list_of entry_of param_of signature_of handler_in instrs_of code_of instr_at
+never_runs = refl
+
+no_start : fault_of (codes "{\"version\":2,\"handlers\":[{\"command\":\"a\",\"budget\":1,\"depth\":1,\"code\":\"510000\"}]}") ≡ 53
+unfolding serde_json_on_literals hex_on_literals list_of entry_of param_of signature_of handler_in instrs_of code_of instr_at
+no_start = refl

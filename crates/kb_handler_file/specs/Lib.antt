@@ -5,3 +5,4 @@ pub mod Entry
 pub mod Limits
 pub mod Code
 pub mod HandlerFile
+pub mod Head

@@ -4,12 +4,13 @@ ghost use Rattle.std.specs.Result.{result_ok};
 ghost use Rattle.hex.specs.Hex.{decode_of};
 ghost use Rattle.kb_base.specs.Failure.{Gives};
 ghost use Rattle.kb_base.specs.Reading.{or_fault};
-ghost use Rattle.kb_handler_file.specs.Code.{bytes_in, instrs_of, code_in};
+ghost use Rattle.kb_code.specs.Code.{code_fault};
+ghost use Rattle.kb_handler_file.specs.Code.{bytes_in, instrs_of, formed, code_in};
 
 use crate::fault::HandlersFault;
 use hex::FromHexError;
 use kb_base::{Failure, Seq};
-use kb_code::{Instr, decode};
+use kb_code::{Code, Instr, Version, decode};
 use std::alloc::Global;
 
 /// The maximum number of instructions in a handler.
@@ -32,23 +33,47 @@ fn bytes_in(alloc: Global, text: &str) -> Result<Vec<u8>, Failure<HandlersFault>
 /// Decodes instructions. Errors: `TooLarge` for more than `INSTR_LIMIT` instructions, `Code`, and
 /// `NoMemory`.
 #[tactic(auto, unfolding(crate::specs::Code::instrs_of))]
-fn instrs_of(alloc: Global, bytes: &[u8]) -> Result<Seq<Instr>, Failure<HandlersFault>>
-    ensures { Gives (λ code. code) result (instrs_of bytes.now) }
+fn instrs_of(
+    alloc: Global,
+    bytes: &[u8],
+    version: Version,
+) -> Result<Seq<Instr>, Failure<HandlersFault>>
+    ensures { Gives (λ instrs. instrs) result (instrs_of version bytes.now) }
 {
     if bytes.len() % INSTR_BYTES == 0 && bytes.len() / INSTR_BYTES > INSTR_LIMIT {
         return Err(Failure::Fault(HandlersFault::TooLarge));
     }
-    match decode(alloc, bytes) {
+    match decode(alloc, bytes, version) {
+        Ok(instrs) => Ok(instrs),
+        Err(Failure::Fault(fault)) => Err(Failure::Fault(HandlersFault::Code(fault))),
+        Err(Failure::NoMemory) => Err(Failure::NoMemory),
+    }
+}
+
+/// The code of these instructions. Errors: `Code` and `NoMemory`.
+fn formed(
+    alloc: Global,
+    instrs: Seq<Instr>,
+    version: Version,
+) -> Result<Code, Failure<HandlersFault>>
+    ensures { Gives (λ code. code) result (formed instrs (code_fault version instrs)) }
+{
+    match Code::new(alloc, instrs, version) {
         Ok(code) => Ok(code),
         Err(Failure::Fault(fault)) => Err(Failure::Fault(HandlersFault::Code(fault))),
         Err(Failure::NoMemory) => Err(Failure::NoMemory),
     }
 }
 
-/// Decodes the instructions of a hexadecimal text. Errors: `BadHex`, `TooLarge`, `Code` and `NoMemory`.
-pub(crate) fn read_code(alloc: Global, text: &str) -> Result<Seq<Instr>, Failure<HandlersFault>>
-    ensures { Gives (λ code. code) result (code_in text.now) }
+/// Decodes the code of a hexadecimal text. Errors: `BadHex`, `TooLarge`, `Code` and `NoMemory`.
+pub(crate) fn read_code(
+    alloc: Global,
+    text: &str,
+    version: Version,
+) -> Result<Code, Failure<HandlersFault>>
+    ensures { Gives (λ code. code) result (code_in version text.now) }
 {
     let bytes = bytes_in(alloc, text)?;
-    instrs_of(alloc, bytes.as_slice())
+    let instrs = instrs_of(alloc, bytes.as_slice(), version)?;
+    formed(alloc, instrs, version)
 }

@@ -19,7 +19,7 @@ pub enum HandlersFault {
     /// The file has too many handlers, or a handler exceeds a limit.
     #[error("a limit is passed")]
     TooLarge,
-    /// The bytes of a handler's code cannot be decoded (50 to 52).
+    /// The bytes of a handler's code cannot be decoded (50 to 52), or its blocks are not well formed (53).
     #[error("{0}")]
     Code(CodeFault),
 }
@@ -28,7 +28,7 @@ impl HandlersFault {
     ghost use Rattle.std.specs.Prelude.{◌≡◌};
     ghost use Rattle.kb_handler_file.specs.Fault.{number_of};
 
-    /// The fault's number in traces and messages: 40 to 44, or 50 to 52.
+    /// The fault's number in traces and messages: 40 to 44, or 50 to 53.
     pub fn number(self) -> u32
         ensures { result ≡ number_of self }
     {

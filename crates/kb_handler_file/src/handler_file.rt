@@ -5,7 +5,8 @@ ghost use Rattle.kb_base.specs.declared.failure.Failure.TheVariants.{NoMemory};
 ghost use Rattle.kb_base.specs.Failure.{Gives};
 ghost use Rattle.kb_base.specs.Reading.{seen};
 ghost use Rattle.kb_json.specs.Parts.{listed};
-ghost use Rattle.kb_handler_file.specs.HandlerFile.{head_of, list_in, list_of, handlers_of};
+ghost use Rattle.kb_handler_file.specs.HandlerFile.{head_of, list_in, list_of, handlers_of, version_of};
+ghost use Rattle.kb_handler_file.specs.Head.{parts_of};
 ghost use Rattle.kb_handler_file.specs.HandlerFile.{each_read, code_within, handler_by, handler_in};
 ghost use Rattle.kb_handler_file.specs.HandlerFile.{handler_of};
 
@@ -15,7 +16,7 @@ use crate::fault::HandlersFault;
 use crate::limits::{few_texts, signature_of};
 use crate::names::repeats;
 use kb_base::{Failure, Seq, Text};
-use kb_code::{Handler, Instr};
+use kb_code::{Code, Handler, Version};
 use kb_core::Signature;
 use kb_json::{FileFault, elements_in, members_in, take_member};
 use serde_json::{Map, Value};
@@ -37,18 +38,18 @@ impl HandlerFile {
     ///   "budget": 1004, "depth": 1, "texts": ["hi"], "calls": ["type"], "code": "010000300000000000"}]}
     /// ```
     ///
-    /// `params`, `texts` and `calls` are optional and default to empty lists. `code` is hexadecimal text.
+    /// Version 2 has repeated blocks. `params`, `texts` and `calls` are optional and default to empty lists. `code` is hexadecimal text.
     /// Other members are ignored. Texts are moved out of the value.
     ///
     /// Errors, in this order:
     ///
     /// 1. For the file, decided without allocating: `Shape` if the value is not an object, `version` is not
-    ///    1, or `handlers` is not a list (40 for a missing member, otherwise 41). Then `TooLarge` (44) for
+    ///    1 or 2, or `handlers` is not a list (40 for a missing member, otherwise 41). Then `TooLarge` (44) for
     ///    more than 1,000 handlers.
     /// 2. For the first invalid handler: `Shape` (41) if it is not an object; `Shape` (40, 41) for a member,
     ///    in the order above; `TooLarge` for more than 8 parameters, a budget outside 1 to 1,000,000,000, a
     ///    depth outside 1 to 64, more than 1,000 texts or more than 1,000 calls; `BadHex` (42); `Code` (50)
-    ///    for a bad length; `TooLarge` for more than 10,000 instructions; `Code` (51, 52).
+    ///    for a bad length; `TooLarge` for more than 10,000 instructions; `Code` (51, 52, and then 53).
     /// 3. `DuplicateHandler` (43) if two handlers have the same command.
     ///
     /// `NoMemory` at any point after the first step.
@@ -56,8 +57,8 @@ impl HandlerFile {
         ensures handlers { Gives (λ handlers. handlers) result (handlers_of (view value)) }
         ensures memory { IfErr result (λ failure. failure ≡ NoMemory → IsOk (head_of (view value))) }
     {
-        let elements = read_head(value)?;
-        let handlers = read_handlers(alloc, elements)?;
+        let Head { version, elements } = read_head(value)?;
+        let handlers = read_handlers(alloc, elements, version)?;
         if repeats(alloc, handlers.as_slice())? {
             return Err(Failure::Fault(HandlersFault::DuplicateHandler));
         }
@@ -65,62 +66,83 @@ impl HandlerFile {
     }
 }
 
-/// The elements of the list of handlers. Errors: `Shape` and `TooLarge`.
-#[tactic(auto, using(kb_json::proofs::PartsLemmas::as_many))]
-fn read_head(value: Value) -> Result<Vec<Value>, HandlersFault>
-    ensures { seen (λ elements. listed (items_view elements.items)) result ≡ head_of (view value) }
-{
-    let elements = read_list(value)?;
-    if elements.len() > HANDLER_LIMIT {
-        return Err(HandlersFault::TooLarge);
-    }
-    Ok(elements)
+/// The version of a file, and the elements of its list of handlers.
+#[derive(Drop)]
+struct Head {
+    version: Version,
+    elements: Vec<Value>,
 }
 
-/// The elements of the list of handlers, without the limit. Errors: `MissingMember` and `WrongShape`.
+/// The version and the list of handlers. Errors: `Shape` and `TooLarge`.
+#[tactic(auto, using(kb_json::proofs::PartsLemmas::as_many))]
+fn read_head(value: Value) -> Result<Head, HandlersFault>
+    ensures { seen parts_of result ≡ head_of (view value) }
+{
+    let head = read_list(value)?;
+    if head.elements.len() > HANDLER_LIMIT {
+        return Err(HandlersFault::TooLarge);
+    }
+    Ok(head)
+}
+
+/// The version and the list of handlers, without the limit. Errors: `MissingMember` and `WrongShape`.
 #[tactic(auto, unfolding(crate::specs::HandlerFile::list_of))]
-fn read_list(value: Value) -> Result<Vec<Value>, FileFault>
-    ensures { seen (λ elements. listed (items_view elements.items)) result ≡ list_of (view value) }
+fn read_list(value: Value) -> Result<Head, FileFault>
+    ensures { seen parts_of result ≡ list_of (view value) }
 {
     let mut members = members_in(value).ok_or(FileFault::WrongShape)?;
     list_in(&mut members)
 }
 
-/// Checks the version, and takes the list of handlers out of the members of a file. Errors:
-/// `MissingMember` and `WrongShape`.
-fn list_in(members: &mut Map<String, Value>) -> Result<Vec<Value>, FileFault>
-    ensures { seen (λ elements. listed (items_view elements.items)) result
-        ≡ list_in (members_view members.old.entries) }
+/// Takes the version and the list of handlers out of the members of a file. Errors: `MissingMember` and
+/// `WrongShape`.
+fn list_in(members: &mut Map<String, Value>) -> Result<Head, FileFault>
+    ensures { seen parts_of result ≡ list_in (members_view members.old.entries) }
 {
-    let version = required_whole(take_member(members, "version"))?;
-    if version != 1 {
-        return Err(FileFault::WrongShape);
-    }
+    let number = required_whole(take_member(members, "version"))?;
+    let version = version_of(number).ok_or(FileFault::WrongShape)?;
     let handlers = take_member(members, "handlers").ok_or(FileFault::MissingMember)?;
-    elements_in(handlers).ok_or(FileFault::WrongShape)
+    let elements = elements_in(handlers).ok_or(FileFault::WrongShape)?;
+    Ok(Head { version, elements })
+}
+
+/// The version that a number is.
+fn version_of(number: i64) -> Option<Version>
+    ensures { result ≡ version_of number }
+{
+    match number {
+        1 => Some(Version::One),
+        2 => Some(Version::Two),
+        _ => None,
+    }
 }
 
 /// Reads all handlers. Errors: the fault of the first invalid one, or `NoMemory`.
 fn read_handlers(
     alloc: Global,
     elements: Vec<Value>,
+    version: Version,
 ) -> Result<Seq<Handler>, Failure<HandlersFault>>
     ensures { Gives (λ handlers. handlers) result
-        (each_read handler_of (listed (items_view elements.items))) }
+        (each_read (handler_of version) (listed (items_view elements.items))) }
 {
     let mut handlers = Seq::new(alloc);
     for element in elements {
-        handlers.push(read_handler(alloc, element)?)?;
+        handlers.push(read_handler(alloc, element, version)?)?;
     }
     Ok(handlers)
 }
 
 /// Reads a handler. Errors: as for `HandlerFile::read`, or `NoMemory`.
-fn read_handler(alloc: Global, element: Value) -> Result<Handler, Failure<HandlersFault>>
-    ensures { Gives (λ handler. handler) result (handler_of (view element)) }
+fn read_handler(
+    alloc: Global,
+    element: Value,
+    version: Version,
+) -> Result<Handler, Failure<HandlersFault>>
+    ensures { Gives (λ handler. handler) result (handler_of version (view element)) }
 {
     match read_entry(alloc, element) {
-        Ok(entry) => handler_in(alloc, entry),
+        Ok(entry) => handler_in(alloc, entry, version),
         Err(Failure::Fault(shape)) => Err(Failure::Fault(HandlersFault::Shape(shape))),
         Err(Failure::NoMemory) => Err(Failure::NoMemory),
     }
@@ -128,8 +150,12 @@ fn read_handler(alloc: Global, element: Value) -> Result<Handler, Failure<Handle
 
 /// Makes a handler from its members. Errors: `TooLarge`, `BadHex`, `Code` and `NoMemory`.
 #[tactic(auto, unfolding(crate::specs::HandlerFile::handler_in))]
-fn handler_in(alloc: Global, entry: Entry) -> Result<Handler, Failure<HandlersFault>>
-    ensures { Gives (λ handler. handler) result (handler_in entry) }
+fn handler_in(
+    alloc: Global,
+    entry: Entry,
+    version: Version,
+) -> Result<Handler, Failure<HandlersFault>>
+    ensures { Gives (λ handler. handler) result (handler_in version entry) }
 {
     let Entry { declared, written } = entry;
     let Declared {
@@ -139,7 +165,7 @@ fn handler_in(alloc: Global, entry: Entry) -> Result<Handler, Failure<HandlersFa
         depth,
     } = declared;
     let signature = signature_of(params, budget, depth).ok_or(HandlersFault::TooLarge)?;
-    handler_by(alloc, command, signature, written)
+    handler_by(alloc, command, signature, written, version)
 }
 
 /// Makes a handler with this command and signature. Errors: as for `code_within`.
@@ -148,20 +174,25 @@ fn handler_by(
     command: Text,
     signature: Signature,
     written: Written,
+    version: Version,
 ) -> Result<Handler, Failure<HandlersFault>>
     requires depth { 1 ≤ signature.depth }
-    ensures { Gives (λ handler. handler) result (handler_by command signature written) }
+    ensures { Gives (λ handler. handler) result (handler_by version command signature written) }
 {
-    let code = code_within(alloc, &written)?;
+    let code = code_within(alloc, &written, version)?;
     Ok(Handler::new(command, signature, written.texts, written.calls, code))
 }
 
 /// Decodes the code, after checking the number of texts and calls. Errors: `TooLarge`, `BadHex`, `Code`
 /// and `NoMemory`.
-fn code_within(alloc: Global, written: &Written) -> Result<Seq<Instr>, Failure<HandlersFault>>
-    ensures { Gives (λ code. code) result (code_within written.now) }
+fn code_within(
+    alloc: Global,
+    written: &Written,
+    version: Version,
+) -> Result<Code, Failure<HandlersFault>>
+    ensures { Gives (λ code. code) result (code_within version written.now) }
 {
     few_texts(&written.texts)?;
     few_texts(&written.calls)?;
-    read_code(alloc, written.code.as_str())
+    read_code(alloc, written.code.as_str(), version)
 }

@@ -56,6 +56,7 @@ fn has_operand(instr: Instr) -> bool {
             | Instr::JumpIfFalse(_)
             | Instr::Call(_)
             | Instr::Context(_)
+            | Instr::Repeat(_)
     )
 }
 
@@ -86,5 +87,7 @@ fn name_of(instr: Instr) -> &'static str {
         Instr::Context(_) => "CONTEXT",
         Instr::Before => "BEFORE",
         Instr::After => "AFTER",
+        Instr::Repeat(_) => "REPEAT",
+        Instr::End => "END",
     }
 }

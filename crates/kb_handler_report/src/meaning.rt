@@ -18,6 +18,7 @@ pub(crate) fn meaning_of(number: u32) -> &'static str {
         50 => "the code of a handler is no whole number of instructions, of three bytes each",
         51 => "the code of a handler has an opcode that no instruction has",
         52 => "an instruction of a handler has an operand that it may not have",
+        53 => "the blocks of a handler are not well formed",
         90 => "an extension that it depends on isn't given before it",
         91 => "an extension that is given before it has its identifier",
         _ => "it isn't as it should be",
@@ -37,12 +38,22 @@ pub(crate) fn defect_sentence(
         Defect::WrongArgument => {
             "A value that it hands over is of another kind than the command's parameter takes."
         }
-        Defect::BadJump => "It leads to no later place of the code.",
+        Defect::BadJump => "It leads to no later place of the code in its own block.",
         Defect::FallsOff => falls_off_sentence(instr),
-        Defect::ShapesDiffer => {
+        Defect::ShapesDiffer => shapes_sentence(instr),
+        Defect::TooHigh => "More than 64 values would stand on the stack behind it.",
+    }
+}
+
+/// A sentence on ways that leave different values. An `END` leads to the place after its `REPEAT` too.
+fn shapes_sentence(instr: Option<Instr>) -> &'static str {
+    match instr {
+        Some(Instr::End) => {
+            "Two ways lead here, or an iteration of the block ends, and leave other kinds of values on the stack than stand behind its REPEAT, or another number of them."
+        }
+        _ => {
             "Two ways lead here, and leave other kinds of values on the stack, or another number of them."
         }
-        Defect::TooHigh => "More than 64 values would stand on the stack behind it.",
     }
 }
 

@@ -2,11 +2,12 @@
 ghost use Rattle.kb_handler_report.specs.Judgement.{IsJudged};
 ghost use Rattle.kb_verify.specs.Faults.{IsFault};
 ghost use Rattle.kb_verify.specs.Paths.{IsOverBudget};
+ghost use Rattle.kb_verify.specs.Route.{route_of};
 
 use crate::instruction::{Spelled, callee_name};
 use crate::judgement::Judgement;
 use crate::meaning::defect_sentence;
-use crate::path::{Visit, visits_of};
+use crate::path::{Listing, Visit, visits_of};
 use kb_base::{NoMemory, fault_name};
 use kb_code::{Handler, Instr};
 use kb_verify::{Callable, Step, VerifyFault};
@@ -78,7 +79,7 @@ fn refusal(alloc: Global, handler: &Handler, fault: &VerifyFault) -> Result<Stri
 
 /// The instruction at a place, if there is one.
 fn instr_at(handler: &Handler, place: usize) -> Option<Instr> {
-    handler.code().get(place).copied()
+    handler.code().instrs().get(place).copied()
 }
 
 /// Adds a line on a call at a place that nests too deep.
@@ -115,7 +116,8 @@ fn depth_called(callable: &Callable, handler: &Handler, place: usize) -> Option<
     }
 }
 
-/// Adds a path that costs too much: each of its places with its cost, and the sum.
+/// Adds a path that costs too much: each of its places with its cost and how often the path comes there,
+/// and the cost of the path.
 fn add_path(
     alloc: Global,
     callable: &Callable,
@@ -123,25 +125,33 @@ fn add_path(
     path: &[Step],
     said: &mut String,
 ) -> Result<(), NoMemory>
-    requires { IsOverBudget callable.now handler.now path.now }
+    requires { IsOverBudget callable.now handler.now (route_of path.now) }
 {
     let budget = handler.signature().budget();
     write!(
         said,
         "    A path costs more than the handler's budget of {budget}:\n"
     )?;
-    let mut sum = 0u64;
-    for visit in visits_of(alloc, callable, handler, path)?.as_slice() {
+    let Listing { visits, cost } = visits_of(alloc, callable, handler, path)?;
+    for visit in visits.as_slice() {
         add_visit(handler, visit, said)?;
-        sum = sum.saturating_add(visit.cost);
     }
-    write!(said, "        in all: {sum}\n")
+    if cost == u64::MAX {
+        write!(said, "        in all: {cost} or more\n")
+    } else {
+        write!(said, "        in all: {cost}\n")
+    }
 }
 
 /// Adds a place of a path with its cost.
 fn add_visit(handler: &Handler, visit: &Visit, said: &mut String) -> Result<(), NoMemory> {
     let place = visit.place;
     let cost = visit.cost;
+    let times = visit.times;
     let spelled = Spelled::new(handler, visit.instr);
-    write!(said, "        place {place}: {cost} for {spelled}\n")
+    if times == 1 {
+        write!(said, "        place {place}: {cost} for {spelled}\n")
+    } else {
+        write!(said, "        place {place}: {cost} for {spelled}, {times} times\n")
+    }
 }

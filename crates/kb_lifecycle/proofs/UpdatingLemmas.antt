@@ -17,38 +17,26 @@ use Rattle.kb_load_commands.specs.Verified.{AllVerified, FirstIsRejected, IsVeri
 use Rattle.kb_load_commands.specs.declared.verifying.Rejection.{Rejection}
 use Rattle.kb_registry.specs.Live.{Live}
 use Rattle.kb_verify.proofs.Decides.{accepted_or_faulty}
-use Rattle.kb_verify.proofs.Refutes.{fault_refutes, fault_unique}
+use Rattle.kb_verify.proofs.Refutes.{fault_refutes, refused_not, refused_number}
 use Rattle.kb_verify.specs.Accepted.{AreCallees, AreDeclared, CheckedHandler, IsAccepted}
 use Rattle.kb_verify.specs.Callable.{Commands}
-use Rattle.kb_verify.specs.Faults.{IsDecided, IsFault, IsSameFault}
+use Rattle.kb_verify.specs.Faults.{IsDecided, IsFault}
 use Rattle.kb_verify.specs.declared.callees.Callee.{Callee}
 use Rattle.kb_verify.specs.declared.fault.VerifyFault.{VerifyFault}
-use Rattle.kb_verify.specs.declared.fault.VerifyFault.TheVariants.{Wrong, OverBudget, OverDepth}
 use Rattle.kb_lifecycle.specs.Updating.{callee_at, checked_by, checked_unless, code_of, fault_in, first_refusal}
-use Rattle.kb_lifecycle.specs.Updating.{handler_refusal, is_verified, refused_command, rejected_by, with_callees}
+use Rattle.kb_lifecycle.specs.Updating.{handler_refusal, is_verified, refusal_of, refused_command, rejected_by}
+use Rattle.kb_lifecycle.specs.Updating.{with_callees}
 
 -- ---- one handler
-
-same_rejection : (h : HandlerData) (a b : VerifyFault) → IsSameFault a b → rejection h a ≡ rejection h b
-same_rejection h (Wrong d p) (Wrong e q) same =
-    ap (λ d. rejection h (Wrong d p)) same.0 ∙ ap (λ p. rejection h (Wrong e p)) same.1
-same_rejection h (Wrong d p) (OverBudget path) same = absurd same
-same_rejection h (Wrong d p) (OverDepth q) same = absurd same
-same_rejection h (OverBudget path) (Wrong d p) same = absurd same
-same_rejection h (OverBudget path) (OverBudget other) same = refl
-same_rejection h (OverBudget path) (OverDepth q) same = absurd same
-same_rejection h (OverDepth p) (Wrong d q) same = absurd same
-same_rejection h (OverDepth p) (OverBudget path) same = absurd same
-same_rejection h (OverDepth p) (OverDepth q) same = ap (λ p. rejection h (OverDepth p)) same
 
 module _ (commands : Commands) (h : HandlerData) where
   accepted_none : IsAccepted commands h → handler_refusal commands h ≡ None
   unfolding handler_refusal
   accepted_none accepted = by (accepted_or_faulty commands h)
     where
-      by : (d : IsDecided commands h) → option_map (λ fault. refused_command (rejection h fault)) (fault_in commands h d) ≡ None
+      by : (d : IsDecided commands h) → option_map (refusal_of h) (fault_in commands h d) ≡ None
       by (inl other) = refl
-      by (inr faulty) = absurd (fault_refutes commands h (Fault faulty.0) faulty.1 tt accepted)
+      by (inr refused) = absurd (refused_not commands h refused accepted)
 
   faulty_some : (fault : VerifyFault) → IsFault commands h fault →
       handler_refusal commands h ≡ Some (refused_command (rejection h fault))
@@ -56,10 +44,9 @@ module _ (commands : Commands) (h : HandlerData) where
   faulty_some fault is = by (accepted_or_faulty commands h)
     where
       by : (d : IsDecided commands h) →
-          option_map (λ fault. refused_command (rejection h fault)) (fault_in commands h d) ≡ Some (refused_command (rejection h fault))
+          option_map (refusal_of h) (fault_in commands h d) ≡ Some (refused_command (rejection h fault))
       by (inl accepted) = absurd (fault_refutes commands h (Fault fault) is tt accepted)
-      by (inr faulty) =
-          ap (λ r. Some (refused_command r)) (same_rejection h faulty.0 fault (fault_unique commands h faulty.0 fault faulty.1 is))
+      by (inr refused) = ap (λ n. Some (refusal_of h n)) (refused_number commands h refused fault is)
 
   -- the callees are those at the called indexes
   declared_are : (callees : List Callee) → AreDeclared commands h callees →

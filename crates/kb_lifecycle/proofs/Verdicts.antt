@@ -18,7 +18,7 @@ use Rattle.kb_files.specs.declared.extension_file.Extension.{Extension}
 use Rattle.kb_handler_table.specs.Codes.{CodesData, checked}
 use Rattle.kb_handler_table.specs.Live.{handlers_of}
 use Rattle.kb_load_commands.specs.Callable.{callable_of}
-use Rattle.kb_load_commands.specs.Verified.{IsVerified, rejection}
+use Rattle.kb_load_commands.specs.Verified.{IsVerified}
 use Rattle.kb_registry.specs.Live.{Live}
 use Rattle.kb_soundness.proofs.Loads.{both_none}
 use Rattle.kb_verify.proofs.Decides.{accepted_or_faulty}
@@ -27,7 +27,7 @@ use Rattle.kb_verify.specs.Callable.{Commands, declaration_at}
 use Rattle.kb_verify.specs.Faults.{IsDecided}
 use Rattle.kb_verify.specs.declared.callees.Callee.{Callee}
 use Rattle.kb_lifecycle.specs.Updating.{callee_at, checked_by, checked_unless, code_of, fault_in, first_refusal}
-use Rattle.kb_lifecycle.specs.Updating.{refused_command}
+use Rattle.kb_lifecycle.specs.Updating.{refusal_of}
 use Rattle.kb_lifecycle.specs.Updating.{handler_refusal, is_verified, updated_code, with_callees}
 use Rattle.kb_lifecycle.proofs.Settles.{called}
 use Rattle.kb_lifecycle.proofs.UpdatingLemmas.{checked_code}
@@ -39,7 +39,7 @@ module _ (commands : Commands) where
   unfolding handler_refusal
   accepted_of h none = by (accepted_or_faulty commands h) none
     where
-      by : (d : IsDecided commands h) → option_map (λ fault. refused_command (rejection h fault)) (fault_in commands h d) ≡ None →
+      by : (d : IsDecided commands h) → option_map (refusal_of h) (fault_in commands h d) ≡ None →
           IsAccepted commands h
       by (inl accepted) e = accepted
       by (inr faulty) e = absurd (cc e)

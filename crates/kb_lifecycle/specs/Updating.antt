@@ -17,32 +17,32 @@ use Rattle.kb_files.specs.declared.extension_file.Extension.{Extension}
 use Rattle.kb_handler_table.specs.Codes.{CodesData, checked, raw}
 use Rattle.kb_handler_table.specs.Live.{group_of, handlers_of}
 use Rattle.kb_load_commands.specs.Callable.{callable_of}
-use Rattle.kb_load_commands.specs.Verified.{rejection}
 use Rattle.kb_load_commands.specs.declared.verifying.Rejection.{Rejection}
 use Rattle.kb_registry.specs.Live.{Live}
 use Rattle.kb_verify.proofs.Decides.{accepted_or_faulty}
 use Rattle.kb_verify.specs.Accepted.{CheckedHandler}
 use Rattle.kb_verify.specs.Callable.{Commands, declaration_at}
-use Rattle.kb_verify.specs.Faults.{IsDecided}
+use Rattle.kb_verify.specs.Faults.{IsDecided, number_in}
 use Rattle.kb_verify.specs.declared.callees.Callee.{Callee}
-use Rattle.kb_verify.specs.declared.fault.VerifyFault.{VerifyFault}
 
 -- ---- handlers that are verified
 
--- the fault of a handler, by whether it is accepted or has a fault
-abbrev pub fault_in : (commands : Commands) (h : HandlerData) → IsDecided commands h → Option VerifyFault
+-- the number of the fault of a handler, by whether it is accepted or has a fault
+abbrev pub fault_in : (commands : Commands) (h : HandlerData) → IsDecided commands h → Option ℕ
 fault_in commands h (inl accepted) = None
-fault_in commands h (inr faulty) = Some faulty.0
+fault_in commands h (inr refused) = Some (number_in refused)
 
 -- the refusal of a handler that isn't accepted: the number of its fault, and its command
 abbrev pub refused_command : Rejection → Refusal
 refused_command r = record { number = r.number; detail = Some r.command }
 
+-- the refusal of a handler, by the number of its fault
+abbrev pub refusal_of : HandlerData → ℕ → Refusal
+refusal_of h number = record { number = number; detail = Some h.command }
+
 -- the refusal of a handler with these callable commands, if it isn't accepted
 unfoldable pub handler_refusal : Commands → HandlerData → Option Refusal
-handler_refusal commands h =
-    option_map (λ fault. refused_command (rejection h fault))
-    (fault_in commands h (accepted_or_faulty commands h))
+handler_refusal commands h = option_map (refusal_of h) (fault_in commands h (accepted_or_faulty commands h))
 
 -- the refusal of the first handler that isn't accepted
 abbrev pub first_refusal : Commands → List HandlerData → Option Refusal

@@ -85,7 +85,7 @@ pub(crate) fn jumps_of(path: &[Step]) -> u32 {
     let mut jumps = 0u32;
     let mut bit = 1u32;
     for step in path {
-        if let Step::Jumps = step {
+        if let Step::Choice(true) = step {
             jumps |= bit;
         }
         bit = bit.wrapping_mul(2);

@@ -22,7 +22,7 @@ use Rattle.kb_soundness.specs.Sound.{live_declaration_at}
 use Rattle.kb_soundness.specs.Callees.{VerifiedByCallees}
 use Rattle.kb_soundness.proofs.Tests.{or_false}
 use Rattle.kb_soundness.proofs.Found.{found_all}
-use Rattle.kb_soundness.proofs.Paths.{reached}
+use Rattle.kb_verify.proofs.Edges.{reach_within}
 
 call_inj : (m n : ℕ) → Some (Call m) ≡ Some (Call n) → m ≡ n
 call_inj m n e = cc
@@ -57,7 +57,7 @@ listed h ns p n below c = by (list_any (λ m. m == n) ns) refl
     by true is = is
     by false is =
         absurd (false≢true (sym (among h (λ m. m == n) (length h.code) ns below is p n
-        (reached h.code p c.reached) c) ∙ (Decides-eqb n n).1 refl))
+        (reach_within h.code p c.reached) c) ∙ (Decides-eqb n n).1 refl))
 
 -- a callee with an index, and its declaration
 record Of (commands : Commands) (h : HandlerData) (n : ℕ) (found : Option Callee) : Type 0 where

@@ -16,7 +16,7 @@ use Rattle.kb_registry.specs.declared.fault.RegistryFault.TheVariants.{InUse}
 use Rattle.kb_registry.specs.Live.{Live, Registered, natives_of, holder, holder_in, without, disposed}
 use Rattle.kb_registry.specs.Live.{disposal_fault_of, callee_by, table_of}
 use Rattle.kb_soundness.specs.Stays.{DisposedStaysSound}
-use Rattle.kb_soundness.proofs.Paths.{reached}
+use Rattle.kb_verify.proofs.Edges.{reach_within}
 use Rattle.kb_soundness.proofs.Callees.{among}
 use Rattle.kb_soundness.proofs.Stays.{declared_stays, coded_by, coded_live}
 
@@ -35,7 +35,7 @@ not_called native h p n name none c is =
     sym (ap (is_it native) (native_at h.calls n name is))
     ∙ among h (λ n. is_it native (get_or (target.natives_of h) n None)) (length h.code) (callees_of h)
     (all_called h)
-    none p n (reached h.code p c.reached) c
+    none p n (reach_within h.code p c.reached) c
 
 -- ---- natives
 

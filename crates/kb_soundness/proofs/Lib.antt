@@ -1,7 +1,8 @@
 pub mod Tests
 pub mod Shapes
 pub mod Moves
-pub mod Paths
+pub mod Homes
+pub mod Standing
 pub mod NeverStuck
 pub mod Starts
 pub mod Found

@@ -30,7 +30,8 @@ use Rattle.kb_vm.specs.declared.values.One.{One}
 use Rattle.kb_vm.specs.declared.values.One.TheVariants as one
 use Rattle.kb_vm.specs.declared.values.Two.{Two}
 use Rattle.kb_vm.specs.declared.values.Two.TheVariants as two
-use Rattle.kb_vm.specs.Effect.{Effect, Stop, Leave, Next, Goto, Enter, effect, pushed, pushed_at}
+use Rattle.kb_code.specs.Plain.{is_plain}
+use Rattle.kb_vm.specs.Effect.{Effect, Stop, Leave, Next, Goto, Open, Turn, Enter, effect, pushed, pushed_at}
 use Rattle.kb_vm.specs.Effect.{pushed_context, dropped, doubled, swapped, made, with_one, with_two, branched}
 use Rattle.kb_vm.specs.Effect.{topmost, entered, entered_live, called}
 use Rattle.kb_vm.specs.Values.{one_of, two_of}
@@ -47,6 +48,8 @@ Fits after (Next operands) = Fit after operands
 Fits after (Stop trap) = ⊥
 Fits after Leave = ⊥
 Fits after (Goto to operands) = ⊥
+Fits after (Open n operands) = ⊥
+Fits after (Turn operands) = ⊥
 Fits after (Enter name callee given operands) = ⊥
 
 push_fits : (k : Kind) (v : Arg) (ks after : List Kind) (operands : List Arg) → length after ≤ 64 →
@@ -224,14 +227,16 @@ pub record Calls (table : Table) (commands : Commands) (h : HandlerData) (after 
   pub given_fit : fits (declared_by callee).params given ≡ true
   pub kept : Fit after operands
 
--- it continues at an exit, with operands of these kinds
+-- it continues at an exit, opens a block or ends an iteration, with operands of these kinds
 abbrev pub Moves : Table → Commands → HandlerData → List Kind → ℕ → Instr → Effect → Type 0
 Moves table commands h after p x (Stop trap) = ⊥
 Moves table commands h after p x Leave = Unit {0}
 Moves table commands h after p x (Next operands) =
-    (is_exit (exits_of (suc p) x) (p + 1) ≡ true) × Fit after operands
+    (is_plain x ≡ true) × (is_exit (exits_of (suc p) x) (p + 1) ≡ true) × Fit after operands
 Moves table commands h after p x (Goto to operands) =
-    (is_exit (exits_of (suc p) x) to ≡ true) × Fit after operands
+    (is_plain x ≡ true) × (is_exit (exits_of (suc p) x) to ≡ true) × Fit after operands
+Moves table commands h after p x (Open n operands) = (x ≡ i.Repeat n) × Fit after operands
+Moves table commands h after p x (Turn operands) = (x ≡ i.End) × Fit after operands
 Moves table commands h after p x (Enter name callee given operands) =
     Calls table commands h after x name callee given operands
 
@@ -244,13 +249,15 @@ pub next_exit : (p : ℕ) → (p + 1 == suc p) ≡ true
 next_exit p = (Decides-eqb (p + 1) (suc p)).1 (omega arith)
 
 module _ (table : Table) (commands : Commands) (h : HandlerData) (after : List Kind) (p : ℕ) where
-  on : (x : Instr) (e : Effect) → is_exit (exits_of (suc p) x) (p + 1) ≡ true → Fits after e →
+  on : (x : Instr) (e : Effect) → is_plain x ≡ true → is_exit (exits_of (suc p) x) (p + 1) ≡ true → Fits after e →
       Moves table commands h after p x e
-  on x (Next operands) exit f = (exit, f)
-  on x (Stop trap) exit f = absurd f
-  on x Leave exit f = absurd f
-  on x (Goto to operands) exit f = absurd f
-  on x (Enter name callee given operands) exit f = absurd f
+  on x (Next operands) plain exit f = (plain, exit, f)
+  on x (Stop trap) plain exit f = absurd f
+  on x Leave plain exit f = absurd f
+  on x (Goto to operands) plain exit f = absurd f
+  on x (Open n operands) plain exit f = absurd f
+  on x (Turn operands) plain exit f = absurd f
+  on x (Enter name callee given operands) plain exit f = absurd f
 
   branch_moves : (to : ℕ) (ks : List Kind) (operands : List Arg) → without_one kind.Truth ks ≡ Ok after →
       Fit ks operands → Moves table commands h after p (i.JumpIfFalse to) (branched to operands)
@@ -262,8 +269,8 @@ module _ (table : Table) (commands : Commands) (h : HandlerData) (after : List K
     where
       by : (v : Arg) → is_of kind.Truth v ≡ true → Fit after operands →
           Moves table commands h after p (i.JumpIfFalse to) (branched to (v ∷ operands))
-      by (Truth true) e f = (or_left _ _ (next_exit p), f)
-      by (Truth false) e f = (or_right _ _ ((Decides-eqb to to).1 refl), f)
+      by (Truth true) e f = (refl, or_left _ _ (next_exit p), f)
+      by (Truth false) e f = (refl, or_right _ _ ((Decides-eqb to to).1 refl), f)
       by (Text text) e f = absurd (cc)
       by (Number n) e f = absurd (cc)
 
@@ -350,48 +357,52 @@ module _ (table : Table) (commands : Commands) (h : HandlerData) (after : List K
       Moves table commands h after p x (effect table h args core operands x)
   moves args core ks operands i.Return fa lives high e f = tt
   moves args core ks operands (i.Text n) fa lives high e f =
-      on (i.Text n) _ (next_exit p) (text_fits (slice_get h.texts n) ks after operands high e f)
+      on (i.Text n) _ refl (next_exit p) (text_fits (slice_get h.texts n) ks after operands high e f)
   moves args core ks operands (i.Num n) fa lives high e f =
-      on (i.Num n) _ (next_exit p) (push_fits kind.Number (Number (pos n)) ks after operands high e refl f)
+      on (i.Num n) _ refl (next_exit p) (push_fits kind.Number (Number (pos n)) ks after operands high e refl f)
   moves args core ks operands (i.Truth truth) fa lives high e f =
-      on (i.Truth truth) _ (next_exit p) (push_fits kind.Truth (Truth truth) ks after operands high e refl f)
-  moves args core ks operands (i.Arg n) fa lives high e f = on (i.Arg n) _ (next_exit p)
+      on (i.Truth truth) _ refl (next_exit p) (push_fits kind.Truth (Truth truth) ks after operands high e refl f)
+  moves args core ks operands (i.Arg n) fa lives high e f = on (i.Arg n) _ refl (next_exit p)
       (argument_fits h.signature.params args n
       (slice_get h.signature.params n) ks after operands fa refl high e f)
   moves args core ks operands i.Drop fa lives high e f =
-      on i.Drop _ (next_exit p) (drop_fits ks after operands e f)
+      on i.Drop _ refl (next_exit p) (drop_fits ks after operands e f)
   moves args core ks operands i.Dup fa lives high e f =
-      on i.Dup _ (next_exit p) (double_fits ks after operands high e f)
+      on i.Dup _ refl (next_exit p) (double_fits ks after operands high e f)
   moves args core ks operands i.Swap fa lives high e f =
-      on i.Swap _ (next_exit p) (swap_fits ks after operands e f)
+      on i.Swap _ refl (next_exit p) (swap_fits ks after operands e f)
   moves args core ks operands i.Add fa lives high e f =
-      on i.Add _ (next_exit p) (two_fits two.Add ks after operands e f)
+      on i.Add _ refl (next_exit p) (two_fits two.Add ks after operands e f)
   moves args core ks operands i.Sub fa lives high e f =
-      on i.Sub _ (next_exit p) (two_fits two.Sub ks after operands e f)
+      on i.Sub _ refl (next_exit p) (two_fits two.Sub ks after operands e f)
   moves args core ks operands i.Less fa lives high e f =
-      on i.Less _ (next_exit p) (two_fits two.Less ks after operands e f)
+      on i.Less _ refl (next_exit p) (two_fits two.Less ks after operands e f)
   moves args core ks operands i.Same fa lives high e f =
-      on i.Same _ (next_exit p) (two_fits two.Same ks after operands e f)
+      on i.Same _ refl (next_exit p) (two_fits two.Same ks after operands e f)
   moves args core ks operands i.Not fa lives high e f =
-      on i.Not _ (next_exit p) (one_fits one.Not ks after operands e f)
+      on i.Not _ refl (next_exit p) (one_fits one.Not ks after operands e f)
   moves args core ks operands i.Join fa lives high e f =
-      on i.Join _ (next_exit p) (two_fits two.Join ks after operands e f)
+      on i.Join _ refl (next_exit p) (two_fits two.Join ks after operands e f)
   moves args core ks operands i.Show fa lives high e f =
-      on i.Show _ (next_exit p) (one_fits one.Show ks after operands e f)
+      on i.Show _ refl (next_exit p) (one_fits one.Show ks after operands e f)
   moves args core ks operands i.Size fa lives high e f =
-      on i.Size _ (next_exit p) (one_fits one.Size ks after operands e f)
+      on i.Size _ refl (next_exit p) (one_fits one.Size ks after operands e f)
   moves args core ks operands i.IsTrue fa lives high e f =
-      on i.IsTrue _ (next_exit p) (one_fits one.IsTrue ks after operands e f)
+      on i.IsTrue _ refl (next_exit p) (one_fits one.IsTrue ks after operands e f)
   moves args core ks operands i.Number fa lives high e f =
-      on i.Number _ (next_exit p) (one_fits one.AsNumber ks after operands e f)
+      on i.Number _ refl (next_exit p) (one_fits one.AsNumber ks after operands e f)
   moves args core ks operands (i.Jump to) fa lives high e f =
-      ((Decides-eqb to to).1 refl, subst (λ ls. Fit ls operands) (ok_is ks after e) f)
+      (refl, (Decides-eqb to to).1 refl, subst (λ ls. Fit ls operands) (ok_is ks after e) f)
   moves args core ks operands (i.JumpIfFalse to) fa lives high e f = branch_moves to ks operands e f
   moves args core ks operands (i.Call n) fa lives high e f =
       call_moves n (declaration_at commands h n) ks operands refl lives e f
   moves args core ks operands (i.Context n) fa lives high e f =
-      on (i.Context n) _ (next_exit p) (context_fits core (slice_get h.texts n) ks after operands high e f)
+      on (i.Context n) _ refl (next_exit p) (context_fits core (slice_get h.texts n) ks after operands high e f)
   moves args core ks operands i.Before fa lives high e f =
-      on i.Before _ (next_exit p) (push_fits kind.Number _ ks after operands high e refl f)
+      on i.Before _ refl (next_exit p) (push_fits kind.Number _ ks after operands high e refl f)
   moves args core ks operands i.After fa lives high e f =
-      on i.After _ (next_exit p) (push_fits kind.Number _ ks after operands high e refl f)
+      on i.After _ refl (next_exit p) (push_fits kind.Number _ ks after operands high e refl f)
+  moves args core ks operands (i.Repeat n) fa lives high e f =
+      (refl, subst (λ ls. Fit ls operands) (ok_is ks after e) f)
+  moves args core ks operands i.End fa lives high e f =
+      (refl, subst (λ ls. Fit ls operands) (ok_is ks after e) f)

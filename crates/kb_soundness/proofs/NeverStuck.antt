@@ -1,7 +1,7 @@
 -- A verified handler never traps.
-use Rattle.std.proofs.Common.{◌≡◌, ◌<◌, ◌≤◌, ℕ, zero, suc, ◌+◌, ◌-◌, true, List, [], length, get_or, Option}
+use Rattle.std.proofs.Common.{◌≡◌, ◌<◌, ◌≤◌, ℕ, zero, suc, ◌+◌, ◌-◌, Bool, true, List, [], ◌∷◌, length, get_or, Option}
 use Rattle.std.proofs.Common.{Some, None, refl, sym, ap, ◌∙◌, subst, arith, if◌then◌else◌}
-use Rattle.std.specs.Prelude.{slice_get, option_map, option_and_then}
+use Rattle.std.specs.Prelude.{slice_get, option_map, option_and_then, nat_lt, ◌&&◌}
 use Rattle.std.specs.FinMap as map
 use Rattle.std.proofs.lemmas.Bool.{le-leb}
 use Rattle.std.proofs.lemmas.Option.{slice_get-get_or, slice_get_within}
@@ -11,25 +11,32 @@ use Rattle.kb_core.specs.Declaration.{Declaration}
 use Rattle.kb_core.specs.Signature.{fits}
 use Rattle.kb_code.specs.declared.instr.Instr.{Instr}
 use Rattle.kb_code.specs.declared.instr.Instr.TheVariants as i
+use Rattle.kb_code.specs.Blocks.{around_at, first_of, same_block, is_bad, IsFormed}
 use Rattle.kb_code.specs.Exits.{exits_of, is_exit}
+use Rattle.kb_code.specs.Plain.{is_plain}
+use Rattle.kb_code.proofs.BlockLemmas.{around_first, not_bad}
 use Rattle.kb_code.specs.Handler.{HandlerData}
-use Rattle.kb_code.specs.Reachable.{Follows, Reachable, first, onward}
+use Rattle.kb_code.specs.Reachable.{first}
 use Rattle.kb_code.specs.Commands.{Callee, Plain, Coded, Table, declared_by}
-use Rattle.kb_verify.specs.declared.fault.Step.{Step}
 use Rattle.kb_verify.specs.Callable.{Commands}
-use Rattle.kb_verify.specs.Paths.{budget_in, cost, Path}
-use Rattle.kb_verify.specs.Shapes.{IsRightAt}
+use Rattle.kb_verify.specs.Paths.{budget_in, cost}
+use Rattle.kb_verify.specs.Shapes.{HasShapesBelow}
+use Rattle.kb_verify.proofs.Arrivals.{cost_pos, right_at, checked_at}
+use Rattle.kb_verify.proofs.Checks.{plain_around}
+use Rattle.kb_verify.proofs.Edges.{equal, reach_within}
 use Rattle.kb_verify.specs.Accepted.{IsCallee}
 use Rattle.kb_vm.specs.declared.trap.Trap.{Trap}
 use Rattle.kb_vm.specs.declared.trap.Trap.TheVariants.{OutOfBudget, BadCode, WrongArgument}
-use Rattle.kb_vm.specs.Effect.{Effect, Stop, Leave, Next, Goto, Enter, effect}
+use Rattle.kb_vm.specs.Effect.{Effect, Stop, Leave, Next, Goto, Open, Turn, Enter, effect}
 use Rattle.kb_vm.specs.Meaning.{World, first_world, with_step, with_line, Answer, Done, Stuck, and_then}
-use Rattle.kb_vm.specs.Position.{Position, outset, moved, passed}
-use Rattle.kb_vm.specs.Meaning.{fetched, run_callee, follow, go, run, start_callee}
+use Rattle.kb_vm.specs.Position.{Position, standing, outset, moved, passed, entered, turned}
+use Rattle.kb_vm.specs.Meaning.{fetched, resumed, run_callee, follow, go, run, start_callee}
 use Rattle.kb_soundness.specs.Sound.{IsVerified, AllVerified, IsDone, NeverStuck, StartsNeverStuck}
 use Rattle.kb_soundness.proofs.Shapes.{Fit}
-use Rattle.kb_soundness.proofs.Moves.{Moves, Lives, next_exit, moves}
-use Rattle.kb_soundness.proofs.Paths.{checked, follows, cost_pos, path_pos, extend, reached, some_path}
+use Rattle.kb_soundness.proofs.Homes.{Home, out, within, some_home, home_free}
+use Rattle.kb_soundness.proofs.Moves.{Moves, Lives, moves}
+use Rattle.kb_soundness.proofs.Standing.{Stands, some_left, after, follows_here, goes_on_at, price_paid, has_room}
+use Rattle.kb_soundness.proofs.Standing.{opens_at, ends_at, turns_at, in_block}
 
 and_then_done : (a : Answer) (on : World → Answer) → IsDone a → ((w : World) → IsDone (on w)) →
     IsDone (and_then a on)
@@ -42,40 +49,34 @@ call_within : (commands : Commands) (h : HandlerData) (n : ℕ) (o : Option (Lis
 call_within commands h n None d is e = absurd (cc)
 call_within commands h n (Some name) d is e = slice_get_within h.calls n name is
 
--- each path from a place costs at most this
-abbrev Pays : Commands → HandlerData → ℕ → ℕ → Type 0
-Pays commands h p left = (steps : List Step) (c : ℕ) → Path commands h p steps c → c ≤ left
+true_and : (a b : Bool) → a ≡ true → b ≡ true → (a && b) ≡ true
+true_and a b e f = ap (λ x. x && b) e ∙ f
 
 module _ (table : Table) (all : AllVerified table) where
-  abbrev shape_at : (h : HandlerData) → IsVerified table h → ℕ → List Kind
-  shape_at h v = v.accepted.shapes.0
+  -- where a run of a verified handler stands
+  abbrev StandsAt : (h : HandlerData) → IsVerified table h → ℕ → Position → Type 0
+  StandsAt h v left at =
+      Stands v.commands h v.accepted.formed v.accepted.shapes.0 v.accepted.shapes.1 left at
 
   -- the claim for remaining budgets up to a bound
   abbrev Safe : ℕ → Type 0
-  Safe n = (h : HandlerData) (v : IsVerified table h) (args : List Arg) →
-      fits h.signature.params args ≡ true →
-      (left : ℕ) (at : Position) (w : World) → Reachable h.code at.place →
-      Fit (shape_at h v at.place) at.operands → Pays v.commands h at.place left → left < n →
+  Safe n = (h : HandlerData) (v : IsVerified table h) (args : List Arg) → fits h.signature.params args ≡ true →
+      (left : ℕ) (at : Position) (w : World) → StandsAt h v left at → left < n →
       IsDone (go n table h args left at w)
 
-  -- the facts at a place whose instruction is paid for
-  record Here (h : HandlerData) (v : IsVerified table h) (args : List Arg) (left p : ℕ)
-      (x : Instr) : Type 0 where
-    pub args_fit : fits h.signature.params args ≡ true
-    pub reachable : Reachable h.code p
-    pub at : slice_get h.code p ≡ Some x
-    pub right : IsRightAt v.commands h (shape_at h v) (length h.code) p x
-    pub pays : Pays v.commands h p (suc left)
-
-  -- the remaining budget pays for each path from the next place
-  pays_on : (h : HandlerData) (v : IsVerified table h) (args : List Arg) (left p q : ℕ) (x : Instr) →
-      Here h v args left p x → Follows h.code p q → (steps : List Step) (c : ℕ) →
-      Path v.commands h q steps c →
-      cost v.commands h x + c ≤ suc left
-  pays_on h v args left p q x here f steps c path =
-      let same : f.instr ≡ x = cc (f.at, here.at) in
-      let more = extend v.commands h p q c steps f path in
-      subst (λ y. cost v.commands h y + c ≤ suc left) same (here.pays more.0 _ more.1)
+  -- a start stands, with its budget
+  starts_at : (h : HandlerData) (v : IsVerified table h) → StandsAt h v h.signature.budget outset
+  starts_at h v =
+      let f = around_first h.code in
+      record {
+        reachable = first v.accepted.some_code;
+        fit = subst (λ ks. Fit ks []) (sym v.accepted.shapes.1.start) tt;
+        home = some_home f out;
+        pays = λ steps c m path home.
+            let l = v.accepted.within_budget steps c path in
+            let none = home_free (subst (λ a. Home v.commands h a [] m) f home) in
+            omega (arith, l, none);
+      }
 
   callee_done : (n : ℕ) → Safe n → (name : List ℕ) (callee : Callee) (given : List Arg) (w : World) →
       table name ≡ Some callee → fits (declared_by callee).params given ≡ true →
@@ -83,106 +84,145 @@ module _ (table : Table) (all : AllVerified table) where
       IsDone (run_callee (go n table) callee given w)
   callee_done n ih name (Plain native) given w is f lt = tt
   callee_done n ih name (Coded g) given w is f lt =
-      let v = all name g is in
-      ih g v given f g.signature.budget outset w (first v.accepted.some_code)
-      (subst (λ ks. Fit ks []) (sym v.accepted.shapes.1.start) tt) v.accepted.within_budget lt
+      let v = all name g is in ih g v given f g.signature.budget outset w (starts_at g v) lt
 
-  -- the step at an exit with operands that fit
-  goes_done : (n : ℕ) → Safe n → (h : HandlerData) (v : IsVerified table h) (args : List Arg) (left : ℕ)
-      (at : Position) (q : ℕ) (x : Instr) (operands : List Arg) (w : World) (here : Here h v args left at.place x) → left < n →
-      (is_exit (exits_of (suc at.place) x) q ≡ true) × Fit here.right.after operands →
-      (at.place < q) × IsDone (go n table h args left (moved at q operands) w)
-  goes_done n ih h v args left at q x operands w here lt m =
-      let f = follows v.commands h at.place q (shape_at h v at.place)
-      here.right.after x here.at here.right.is_right m.0 in (
-        f.later,
-        ih h v args here.args_fit left (moved at q operands) w (onward here.reachable f)
-            (subst (λ ks. Fit ks operands) (sym (here.right.flows q f.within f)) m.1)
-            (λ steps c path. let l = pays_on h v args left at.place q x here f steps c path in
-            let k = cost_pos v.commands h x in omega (arith, l, k)) lt,
-      )
+  module _ (n : ℕ) (ih : Safe n) (h : HandlerData) (v : IsVerified table h) (args : List Arg)
+      (fa : fits h.signature.params args ≡ true) (rest : ℕ) (at : Position) (s : StandsAt h v (suc rest) at)
+      (x : Instr) (is : slice_get h.code at.place ≡ Some x) (w : World) (lt : rest < n) where
+    abbrev formed : IsFormed h.code
+    formed = v.accepted.formed
 
-  follow_done : (n : ℕ) → Safe n → (h : HandlerData) (v : IsVerified table h) (args : List Arg) (left : ℕ)
-      (at : Position) (x : Instr) (w : World) (here : Here h v args left at.place x) → left < n → (e : Effect) →
-      Moves table v.commands h here.right.after at.place x e → IsDone (follow (go n table) h args left at w e)
-  follow_done n ih h v args left at x w here lt (Stop trap) m = absurd m
-  follow_done n ih h v args left at x w here lt Leave m = tt
-  follow_done n ih h v args left at x w here lt (Next operands) m =
-      (goes_done n ih h v args left at (at.place + 1) x operands w here lt m).1
-  follow_done n ih h v args left at x w here lt (Goto to operands) m =
-      let g = goes_done n ih h v args left at to x operands w here lt m in
-      subst (λ b. IsDone (if b then go n table h args left (moved at to operands) w else Stuck BadCode h.command at.place w))
-      (sym (le-leb _ _ g.0)) g.1
-  follow_done n ih h v args left at x w here lt (Enter name callee given operands) m =
-      let exit : is_exit (exits_of (suc at.place) x) (at.place + 1) ≡ true =
-      subst (λ y. is_exit (exits_of (suc at.place) y) (at.place + 1) ≡ true) (sym m.is_call) (next_exit at.place) in
-      let f = follows v.commands h at.place (at.place + 1) (shape_at h v at.place)
-      here.right.after x here.at here.right.is_right exit in
-      let r = onward here.reachable f in
-      let price : cost v.commands h x ≡ 1 + (declared_by callee).budget =
-      ap (cost v.commands h) m.is_call ∙ ap (λ o. 1 + budget_in o) m.declared in
-      let some = some_path v.commands h (shape_at h v) v.accepted.shapes.1 (length h.code) (at.place + 1)
-      (omega arith) r in
-      let l = pays_on h v args left at.place (at.place + 1) x here f some.0 some.1 some.2 in
-      let le : (declared_by callee).budget ≤ left = omega (arith, l, price) in
-      subst (λ b. IsDone (if b then and_then (run_callee (go n table) callee given (with_line name given w))
-      (λ u. go n table h args (left - (declared_by callee).budget) (passed at operands) u)
-      else Stuck OutOfBudget h.command at.place w)) (sym (le-leb _ _ le))
-      (and_then_done _ _
-      (callee_done n ih name callee given (with_line name given w) m.is_live m.given_fit
-      (omega (arith, le, lt)))
-      (λ u. ih h v args here.args_fit (left - (declared_by callee).budget) (passed at operands) u r
-      (subst (λ ks. Fit ks operands) (sym (here.right.flows (at.place + 1) f.within f)) m.kept)
-      (λ steps c path. let k = pays_on h v args left at.place (at.place + 1) x here f steps c path in
-      omega (arith, k, price))
-      (omega (arith, lt))))
+    abbrev shape : ℕ → List Kind
+    shape = v.accepted.shapes.0
+
+    abbrev has : HasShapesBelow v.commands h shape (length h.code)
+    has = v.accepted.shapes.1
+
+    abbrev behind : List Kind
+    behind = after v.commands h formed shape has rest at s x is
+
+    -- the run from a position
+    done_at : (next : Position) → StandsAt h v rest next → IsDone (go n table h args rest next w)
+    done_at next stands = ih h v args fa rest next w stands lt
+
+    -- the next place
+    at_next : (turns : List ℕ) (operands : List Arg) → StandsAt h v rest (standing (suc at.place) turns operands) →
+        IsDone (go n table h args rest (standing (at.place + 1) turns operands) w)
+    at_next turns operands stands =
+        done_at (standing (at.place + 1) turns operands)
+        (subst (λ q. StandsAt h v rest (standing q turns operands))
+        (let e : suc at.place ≡ at.place + 1 = omega arith in e) stands)
+
+    turn_done : (around left : List ℕ) (m : ℕ) (operands : List Arg) → x ≡ i.End → Fit behind operands →
+        around_at h.code at.place ≡ around → at.turns ≡ left → Home v.commands h around left m →
+        IsDone (resumed (go n table) h args rest at w (turned at.place operands (first_of around) left))
+    turn_done around left m operands end fit is_around is_turns out =
+        let b = not_bad h.code at.place i.End formed (is ∙ ap Some end) in
+        let c = ap (is_bad i.End) is_around in absurd (cc)
+    turn_done around left m operands end fit is_around is_turns
+        (within {q = q} {k = zero} {around = outer} {left = others} r closes turn past home) =
+        at_next others operands
+        (ends_at v.commands h formed shape has rest at s x is q outer others m operands end fit is_around is_turns
+        (within r closes turn past home))
+    turn_done around left m operands end fit is_around is_turns
+        (within {q = q} {k = suc k} {around = outer} {left = others} r closes turn past home) =
+        done_at (standing (q + 1) (suc k ∷ others) operands)
+        (subst (λ p. StandsAt h v rest (standing p (suc k ∷ others) operands))
+        (let e : suc q ≡ q + 1 = omega arith in e)
+        (turns_at v.commands h formed shape has rest at s x is q k outer others m operands end fit is_around
+        is_turns (within r closes turn past home)))
+
+    open_done : (k : ℕ) (operands : List Arg) → x ≡ i.Repeat k → Fit behind operands →
+        IsDone (go n table h args rest (entered at k operands) w)
+    open_done zero operands repeat fit =
+        let some = formed.turns at.place zero (is ∙ ap Some repeat) in absurd (omega (arith, some))
+    open_done (suc k) operands repeat fit =
+        at_next (suc k ∷ at.turns) operands
+        (opens_at v.commands h formed shape has rest at s x is k operands repeat fit)
+
+    follow_done : (e : Effect) → Moves table v.commands h behind at.place x e →
+        IsDone (follow (go n table) h args rest at w e)
+    follow_done (Stop trap) m = absurd m
+    follow_done Leave m = tt
+    follow_done (Next operands) m =
+        let exit : is_exit (exits_of (suc at.place) x) (suc at.place) ≡ true =
+        subst (λ q. is_exit (exits_of (suc at.place) x) q ≡ true) (let e : at.place + 1 ≡ suc at.place = omega arith in e) m.1 in
+        at_next at.turns operands (goes_on_at v.commands h formed shape has rest at s x is (suc at.place) operands rest m.0 exit m.2
+        (λ c m l. let k = cost_pos v.commands h x in omega (arith, l, k)))
+    follow_done (Goto to operands) m =
+        let f = follows_here v.commands h formed shape has rest at s x is to m.1 in
+        let same : (nat_lt at.place to && same_block h.code at.place to) ≡ true =
+        true_and _ _ (le-leb _ _ f.later)
+        (in_block h.code at.place to (plain_around h.code at.place to x is m.0 f.inside)) in
+        subst (λ b. IsDone (if b then go n table h args rest (moved at to operands) w else Stuck BadCode h.command at.place w))
+        (sym same)
+        (done_at (moved at to operands) (goes_on_at v.commands h formed shape has rest at s x is to operands rest m.0 m.1 m.2
+        (λ c m l. let k = cost_pos v.commands h x in omega (arith, l, k))))
+    follow_done (Open k operands) m =
+        let room = has_room v.commands h formed shape has rest at s x is k m.0 in
+        subst (λ b. IsDone (if b then go n table h args rest (entered at k operands) w else Stuck BadCode h.command at.place w))
+        (sym (le-leb _ _ room)) (open_done k operands m.0 m.1)
+    follow_done (Turn operands) m =
+        turn_done (around_at h.code at.place) at.turns s.home.0 operands m.0 m.1 refl refl s.home.1
+    follow_done (Enter name callee given operands) m =
+        let plain : is_plain x ≡ true = ap is_plain m.is_call in
+        let exit : is_exit (exits_of (suc at.place) x) (suc at.place) ≡ true =
+        subst (λ y. is_exit (exits_of (suc at.place) y) (suc at.place) ≡ true) (sym m.is_call) (equal (suc at.place)) in
+        let price : cost v.commands h x ≡ 1 + (declared_by callee).budget =
+        ap (cost v.commands h) m.is_call ∙ ap (λ o. 1 + budget_in o) m.declared in
+        let paid = price_paid v.commands h formed shape has rest at s x is plain exit in
+        let le : (declared_by callee).budget ≤ rest = omega (arith, paid, price) in
+        subst (λ b. IsDone (if b then and_then (run_callee (go n table) callee given (with_line name given w))
+        (λ u. go n table h args (rest - (declared_by callee).budget) (passed at operands) u)
+        else Stuck OutOfBudget h.command at.place w)) (sym (le-leb _ _ le))
+        (and_then_done _ _
+        (callee_done n ih name callee given (with_line name given w) m.is_live m.given_fit
+        (omega (arith, le, lt)))
+        (λ u. ih h v args fa (rest - (declared_by callee).budget) (passed at operands) u
+        (subst (λ q. StandsAt h v (rest - (declared_by callee).budget) (moved at q operands))
+        (let e : suc at.place ≡ at.place + 1 = omega arith in e)
+        (goes_on_at v.commands h formed shape has rest at s x is (suc at.place) operands
+        (rest - (declared_by callee).budget) plain exit m.kept
+        (λ c m l. omega (arith, l, price))))
+        (omega (arith, lt))))
 
   safe : (n : ℕ) → Safe n
-  safe zero = λ h v args fa left point w r f pays lt. absurd (omega (arith, lt))
-  safe (suc n) = λ h v args fa left point w r f pays lt.
+  safe zero = λ h v args fa left at w s lt. absurd (omega (arith, lt))
+  safe (suc n) = λ h v args fa left point w s lt.
+      let commands = v.commands in
+      let shape = v.accepted.shapes.0 in let has = v.accepted.shapes.1 in let formed = v.accepted.formed in
       let p = point.place in
       let x = get_or h.code p i.Return in
-      let at : slice_get h.code p ≡ Some x = slice_get-get_or h.code p i.Return (reached h.code p r) in
-      let right = v.accepted.shapes.1.each p x (reached h.code p r) r at in
-      let some = some_path v.commands h (shape_at h v) v.accepted.shapes.1 (length h.code) p
-      (omega arith) r in
-      let one = path_pos some.2 in
-      let most = pays some.0 some.1 some.2 in
-      let l : left ≡ suc (left - 1) = omega (arith, one, most) in
-      let here : Here h v args (left - 1) p x = record {
-        args_fit = fa;
-        reachable = r;
-        at = at;
-        right = right;
-        pays = subst (Pays v.commands h p) l pays;
-      } in
-      let lives : Lives table v.commands h x = λ k d is declared.
-      let callee : IsCallee v.commands h p k d = record {
+      let at : slice_get h.code p ≡ Some x = slice_get-get_or h.code p i.Return (reach_within h.code p s.reachable) in
+      let some = some_left commands h formed shape has left point s in
+      let l : left ≡ suc (left - 1) = omega (arith, some) in
+      let here : StandsAt h v (suc (left - 1)) point = subst (λ m. StandsAt h v m point) l s in
+      let lives : Lives table commands h x = λ k d is declared.
+      let callee : IsCallee commands h p k d = record {
         calls = record {
-          reached = r;
+          reached = s.reachable;
           at = at ∙ ap Some is;
-          named =
-              call_within v.commands h k (slice_get h.calls k) d refl declared;
+          named = call_within commands h k (slice_get h.calls k) d refl declared;
         };
         declares = declared;
       } in
       (v.callees p k d callee, let deep = v.accepted.within_depth p k d callee in omega (arith, deep)) in
-      let is = checked v.commands h p (shape_at h v p) right.after x right.is_right in
+      let is = checked_at commands h formed shape has p x here.reachable at in
       let on : Instr → ℕ → Answer = λ y rest.
       let e = effect table h args w.core point.operands y in follow (go n table) h args rest point
       (with_step y rest e w) e in
       let stuck : Trap → Answer = λ trap. Stuck trap h.command p w in
       subst (λ o. IsDone (fetched o left stuck on)) (sym at)
       (subst (λ m. IsDone (fetched (Some x) m stuck on)) (sym l)
-      (follow_done n (safe n) h v args (left - 1) point x _ here (omega (arith, l, lt)) _
-      (moves table v.commands h right.after p args w.core (shape_at h v p) point.operands x fa lives is.has_room
-      is.effect_is f)))
+      (follow_done n (safe n) h v args fa (left - 1) point here x at _ (omega (arith, l, lt)) _
+      (moves table commands h (right_at commands h formed shape has p x here.reachable at).after p args w.core
+      (shape p) point.operands x fa lives is.has_room is.effect_is here.fit)))
 
 pub never_stuck : NeverStuck
 unfolding run
 never_stuck table all h v args fa w =
-    safe table all (suc h.signature.budget) h v args fa h.signature.budget outset w (first v.accepted.some_code)
-    (subst (λ ks. Fit ks []) (sym v.accepted.shapes.1.start) tt) v.accepted.within_budget (omega arith)
+    safe table all (suc h.signature.budget) h v args fa h.signature.budget outset w (starts_at table all h v)
+    (omega arith)
 
 callee_done_at : (table : Table) → AllVerified table → (name : List ℕ) (callee : Callee) →
     table name ≡ Some callee →

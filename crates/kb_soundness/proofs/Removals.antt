@@ -18,7 +18,7 @@ use Rattle.kb_registry.specs.Live.{Live, callee_by, table_of, without_code}
 use Rattle.kb_soundness.specs.Stays.{AllChecked, AreFree, CodeDisposedStaysSound}
 use Rattle.kb_soundness.proofs.Callees.{among}
 use Rattle.kb_soundness.proofs.Disposals.{fails}
-use Rattle.kb_soundness.proofs.Paths.{reached}
+use Rattle.kb_verify.proofs.Edges.{reach_within}
 use Rattle.kb_soundness.proofs.Stays.{coded_by, coded_live, declared_stays}
 
 -- all remaining code is verified
@@ -60,7 +60,7 @@ module _ (extension : ℕ) (live : Live) where
   not_named h p n name none c is =
       unnamed own name (sym (ap (names_one own) is)
       ∙ among h (λ n. names_one own (slice_get h.calls n)) (length h.code) (callees_of h) (all_called h) none p n
-      (reached h.code p c.reached) c)
+      (reach_within h.code p c.reached) c)
 
   -- a command that isn't one of them stays live
   stays : (o : Option Native) (name : List ℕ) (c : Callee) → handler_named name own ≡ None →

@@ -114,7 +114,7 @@ module _ (commands : Commands) (h : HandlerData) where
       slice_get h.code p ≡ Some (Call n) → declaration_at commands h n ≡ None → ⊥
   none_undeclared has p n reached at none =
       let right = has.1.each p (Call n) (slice_get_within h.code p (Call n) at) reached at in
-      let b = bound (effect commands h (Call n) (has.0 p)) (λ made. leads (length h.code) p (Call n) >> unless defect.TooHigh (nat_le (length made) 64) made) right.after right.is_right in
+      let b = bound (effect commands h (Call n) (has.0 p)) (λ made. leads h.code p (Call n) >> unless defect.TooHigh (nat_le (length made) 64) made) right.after right.is_right in
       never_right (declaration_at commands h n) (has.0 p) b.0 none b.1
 
   pub found_callee : (p n : ℕ) (d : Declaration) → Reachable h.code p → slice_get h.code p ≡ Some (Call n) →

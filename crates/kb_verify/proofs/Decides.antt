@@ -1,8 +1,9 @@
 -- Each handler is accepted or has a fault.
-use Rattle.std.proofs.Common.{◌≡◌, ◌≢◌, ◌<◌, ◌≤◌, ◌⊎◌, inl, inr, ⊎_elim, ℕ, zero, suc, ◌+◌, ◌-◌}
+use Rattle.std.proofs.Common.{◌≡◌, ◌≢◌, ◌<◌, ◌≤◌, ◌⊎◌, inl, inr, ⊎_elim, ℕ, zero, suc, ◌+◌, ◌-◌, ◌*◌}
 use Rattle.std.proofs.Common.{Bool, true, false, List, [], ◌∷◌, length, replicate, Option, Some, None}
 use Rattle.std.proofs.Common.{Result, Ok, Err, Decides, refl, sym, ap, ◌∙◌, subst, arith}
-use Rattle.std.specs.Prelude.{slice_get, slice_set}
+use Rattle.std.specs.Prelude.{slice_get, slice_set, ◌==◌}
+use Rattle.std.proofs.Math.Nat.{mul-le-mul_left}
 use Rattle.std.specs.Cmp.Lexicographic.{pointwise}
 use Rattle.std.proofs.lemmas.Bool.{cases_lt}
 use Rattle.std.proofs.lemmas.Bool.Decides.{not_from_Decides}
@@ -11,33 +12,37 @@ use Rattle.std.proofs.lemmas.Slice.Eq.{slice_eq-Decides}
 use Rattle.kb_core.specs.declared.arg.Kind.{Kind}
 use Rattle.kb_core.specs.Declaration.{Declaration}
 use Rattle.kb_code.specs.declared.instr.Instr.{Instr}
-use Rattle.kb_code.specs.declared.instr.Instr.TheVariants.{Call}
+use Rattle.kb_code.specs.declared.instr.Instr.TheVariants.{Call, End}
 use Rattle.kb_code.specs.declared.exits.Exits.{Exits}
-use Rattle.kb_code.specs.declared.exits.Exits.TheVariants.{Stop, One, Two}
-use Rattle.kb_code.specs.Exits.{exits_of}
+use Rattle.kb_code.specs.declared.exits.Exits.TheVariants.{Stop, One, Two, Around, Close}
+use Rattle.kb_code.specs.Blocks.{block_of, Closes, IsFormed}
+use Rattle.kb_code.specs.Exits.{exits_of, is_exit}
 use Rattle.kb_code.specs.Handler.{HandlerData}
-use Rattle.kb_code.specs.Reachable.{Reachable, first, onward}
+use Rattle.kb_code.specs.Reachable.{Follows, Reachable, first, onward}
 use Rattle.kb_verify.specs.declared.fault.Defect.{Defect}
 use Rattle.kb_verify.specs.declared.fault.Defect.TheVariants as defect
-use Rattle.kb_verify.specs.declared.fault.Step.{Step}
-use Rattle.kb_verify.specs.declared.fault.Step.TheVariants.{Falls, Jumps}
-use Rattle.kb_verify.specs.declared.fault.VerifyFault.TheVariants.{Wrong, OverBudget, OverDepth}
 use Rattle.kb_verify.specs.declared.forward.Mark.{Mark}
 use Rattle.kb_verify.specs.declared.forward.Mark.TheVariants as mark
 use Rattle.kb_verify.specs.Callable.{Commands, declaration_at}
 use Rattle.kb_verify.specs.Check.{check}
 use Rattle.kb_verify.specs.Shapes.{HasShapes, IsFirstWrong}
-use Rattle.kb_verify.specs.Paths.{cost, Path, returns, goes_on, falls, jumps, IsWithinBudget, IsOverBudget}
+use Rattle.kb_verify.specs.Paths.{cost, Steps, Nothing, Choice, Turns, Path, returns, ends, goes_on, falls}
+use Rattle.kb_verify.specs.Paths.{jumps, repeats, IsWithinBudget, IsOverBudget}
 use Rattle.kb_verify.specs.Accepted.{IsShallow, IsFirstTooDeep}
-use Rattle.kb_verify.specs.Faults.{IsDecided}
-use Rattle.kb_verify.specs.Marks.{mark_at, Meets, FlowsTo, FlowsFrom, IsExit, AreLater, AreWithin, LeadsOn}
-use Rattle.kb_verify.specs.Marks.{IsMarked}
+use Rattle.kb_verify.specs.Faults.{IsDecided, has_defect, is_dear, is_deep, not_code}
+use Rattle.kb_code.specs.Code.{code_fault}
+use Rattle.kb_code.specs.declared.fault.CodeFault.{CodeFault}
+use Rattle.kb_code.specs.declared.version.Version.TheVariants.{Two}
+use Rattle.kb_code.proofs.Tables.{formed}
+use Rattle.kb_verify.specs.Marks.{mark_at, Meets, FlowsTo, FlowsFrom, IsMarked, ComesRound, GoesWrong}
 use Rattle.kb_code.specs.Same.{same_kind}
 use Rattle.kb_verify.proofs.Calls.{IsShallowBelow, shallow_called, shallow_passed, none_undeclared}
 use Rattle.kb_verify.proofs.Calls.{found_callee}
-use Rattle.kb_verify.proofs.Checks.{all_lead_on}
-use Rattle.kb_verify.proofs.Edges.{at_place, follows, reach_within}
-use Rattle.kb_verify.proofs.Passes.{blank_marked, skipped, looked_on, differs_first, fails_first, all_looked}
+use Rattle.kb_code.proofs.BlockLemmas.{one_end}
+use Rattle.kb_code.proofs.Booleans.{or_left, or_right}
+use Rattle.kb_verify.proofs.Arrivals.{follows_at, block_at}
+use Rattle.kb_verify.proofs.Edges.{equal, at_place, reach_within}
+use Rattle.kb_verify.proofs.Passes.{blank_marked, skipped, looked_on, differs_first, round_first, fails_first, all_looked}
 use Rattle.kb_verify.proofs.Passes.{reach_marked, flow_size}
 use Rattle.kb_code.proofs.SameLemmas.{kind_is, kind_same}
 use native.Mathlib.Decide.{ℕ_discrete}
@@ -77,6 +82,8 @@ flows_from : (exits : Exits) (ms : List Mark) (after : List Kind) →
     (ns : List Mark) × FlowsFrom exits ms after ns × (length ns ≡ length ms)
 flows_from Stop ms after = (ms, refl, refl)
 flows_from (One q) ms after = let f = flows_to ms q after in (f.0, f.1, flow_size ms f.0 q after f.1)
+flows_from (Around n q) ms after = let f = flows_to ms q after in (f.0, f.1, flow_size ms f.0 q after f.1)
+flows_from (Close q) ms after = let f = flows_to ms q after in (f.0, f.1, flow_size ms f.0 q after f.1)
 flows_from (Two q r) ms after =
     let f = flows_to ms q after in
     let g = flows_to f.0 r after in
@@ -111,13 +118,39 @@ module _ (commands : Commands) (h : HandlerData) where
 
   -- the step for a place with one shape
   checked : (i : ℕ) (ms : List Mark) (ks : List Kind) (instr : Instr) → IsMarked commands h i ms →
-      mark_at ms i ≡ mark.Has ks → slice_get h.code i ≡ Some instr → (r : Result (List Kind) Defect) →
-      check commands h i ks instr ≡ r → AreRight (i + 1) ⊎ HasWrong
-  checked i ms ks instr marked has at (Ok after) right =
+      mark_at ms i ≡ mark.Has ks → slice_get h.code i ≡ Some instr → ComesRound h.code ms i ks →
+      (r : Result (List Kind) Defect) → check commands h i ks instr ≡ r → AreRight (i + 1) ⊎ HasWrong
+  checked i ms ks instr marked has at round (Ok after) right =
       let f = flows_from (exits_of (suc i) instr) ms after in
-      inl (f.0, looked_on commands h i ms f.0 ks after instr marked has at right (f.2 ∙ marked.size) f.1)
-  checked i ms ks instr marked has at (Err wrong) fault =
-      inr (i, wrong, fails_first commands h i ms ks instr wrong marked has at fault)
+      inl (f.0, looked_on commands h i ms f.0 ks after instr marked has at round right (f.2 ∙ marked.size) f.1)
+  checked i ms ks instr marked has at round (Err wrong) fault =
+      inr (i, wrong, fails_first commands h i ms ks instr wrong marked has at round fault)
+
+  -- an `End` has the shape of the place after its `Repeat`, or another
+  rounds : (ms : List Mark) (i : ℕ) (ks : List Kind) (instr : Instr) → slice_get h.code i ≡ Some instr →
+      ComesRound h.code ms i ks ⊎ GoesWrong h.code ms i ks
+  rounds ms i ks End at = by (block_of h.code i) refl
+    where
+      first_by : (q : ℕ) → block_of h.code i ≡ Some q → (m : Mark) → mark_at ms (suc q) ≡ m →
+          ComesRound h.code ms i ks ⊎ GoesWrong h.code ms i ks
+      first_by q is (mark.Has ls) m_is = elim (same_kinds ls ks) [
+        | inl e ↦ inl (λ r js c has.
+            let s : Some q ≡ Some r = sym is ∙ c.block in let t : r ≡ q = cc in
+            let u : mark.Has js ≡ mark.Has ls = sym has ∙ ap (λ n. mark_at ms (suc n)) t ∙ m_is in
+            let v : js ≡ ls = cc in v ∙ e)
+        | inr ne ↦ inr (record { start = q; shape = ls; closes = record { at = at; block = is }; has = m_is; other = ne })
+      ]
+      first_by q is mark.Unreached m_is = inl (λ r js c has.
+          let s : Some q ≡ Some r = sym is ∙ c.block in let t : r ≡ q = cc in
+          let u : mark.Has js ≡ mark.Unreached = sym has ∙ ap (λ n. mark_at ms (suc n)) t ∙ m_is in absurd (cc))
+      first_by q is mark.Differs m_is = inl (λ r js c has.
+          let s : Some q ≡ Some r = sym is ∙ c.block in let t : r ≡ q = cc in
+          let u : mark.Has js ≡ mark.Differs = sym has ∙ ap (λ n. mark_at ms (suc n)) t ∙ m_is in absurd (cc))
+
+      by : (o : Option ℕ) → block_of h.code i ≡ o → ComesRound h.code ms i ks ⊎ GoesWrong h.code ms i ks
+      by (Some q) is = first_by q is (mark_at ms (suc q)) refl
+      by None is = inl (λ r js c has. let s : Some r ≡ None = sym c.block ∙ is in absurd (cc))
+  rounds ms i ks x at = inl (λ q ls c has. let s : Some End ≡ Some x = sym c.at ∙ at in absurd (cc))
 
   -- the step for a place
   looks : (i : ℕ) (ms : List Mark) → i < length h.code → IsMarked commands h i ms → (m : Mark) →
@@ -125,7 +158,10 @@ module _ (commands : Commands) (h : HandlerData) where
   looks i ms lt marked mark.Unreached e = inl (ms, skipped commands h i ms marked e)
   looks i ms lt marked (mark.Has ks) e =
       let at = instr_at i lt in
-      checked i ms ks at.0 marked e at.1 (check commands h i ks at.0) refl
+      elim (rounds ms i ks at.0 at.1) [
+        | inl round ↦ checked i ms ks at.0 marked e at.1 round (check commands h i ks at.0) refl
+        | inr wrong ↦ inr (i, defect.ShapesDiffer, round_first commands h i ms ks marked e wrong)
+      ]
   looks i ms lt marked mark.Differs e = inr (i, defect.ShapesDiffer, differs_first commands h i ms marked e)
 
   -- from place i on, with n places left
@@ -152,109 +188,172 @@ module _ (commands : Commands) (h : HandlerData) where
 
   -- no path from a place costs more than a bound
   abbrev AtMost : ℕ → ℕ → Type 0
-  AtMost p most = (path : List Step) (c : ℕ) → Path commands h p path c → c ≤ most
+  AtMost p most = (path : Steps) (c : ℕ) → Path commands h p path c → c ≤ most
 
   -- a greater bound holds too
   more : (p few most : ℕ) → few ≤ most → AtMost p few → AtMost p most
   more p few most le bound path c is = let small = bound path c is in omega (arith, small, le)
 
-  -- a path costs no more than its first instruction and a bound on the paths from the exits
-  most_from : (p most : ℕ) (i : Instr) → slice_get h.code p ≡ Some i →
-      ((q : ℕ) → IsExit (exits_of (suc p) i) q → AtMost q most) → AtMost p (cost commands h i + most)
-  most_from p most i at all path c (returns j is e) =
-      let same : cost commands h j ≡ cost commands h i = ap (cost commands h) (cc (is, at)) in
-      omega (arith, same)
-  most_from p most i at all path c (goes_on {q = q} {c = d} j is e lt rest) =
-      let same : j ≡ i = cc (is, at) in
-      let here : cost commands h j ≡ cost commands h i = ap (cost commands h) same in
-      let exit : IsExit (exits_of (suc p) i) q =
-      subst (λ k. IsExit (exits_of (suc p) k) q) same (subst (λ x. IsExit x q) (sym e) refl) in
-      omega (arith, here, all q exit path d rest)
-  most_from p most i at all path c (falls {q = q} {c = d} {steps = steps} j is e lt rest) =
-      let same : j ≡ i = cc (is, at) in
-      let here : cost commands h j ≡ cost commands h i = ap (cost commands h) same in
-      let exit : IsExit (exits_of (suc p) i) q =
-      subst (λ k. IsExit (exits_of (suc p) k) q) same (subst (λ x. IsExit x q) (sym e) (inl refl)) in
-      omega (arith, here, all q exit steps d rest)
-  most_from p most i at all path c (jumps {r = r} {c = d} {steps = steps} j is e lt rest) =
-      let same : j ≡ i = cc (is, at) in
-      let here : cost commands h j ≡ cost commands h i = ap (cost commands h) same in
-      let exit : IsExit (exits_of (suc p) i) r =
-      subst (λ k. IsExit (exits_of (suc p) k) r) same (subst (λ x. IsExit x r) (sym e) (inr refl)) in
-      omega (arith, here, all r exit steps d rest)
+  -- the rest of a path from an exit, by its cost
+  abbrev On : ℕ → (ℕ → Type 0) → Type 0
+  On q P = (steps : Steps) × (d : ℕ) × Path commands h q steps d × P d
+
+  -- a block of n iterations, and the path after it
+  record Round (p n q price c : ℕ) : Type 0 where
+    pub end : ℕ
+    pub closes : Closes h.code p end
+    pub inner : ℕ
+    pub past : ℕ
+    pub turn : Steps
+    pub rest : Steps
+    pub turn_is : Path commands h q turn inner
+    pub rest_is : Path commands h (suc end) rest past
+    pub is : c ≡ price + (n * (inner + 1) + past)
+
+  -- how a path from a place goes on, by its exits
+  abbrev Goes : ℕ → ℕ → ℕ → Exits → Type 0
+  Goes p price c Stop = c ≡ price
+  Goes p price c (Close q) = c ≡ 0
+  Goes p price c (One q) = On q (λ d. c ≡ price + d)
+  Goes p price c (Two a b) = On a (λ d. c ≡ price + d) ⊎ On b (λ d. c ≡ price + d)
+  Goes p price c (Around n q) = Round p n q price c
+
+  moved : (p c : ℕ) (j x : Instr) (exits : Exits) → slice_get h.code p ≡ Some j → slice_get h.code p ≡ Some x →
+      exits_of (suc p) j ≡ exits → Goes p (cost commands h j) c exits →
+      Goes p (cost commands h x) c (exits_of (suc p) x)
+  moved p c j x exits is at e goes =
+      let same : j ≡ x = cc (is, at) in
+      subst (λ y. Goes p (cost commands h y) c (exits_of (suc p) y)) same
+      (subst (Goes p (cost commands h j) c) (sym e) goes)
+
+  goes_by : (p c : ℕ) (x : Instr) (path : Steps) → slice_get h.code p ≡ Some x → Path commands h p path c →
+      Goes p (cost commands h x) c (exits_of (suc p) x)
+  goes_by p c x path at (returns j is e) = moved p c j x Stop is at e refl
+  goes_by p c x path at (ends {q = q} j is e) = moved p c j x (Close q) is at e refl
+  goes_by p c x path at (goes_on {q = q} {c = d} {steps = steps} j is e lt rest) =
+      moved p c j x (One q) is at e (steps, d, rest, refl)
+  goes_by p c x path at (falls {q = q} {r = r} {c = d} {steps = steps} j is e lt rest) =
+      moved p c j x (Two q r) is at e (inl (steps, d, rest, refl))
+  goes_by p c x path at (jumps {q = q} {r = r} {c = d} {steps = steps} j is e lt rest) =
+      moved p c j x (Two q r) is at e (inr (steps, d, rest, refl))
+  goes_by p c x path at (repeats {q = q} {n = n} {e = end} {c = a} {d = d} {turn = turn} {rest = rest} j is e lt closes inner past) =
+      moved p c j x (Around n q) is at e (record {
+        end = end;
+        closes = closes;
+        inner = a;
+        past = d;
+        turn = turn;
+        rest = rest;
+        turn_is = inner;
+        rest_is = past;
+        is = refl;
+      })
 
   -- a most expensive path from a place
   record IsDearestFrom (p : ℕ) : Type 0 where
-    pub path : List Step
+    pub path : Steps
     pub spent : ℕ
     pub is_path : Path commands h p path spent
     pub dearest : AtMost p spent
 
-  -- the step for a place, from the paths of all later reachable places
-  dearest_by : LeadsOn h.code → (p : ℕ) (i : Instr) → Reachable h.code p → slice_get h.code p ≡ Some i →
-      ((q : ℕ) → p < q → Reachable h.code q → IsDearestFrom q) → (exits : Exits) →
-      exits_of (suc p) i ≡ exits → IsDearestFrom p
-  dearest_by leads p i reach at later Stop e = record {
-    path = [];
-    spent = cost commands h i;
-    is_path = returns i at e;
-    dearest = λ path c is.
-        let most = most_from p 0 i at (λ q x. absurd (subst (λ y. IsExit y q) e x)) path c is in
-        omega (arith, most);
-  }
-  dearest_by leads p i reach at later (One q) e =
-      let lt : p < q = subst (λ x. AreLater x p) e (leads.later p i reach at) in
-      let within : q < length h.code =
-      subst (λ x. AreWithin x (length h.code)) e (leads.within p i reach at) in
-      let exit : IsExit (exits_of (suc p) i) q = subst (λ x. IsExit x q) (sym e) refl in
-      let on = later q lt (onward reach (follows h.code p q i at exit lt within)) in
-      record {
-        path = on.path;
-        spent = cost commands h i + on.spent;
-        is_path = goes_on i at e lt on.is_path;
-        dearest = most_from p on.spent i at
-            (λ r x. subst (λ r. AtMost r on.spent) (sym (subst (λ y. IsExit y r) e x)) on.dearest);
-      }
-  dearest_by leads p i reach at later (Two a b) e =
-      let is_later = subst (λ x. AreLater x p) e (leads.later p i reach at) in
-      let within = subst (λ x. AreWithin x (length h.code)) e (leads.within p i reach at) in
-      let exit_a : IsExit (exits_of (suc p) i) a = subst (λ x. IsExit x a) (sym e) (inl refl) in
-      let exit_b : IsExit (exits_of (suc p) i) b = subst (λ x. IsExit x b) (sym e) (inr refl) in
-      let on_a = later a is_later.0 (onward reach (follows h.code p a i at exit_a is_later.0 within.0)) in
-      let on_b = later b is_later.1 (onward reach (follows h.code p b i at exit_b is_later.1 within.1)) in
-      let both : (most : ℕ) → on_a.spent ≤ most → on_b.spent ≤ most → AtMost p (cost commands h i + most) =
-      λ most le_a le_b. most_from p most i at (λ r x. ⊎_elim
-      (λ s. subst (λ r. AtMost r most) (sym s) (more a on_a.spent most le_a on_a.dearest))
-      (λ s. subst (λ r. AtMost r most) (sym s) (more b on_b.spent most le_b on_b.dearest))
-      (subst (λ y. IsExit y r) e x)) in
-      elim (cases_lt on_a.spent on_b.spent) [
-        | inl lt ↦ record {
-          path = Jumps ∷ on_b.path;
-          spent = cost commands h i + on_b.spent;
-          is_path = jumps i at e is_later.1 on_b.is_path;
-          dearest = both on_b.spent (omega (arith, lt)) (omega arith);
-        }
-        | inr le ↦ record {
-          path = Falls ∷ on_a.path;
-          spent = cost commands h i + on_a.spent;
-          is_path = falls i at e is_later.0 on_a.is_path;
-          dearest = both on_a.spent (omega arith) le;
-        }
-      ]
+  module _ (is_formed : IsFormed h.code) (has : HasShapes commands h) where
+    leads : (p q : ℕ) (x : Instr) (exits : Exits) → Reachable h.code p → slice_get h.code p ≡ Some x →
+        exits_of (suc p) x ≡ exits → is_exit exits q ≡ true → Follows h.code p q
+    leads p q x exits r at e is =
+        follows_at commands h is_formed has.0 has.1 p q x r at (ap (λ y. is_exit y q) e ∙ is)
 
-  -- each reachable place has a most expensive path; n bounds the number of places left
-  dearest_from : LeadsOn h.code → (n p : ℕ) → length h.code ≤ p + n → Reachable h.code p → IsDearestFrom p
-  dearest_from leads zero p le reach = absurd (omega (arith, le, reach_within h.code p reach))
-  dearest_from leads (suc n) p le reach =
-      let at = instr_at p (reach_within h.code p reach) in
-      dearest_by leads p at.0 reach at.1 (λ q lt. dearest_from leads n q (omega (arith, le, lt)))
-      (exits_of (suc p) at.0) refl
+    -- the step for a place, from the paths of all later reachable places
+    dearest_by : (p : ℕ) (x : Instr) → Reachable h.code p → slice_get h.code p ≡ Some x →
+        ((q : ℕ) → p < q → Reachable h.code q → IsDearestFrom q) → (exits : Exits) →
+        exits_of (suc p) x ≡ exits → IsDearestFrom p
+    dearest_by p x reach at later Stop e = record {
+      path = Nothing;
+      spent = cost commands h x;
+      is_path = returns x at e;
+      dearest = λ path c is.
+          let goes : Goes p (cost commands h x) c Stop = subst (Goes p (cost commands h x) c) e (goes_by p c x path at is) in
+          omega (arith, goes);
+    }
+    dearest_by p x reach at later (Close q) e = record {
+      path = Nothing;
+      spent = 0;
+      is_path = ends x at e;
+      dearest = λ path c is.
+          let goes : Goes p (cost commands h x) c (Close q) = subst (Goes p (cost commands h x) c) e (goes_by p c x path at is) in
+          omega (arith, goes);
+    }
+    dearest_by p x reach at later (One q) e =
+        let f = leads p q x (One q) reach at e (equal q) in
+        let on = later q f.later (onward reach f) in
+        record {
+          path = on.path;
+          spent = cost commands h x + on.spent;
+          is_path = goes_on x at e f.later on.is_path;
+          dearest = λ path c is.
+              let goes : Goes p (cost commands h x) c (One q) = subst (Goes p (cost commands h x) c) e (goes_by p c x path at is) in
+              let most = on.dearest goes.0 goes.1 goes.2 in
+              let sum = goes.3 in
+              omega (arith, most, sum);
+        }
+    dearest_by p x reach at later (Two a b) e =
+        let f = leads p a x (Two a b) reach at e (or_left (a == a) (a == b) (equal a)) in
+        let g = leads p b x (Two a b) reach at e (or_right (b == a) (b == b) (equal b)) in
+        let on_a = later a f.later (onward reach f) in
+        let on_b = later b g.later (onward reach g) in
+        let both : (most : ℕ) → on_a.spent ≤ most → on_b.spent ≤ most → AtMost p (cost commands h x + most) =
+        λ most le_a le_b path c is.
+        ⊎_elim
+        (λ o. let few = on_a.dearest o.0 o.1 o.2 in let sum = o.3 in omega (arith, few, sum, le_a))
+        (λ o. let few = on_b.dearest o.0 o.1 o.2 in let sum = o.3 in omega (arith, few, sum, le_b))
+        (let goes : Goes p (cost commands h x) c (Two a b) = subst (Goes p (cost commands h x) c) e (goes_by p c x path at is) in goes) in
+        elim (cases_lt on_a.spent on_b.spent) [
+          | inl lt ↦ record {
+            path = Choice true on_b.path;
+            spent = cost commands h x + on_b.spent;
+            is_path = jumps x at e g.later on_b.is_path;
+            dearest = both on_b.spent (omega (arith, lt)) (omega arith);
+          }
+          | inr le ↦ record {
+            path = Choice false on_a.path;
+            spent = cost commands h x + on_a.spent;
+            is_path = falls x at e f.later on_a.is_path;
+            dearest = both on_a.spent (omega arith) le;
+          }
+        ]
+    dearest_by p x reach at later (Around n q) e =
+        let b = block_at commands h is_formed has.0 has.1 p n q x reach at e in
+        let end = b.end in
+        let after = b.after in
+        let next : end + 1 ≡ suc end = omega arith in
+        let inner = later q b.later b.inner in
+        let rest = later (suc end) (omega (arith, after)) (subst (Reachable h.code) next b.past) in
+        record {
+          path = Turns inner.path rest.path;
+          spent = cost commands h x + (n * (inner.spent + 1) + rest.spent);
+          is_path = repeats x at e b.later b.closes inner.is_path rest.is_path;
+          dearest = λ path c is.
+              let goes : Goes p (cost commands h x) c (Around n q) = subst (Goes p (cost commands h x) c) e (goes_by p c x path at is) in
+              let same : goes.end ≡ end = one_end h.code p goes.end end goes.closes b.closes in
+              let turn = inner.dearest goes.turn goes.inner goes.turn_is in
+              let more = rest.dearest goes.rest goes.past (subst (λ r. Path commands h (suc r) goes.rest goes.past) same goes.rest_is) in
+              let times : n * (goes.inner + 1) ≤ n * (inner.spent + 1) = mul-le-mul_left n (omega (arith, turn)) in
+              let sum = goes.is in
+              omega (arith, times, more, sum);
+        }
+
+    -- each reachable place has a most expensive path; n bounds the number of places left
+    dearest_from : (n p : ℕ) → length h.code ≤ p + n → Reachable h.code p → IsDearestFrom p
+    dearest_from zero p le reach = absurd (omega (arith, le, reach_within h.code p reach))
+    dearest_from (suc n) p le reach =
+        let at = instr_at p (reach_within h.code p reach) in
+        dearest_by p at.0 reach at.1 (λ q lt. dearest_from n q (omega (arith, le, lt)))
+        (exits_of (suc p) at.0) refl
 
   -- no path is over the budget, or some path is
-  within_or_over : 0 < length h.code → HasShapes commands h →
-      IsWithinBudget commands h ⊎ ((path : List Step) × IsOverBudget commands h path)
-  within_or_over some has =
-      let found = dearest_from (all_lead_on commands h has) (length h.code) 0 (omega arith) (first some) in
+  within_or_over : IsFormed h.code → 0 < length h.code → HasShapes commands h →
+      IsWithinBudget commands h ⊎ ((path : Steps) × IsOverBudget commands h path)
+  within_or_over is_formed some has =
+      let found = dearest_from is_formed has (length h.code) 0 (omega arith) (first some) in
       elim (cases_lt h.signature.budget found.spent) [
         | inl over ↦ inr (found.path, record { cost = found.spent; is_path = found.is_path; over = over })
         | inr le ↦ inl (λ path c is. let most = found.dearest path c is in omega (arith, most, le))
@@ -330,24 +429,33 @@ module _ (commands : Commands) (h : HandlerData) where
   -- ---- all together
 
   -- the verdict, once all reachable places have shapes
-  decided_budget : 0 < length h.code → HasShapes commands h → IsShallow commands h ⊎ HasTooDeep →
-      IsWithinBudget commands h ⊎ ((path : List Step) × IsOverBudget commands h path) → IsDecided commands h
-  decided_budget some has depth (inr over) = inr (OverBudget over.0, (has, over.1))
-  decided_budget some has (inr deep) (inl within) = inr (OverDepth deep.0, (has, within, deep.1))
-  decided_budget some has (inl shallow) (inl within) =
-      inl (record { some_code = some; shapes = has; within_budget = within; within_depth = shallow })
+  decided_budget : IsFormed h.code → 0 < length h.code → HasShapes commands h →
+      IsShallow commands h ⊎ HasTooDeep →
+      IsWithinBudget commands h ⊎ ((path : Steps) × IsOverBudget commands h path) → IsDecided commands h
+  decided_budget is_formed some has depth (inr over) = inr (is_dear over.0 is_formed has over.1)
+  decided_budget is_formed some has (inr deep_at) (inl within) = inr (is_deep deep_at.0 is_formed has within deep_at.1)
+  decided_budget is_formed some has (inl shallow) (inl within) =
+      inl (record { formed = is_formed; some_code = some; shapes = has; within_budget = within; within_depth = shallow })
+
+  -- the verdict on a handler whose reachable places have shapes
+  decided_formed : 0 < length h.code → AreRight (length h.code) → (o : Option CodeFault) →
+      code_fault Two h.code ≡ o → IsDecided commands h
+  decided_formed some right (Some fault) is =
+      inr (not_code fault some (all_looked commands h right.0 right.1) is)
+  decided_formed some right None is =
+      let has = all_looked commands h right.0 right.1 in
+      let is_formed = formed Two h.code is in
+      decided_budget is_formed some has (shallow_or_deep right.0 right.1 has) (within_or_over is_formed some has)
 
   -- the verdict on a handler with code
   decided_shapes : 0 < length h.code → AreRight (length h.code) ⊎ HasWrong → IsDecided commands h
-  decided_shapes some (inr wrong) = inr (Wrong wrong.1 wrong.0, inr wrong.2)
-  decided_shapes some (inl right) =
-      let has = all_looked commands h right.0 right.1 in
-      decided_budget some has (shallow_or_deep right.0 right.1 has) (within_or_over some has)
+  decided_shapes some (inr wrong_at) = inr (has_defect wrong_at.1 wrong_at.0 (inr wrong_at.2))
+  decided_shapes some (inl right) = decided_formed some right (code_fault Two h.code) refl
 
   -- a handler is accepted, or it has a fault
   pub accepted_or_faulty : IsDecided commands h
   accepted_or_faulty = elim (ℕ_discrete (length h.code) 0) [
-    | yes none ↦ inr (Wrong defect.FallsOff 0, inl (none, refl, refl))
+    | yes none ↦ inr (has_defect defect.FallsOff 0 (inl (none, refl, refl)))
     | no some ↦
         let size : 0 < length h.code = omega (arith, some) in
         decided_shapes size (shapes_or_wrong size)

@@ -1,5 +1,8 @@
+pub mod Arrivals
+pub mod Attained
 pub mod Calls
 pub mod Checks
+pub mod Costly
 pub mod Dearest
 pub mod Decides
 pub mod Edges
@@ -9,5 +12,6 @@ pub mod Packed
 pub mod Passes
 pub mod ProviderLemmas
 pub mod Refutes
+pub mod Routes
 pub mod Swapped
 pub mod VerifiedLemmas

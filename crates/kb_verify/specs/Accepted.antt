@@ -4,6 +4,7 @@ use Rattle.std.specs.FinMap as fin_map
 use Rattle.std.specs.List.{AllZip}
 use Rattle.kb_core.specs.Declaration.{Declaration}
 use Rattle.kb_code.specs.Handler.{HandlerData}
+use Rattle.kb_code.specs.Blocks.{IsFormed}
 use Rattle.kb_code.specs.Callees.{callees_of}
 use Rattle.kb_code.specs.Reachable.{Calls}
 use Rattle.kb_verify.specs.declared.callees.Callee.{Callee}
@@ -24,6 +25,7 @@ IsShallow commands h =
 
 -- a handler is accepted
 pub record IsAccepted (commands : Commands) (h : HandlerData) : Type 0 where
+  pub formed : IsFormed h.code
   pub some_code : 0 < length h.code
   pub shapes : HasShapes commands h
   pub within_budget : IsWithinBudget commands h

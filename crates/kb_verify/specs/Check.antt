@@ -10,6 +10,7 @@ use Rattle.kb_core.specs.declared.parameter.Param.{Param}
 use Rattle.kb_core.specs.Declaration.{Declaration}
 use Rattle.kb_code.specs.declared.instr.Instr.{Instr}
 use Rattle.kb_code.specs.declared.instr.Instr.TheVariants as i
+use Rattle.kb_code.specs.Blocks.{same_block}
 use Rattle.kb_code.specs.Handler.{HandlerData}
 use Rattle.kb_verify.specs.declared.fault.Defect.{Defect}
 use Rattle.kb_verify.specs.declared.fault.Defect.TheVariants as defect
@@ -104,23 +105,26 @@ effect commands h (i.Call n) ks = without_args (declaration_at commands h n) ks
 effect commands h (i.Context n) ks = with_text (slice_get h.texts n) kind.Any ks
 effect commands h i.Before ks = Ok (kind.Number ∷ ks)
 effect commands h i.After ks = Ok (kind.Number ∷ ks)
+effect commands h (i.Repeat n) ks = Ok ks
+effect commands h i.End ks = Ok ks
 
--- a jump goes to a later place of the code; the next place is within the code
-abbrev pub jumps_on : ℕ → ℕ → ℕ → Result ⊤ Defect
-jumps_on size place to = guard defect.BadJump (nat_lt place to && nat_lt to size)
+-- a jump goes to a later place of the code in the same block; the next place is within the code
+abbrev pub jumps_on : List Instr → ℕ → ℕ → Result ⊤ Defect
+jumps_on code place to =
+    guard defect.BadJump (nat_lt place to && (nat_lt to (length code) && same_block code place to))
 
-abbrev pub falls_on : ℕ → ℕ → Result ⊤ Defect
-falls_on size place = guard defect.FallsOff (nat_lt (suc place) size)
+abbrev pub falls_on : List Instr → ℕ → Result ⊤ Defect
+falls_on code place = guard defect.FallsOff (nat_lt (suc place) (length code))
 
--- all exits of an instruction are later places of the code
-abbrev pub leads : ℕ → ℕ → Instr → Result ⊤ Defect
-leads size place i.Return = Ok tt
-leads size place (i.Jump to) = jumps_on size place to
-leads size place (i.JumpIfFalse to) = jumps_on size place to >> falls_on size place
-leads size place _ = falls_on size place
+-- all exits of an instruction are later places of the code, and a jump stays in its block
+abbrev pub leads : List Instr → ℕ → Instr → Result ⊤ Defect
+leads code place i.Return = Ok tt
+leads code place (i.Jump to) = jumps_on code place to
+leads code place (i.JumpIfFalse to) = jumps_on code place to >> falls_on code place
+leads code place _ = falls_on code place
 
 -- the check of an instruction: first its operands, then its exits, then the limit of 64 operands
 abbrev pub check : Commands → HandlerData → ℕ → List Kind → Instr → Checked
 check commands h place ks instr =
     effect commands h instr ks >>= (λ after.
-    leads (length h.code) place instr >> fitting after)
+    leads h.code place instr >> fitting after)

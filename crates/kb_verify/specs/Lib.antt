@@ -5,6 +5,7 @@ pub mod Check
 pub mod Packed
 pub mod Shapes
 pub mod Paths
+pub mod Route
 pub mod Accepted
 pub mod Faults
 pub mod Marks

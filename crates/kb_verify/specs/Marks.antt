@@ -1,11 +1,12 @@
 -- The marks of the forward pass.
-use Rattle.std.specs.Prelude.{◌≡◌, ℕ, suc, ◌<◌, ◌≢◌, ◌⊎◌, List, [], length, Some, Ok}
+use Rattle.std.specs.Prelude.{◌≡◌, ℕ, suc, true, ◌<◌, ◌≢◌, ◌⊎◌, List, [], length, Some, Ok}
 use Rattle.std.specs.Prelude.{slice_get, slice_set, slice_index_or}
 use Rattle.kb_core.specs.declared.arg.Kind.{Kind}
 use Rattle.kb_code.specs.declared.instr.Instr.{Instr}
 use Rattle.kb_code.specs.declared.exits.Exits.{Exits}
-use Rattle.kb_code.specs.declared.exits.Exits.TheVariants.{Stop, One, Two}
-use Rattle.kb_code.specs.Exits.{exits_of}
+use Rattle.kb_code.specs.declared.exits.Exits.TheVariants.{Stop, One, Two, Around, Close}
+use Rattle.kb_code.specs.Blocks.{Closes}
+use Rattle.kb_code.specs.Exits.{exits_of, is_exit}
 use Rattle.kb_code.specs.Handler.{HandlerData}
 use Rattle.kb_code.specs.Reachable.{Follows, Reachable}
 use Rattle.kb_verify.specs.declared.forward.Mark.{Mark}
@@ -36,29 +37,16 @@ abbrev pub FlowsFrom : Exits → List Mark → List Kind → List Mark → Type 
 FlowsFrom Stop ms after ns = ns ≡ ms
 FlowsFrom (One q) ms after ns = FlowsTo ms q after ns
 FlowsFrom (Two q r) ms after ns = (ks : List Mark) × FlowsTo ms q after ks × FlowsTo ks r after ns
+FlowsFrom (Around n q) ms after ns = FlowsTo ms q after ns
+FlowsFrom (Close q) ms after ns = FlowsTo ms q after ns
 
--- a place is an exit; all exits are less than a size; all exits are later than a place
-abbrev pub IsExit : Exits → ℕ → Type 0
-IsExit Stop q = ⊥
-IsExit (One a) q = q ≡ a
-IsExit (Two a b) q = (q ≡ a) ⊎ (q ≡ b)
-
+-- all exits are less than a size
 abbrev pub AreWithin : Exits → ℕ → Type 0
 AreWithin Stop size = Unit {0}
 AreWithin (One q) size = q < size
 AreWithin (Two q r) size = (q < size) × (r < size)
-
-abbrev pub AreLater : Exits → ℕ → Type 0
-AreLater Stop p = Unit {0}
-AreLater (One q) p = p < q
-AreLater (Two q r) p = (p < q) × (p < r)
-
--- each reachable instruction leads to later places of the code
-pub record LeadsOn (code : List Instr) : Type 0 where
-  pub later : (p : ℕ) (i : Instr) → Reachable code p → slice_get code p ≡ Some i →
-      AreLater (exits_of (suc p) i) p
-  pub within : (p : ℕ) (i : Instr) → Reachable code p → slice_get code p ≡ Some i →
-      AreWithin (exits_of (suc p) i) (length code)
+AreWithin (Around n q) size = q < size
+AreWithin (Close q) size = q < size
 
 -- a shape was sent to a place, at the start or from one of the checked places
 pub data Sent (commands : Commands) (h : HandlerData) (i : ℕ) (ms : List Mark) :
@@ -83,7 +71,8 @@ pub record Looked (commands : Commands) (h : HandlerData) (ms : List Mark) (p : 
   pub has : mark_at ms p ≡ mark.Has before
   pub at : slice_get h.code p ≡ Some instr
   pub right : check commands h p before instr ≡ Ok after
-  pub flows : (q : ℕ) → IsExit (exits_of (suc p) instr) q → HasBeen (mark_at ms q) after
+  pub flows : (q : ℕ) → is_exit (exits_of (suc p) instr) q ≡ true → HasBeen (mark_at ms q) after
+  pub turns : (q : ℕ) → Closes h.code q p → mark_at ms (suc q) ≡ mark.Has before
 
 -- the invariant of the pass after all places below i were checked
 pub record IsMarked (commands : Commands) (h : HandlerData) (i : ℕ) (ms : List Mark) : Type 0 where
@@ -92,3 +81,16 @@ pub record IsMarked (commands : Commands) (h : HandlerData) (i : ℕ) (ms : List
   pub reached : (p : ℕ) → mark_at ms p ≢ mark.Unreached → Reachable h.code p
   pub looked : (p : ℕ) → p < i → mark_at ms p ≢ mark.Unreached → Looked commands h ms p
   pub explained : (p : ℕ) → Explains commands h i ms p (mark_at ms p)
+
+-- if the place is an `End`, it has the shape of the place after its `Repeat`, if that has one
+abbrev pub ComesRound : List Instr → List Mark → ℕ → List Kind → Type 0
+ComesRound code ms e ks =
+    (q : ℕ) (ls : List Kind) → Closes code q e → mark_at ms (suc q) ≡ mark.Has ls → ls ≡ ks
+
+-- the place is an `End`, and the place after its `Repeat` has another shape
+pub record GoesWrong (code : List Instr) (ms : List Mark) (e : ℕ) (ks : List Kind) : Type 0 where
+  pub start : ℕ
+  pub shape : List Kind
+  pub closes : Closes code start e
+  pub has : mark_at ms (suc start) ≡ mark.Has shape
+  pub other : shape ≢ ks

@@ -1,7 +1,8 @@
 -- The shapes of places.
-use Rattle.std.specs.Prelude.{◌≡◌, ℕ, ◌<◌, List, [], length, Some, slice_get, Ok, Err}
+use Rattle.std.specs.Prelude.{◌≡◌, ℕ, suc, ◌<◌, List, [], length, Some, slice_get, Ok, Err}
 use Rattle.kb_core.specs.declared.arg.Kind.{Kind}
 use Rattle.kb_code.specs.declared.instr.Instr.{Instr}
+use Rattle.kb_code.specs.Blocks.{Closes}
 use Rattle.kb_code.specs.Handler.{HandlerData}
 use Rattle.kb_code.specs.Reachable.{Follows, Reachable}
 use Rattle.kb_verify.specs.declared.fault.Defect.{Defect}
@@ -9,12 +10,14 @@ use Rattle.kb_verify.specs.declared.fault.Defect.TheVariants as defect
 use Rattle.kb_verify.specs.Callable.{Commands}
 use Rattle.kb_verify.specs.Check.{check}
 
--- the check at a place succeeds, and each following place below the bound has the resulting shape
+-- the check at a place succeeds, each following place below the bound has the resulting shape, and an `End` has
+-- the shape of the place after its `Repeat`
 pub record IsRightAt (commands : Commands) (h : HandlerData) (shape : ℕ → List Kind) (bound p : ℕ)
     (i : Instr) : Type 0 where
   pub after : List Kind
   pub is_right : check commands h p (shape p) i ≡ Ok after
   pub flows : (q : ℕ) → q < bound → Follows h.code p q → shape q ≡ after
+  pub turns : (q : ℕ) → Closes h.code q p → shape p ≡ shape (suc q)
 
 -- a shape for each reachable place below the bound; the first place has the empty shape
 pub record HasShapesBelow (commands : Commands) (h : HandlerData) (shape : ℕ → List Kind)
@@ -27,12 +30,14 @@ pub record HasShapesBelow (commands : Commands) (h : HandlerData) (shape : ℕ �
 abbrev pub HasShapes : Commands → HandlerData → Type 0
 HasShapes commands h = (shape : ℕ → List Kind) × HasShapesBelow commands h shape (length h.code)
 
--- a shape reaches a place, from the start or from an earlier place
+-- a shape reaches a place: from the start, from an earlier place, or at an `End` from the place after its
+-- `Repeat`, with which the next iteration begins
 pub data Comes (commands : Commands) (h : HandlerData) (shape : ℕ → List Kind) :
     ℕ → List Kind → Type 0 where
   starts : Comes commands h shape 0 []
   flows : {p q : ℕ} {after : List Kind} → Reachable h.code p → (f : Follows h.code p q) →
       check commands h p (shape p) f.instr ≡ Ok after → Comes commands h shape q after
+  closes : {q e : ℕ} → Closes h.code q e → suc q < e → Comes commands h shape e (shape (suc q))
 
 -- the defect of a place: two different shapes reach it, or the check fails for the only shape that does
 pub data IsWrongAt (commands : Commands) (h : HandlerData) (shape : ℕ → List Kind) (place : ℕ) :

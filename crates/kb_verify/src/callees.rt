@@ -1,5 +1,6 @@
 //! The commands that a handler calls, and the check of their depths.
 ghost use Rattle.std.specs.Prelude.{◌≡◌, ◌<◌, length, MatchOption, MatchResult};
+ghost use Rattle.kb_code.specs.Blocks.{IsFormed};
 ghost use Rattle.kb_code.specs.Reachable.{Calls};
 ghost use Rattle.kb_verify.specs.Accepted.{AreCallees, IsCallee, IsShallow};
 ghost use Rattle.kb_verify.specs.Faults.{IsFailure};
@@ -33,6 +34,7 @@ pub(crate) fn shallow_callees(
     marks: &[Mark],
 ) -> Result<Seq<Callee>, Failure<VerifyFault>>
     requires marked { IsMarked callable.now handler.now (length handler.now.code) marks.now }
+    requires formed { IsFormed handler.now.code }
     requires some_code { 0 < length handler.now.code }
     requires shapes { HasShapes callable.now handler.now }
     requires within_budget { IsWithinBudget callable.now handler.now }
@@ -41,7 +43,7 @@ pub(crate) fn shallow_callees(
         (λ failure. IsFailure callable.now handler.now failure) }
 {
     let mut callees = Vec::new(alloc);
-    for place in 0..handler.code().len() {
+    for place in 0..handler.code().instrs().len() {
         if let Some((index, signature)) = callee_at(callable, handler, marks, place) {
             if signature.as_signature().depth() >= handler.signature().depth() {
                 return Err(Failure::Fault(VerifyFault::OverDepth(place)));
@@ -69,7 +71,7 @@ fn callee_at<'a>(
         ((index : _) → Calls handler.now place index → ⊥)
         (λ found. IsCallee callable.now handler.now place found.0 found.1.now) }
 {
-    let Instr::Call(index) = handler.code()[place] else {
+    let Instr::Call(index) = handler.code().instrs()[place] else {
         return None;
     };
     if let Mark::Unreached = &marks[place] {

@@ -9,7 +9,7 @@ use crate::callable::{Callable, SharedSignature};
 use crate::fault::Defect;
 use crate::shape::Shape;
 use kb_base::Text;
-use kb_code::{Handler, Instr};
+use kb_code::{Code, Handler, Instr};
 use kb_core::{Kind, Param};
 
 /// The shape after an instruction, computed from the shape before it, or the defect of the instruction.
@@ -23,15 +23,15 @@ pub(crate) fn check_instr(
     requires { place < length handler.now.code }
     ensures { result ≡ check callable.now handler.now place before instr }
 {
-    let size = handler.code().len();
+    let code = handler.code();
     match apply(callable, handler, instr, before) {
         Ok(after) => {
-            leads(size, place, instr)?;
+            leads(code, place, instr)?;
             Ok(after)
         }
         // Control-flow defects (64, 65) take precedence over too many operands (67).
         Err(Defect::TooHigh) => {
-            leads(size, place, instr)?;
+            leads(code, place, instr)?;
             Err(Defect::TooHigh)
         }
         Err(defect) => Err(defect),
@@ -74,6 +74,8 @@ fn apply(
         Instr::Context(n) => with_text(handler.texts().get(usize::from(n)), Kind::Any, shape),
         Instr::Before => shape.with(Kind::Number),
         Instr::After => shape.with(Kind::Number),
+        Instr::Repeat(_) => shape.fitted(),
+        Instr::End => shape.fitted(),
     }
 }
 
@@ -105,27 +107,28 @@ fn from_two(taken: Kind, made: Kind, shape: Shape) -> Result<Shape, Defect>
     without_two(taken, shape)?.with(made)
 }
 
-/// Checks that all exits of an instruction are later places of the code.
-fn leads(size: usize, place: usize, instr: Instr) -> Result<(), Defect>
-    requires { place < size }
-    ensures { result ≡ leads size place instr }
+/// Checks that all exits of an instruction are later places of the code, and that a jump stays in its
+/// block.
+fn leads(code: &Code, place: usize, instr: Instr) -> Result<(), Defect>
+    requires { place < length code.now }
+    ensures { result ≡ leads code.now place instr }
 {
     match instr {
         Instr::Return => Ok(()),
-        Instr::Jump(to) => jumps_on(size, place, usize::from(to)),
+        Instr::Jump(to) => jumps_on(code, place, usize::from(to)),
         Instr::JumpIfFalse(to) => {
-            jumps_on(size, place, usize::from(to))?;
-            falls_on(size, place)
+            jumps_on(code, place, usize::from(to))?;
+            falls_on(code, place)
         }
-        _ => falls_on(size, place),
+        _ => falls_on(code, place),
     }
 }
 
-/// Checks that a jump goes to a later place of the code.
-fn jumps_on(size: usize, place: usize, to: usize) -> Result<(), Defect>
-    ensures { result ≡ jumps_on size place to }
+/// Checks that a jump goes to a later place of the code in the same block.
+fn jumps_on(code: &Code, place: usize, to: usize) -> Result<(), Defect>
+    ensures { result ≡ jumps_on code.now place to }
 {
-    if place < to && to < size {
+    if place < to && (to < code.instrs().len() && code.same_block(place, to)) {
         Ok(())
     } else {
         Err(Defect::BadJump)
@@ -133,10 +136,11 @@ fn jumps_on(size: usize, place: usize, to: usize) -> Result<(), Defect>
 }
 
 /// Checks that the next place is within the code.
-fn falls_on(size: usize, place: usize) -> Result<(), Defect>
-    requires { place < size }
-    ensures { result ≡ falls_on size place }
+fn falls_on(code: &Code, place: usize) -> Result<(), Defect>
+    requires { place < length code.now }
+    ensures { result ≡ falls_on code.now place }
 {
+    let size = code.instrs().len();
     if place + 1 < size {
         Ok(())
     } else {

@@ -2,7 +2,6 @@
 ghost use Rattle.std.specs.Prelude.{◌≡◌};
 ghost use Rattle.kb_verify.specs.Fault.{number_of, place_of};
 
-use kb_base::Seq;
 use thiserror::Error;
 
 /// A defect at a reachable place. The cases are our decision. They are in the order of their numbers,
@@ -23,13 +22,14 @@ pub enum Defect {
     /// An argument of the call has a kind that the command doesn't accept.
     #[error("a wrong argument")]
     WrongArgument,
-    /// A jump doesn't go to a later place of the code.
+    /// A jump doesn't go to a later place of the code in the same block.
     #[error("a bad jump")]
     BadJump,
     /// The code ends after this instruction, which isn't a return.
     #[error("the code falls off its end")]
     FallsOff,
-    /// Two paths reach the place with operands of different kinds.
+    /// Two paths reach the place with operands of different kinds, or an iteration of a block would end
+    /// with others than it began with.
     #[error("two ways with different operands")]
     ShapesDiffer,
     /// The stack would have more than 64 operands.
@@ -37,14 +37,13 @@ pub enum Defect {
     TooHigh,
 }
 
-/// The direction that a path takes at a branch. A path has one step for each `JumpIfFalse` (our
-/// decision).
-#[derive(Clone, Copy, Debug, PartialEq, Eq)]
+/// A step of a path. A path has one for each `JumpIfFalse` and for each `Repeat` (our decision).
+#[derive(Debug, Drop)]
 pub enum Step {
-    /// It continues at the next place.
-    Falls,
-    /// It jumps to the target.
-    Jumps,
+    /// A branch, and whether the path jumps there.
+    Choice(bool),
+    /// A block, and the steps of the path that each of its iterations takes.
+    Turns(Vec<Step>),
 }
 
 /// The reason why a handler isn't accepted. A place is the index of an instruction, from 0. The numbers
@@ -57,7 +56,7 @@ pub enum VerifyFault {
     /// The steps of a path from the first place to a return that costs more than the budget that the
     /// handler declares.
     #[error("a path costs more than the budget")]
-    OverBudget(Seq<Step>),
+    OverBudget(Vec<Step>),
     /// The first place with a call of a command whose declared depth is not less than the handler's.
     #[error("the call at place {0} nests too deep")]
     OverDepth(usize),

@@ -1,16 +1,17 @@
 //! The forward pass, which computes shapes.
 ghost use Rattle.std.specs.Prelude.{◌≡◌, ◌<◌, ◌+◌, ◌-◌, ◌^◌, ◌∷◌, [], suc, length, replicate};
-ghost use Rattle.std.specs.Prelude.{IfOk, MatchResult};
+ghost use Rattle.std.specs.Prelude.{IfOk, MatchResult, Some, false, true, slice_get};
 ghost use Rattle.kb_code.specs.Exits.{exits_of};
 ghost use Rattle.kb_verify.specs.Faults.{IsFailure, IsFault};
-ghost use Rattle.kb_verify.specs.Marks.{AreWithin, FlowsFrom, FlowsTo, IsMarked, Meets};
+ghost use Rattle.kb_verify.specs.Marks.{AreWithin, ComesRound, FlowsFrom, FlowsTo, GoesWrong};
+ghost use Rattle.kb_verify.specs.Marks.{IsMarked, Meets};
 
 use crate::callable::Callable;
 use crate::check::check_instr;
 use crate::fault::{Defect, VerifyFault};
 use crate::shape::Shape;
 use kb_base::{Failure, NoMemory};
-use kb_code::{Exits, Handler, Instr};
+use kb_code::{Code, Exits, Handler, Instr};
 use std::alloc::Global;
 
 /// The shapes that reached a place so far: none, one, or two different ones.
@@ -32,7 +33,7 @@ pub(crate) fn assign(
         (λ marks. IsMarked callable.now handler.now (length handler.now.code) marks.items)
         (λ failure. IsFailure callable.now handler.now failure) }
 {
-    let size = handler.code().len();
+    let size = handler.code().instrs().len();
     let mut marks = blank(alloc, size)?;
     for place in 0..size {
         look(callable, handler, &mut marks, place).map_err(Failure::Fault)?;
@@ -65,17 +66,46 @@ fn look(
         (λ fault. IsFault callable.now handler.now fault) }
     ensures size { length marks.new.items ≡ length handler.now.code }
 {
-    let instr = handler.code()[place];
+    let code = handler.code();
+    let instr = code.instrs()[place];
     match marks[place] {
         Mark::Unreached => Ok(()),
         Mark::Differs => Err(VerifyFault::Wrong(Defect::ShapesDiffer, place)),
-        Mark::Has(before) => match check_instr(callable, handler, place, before, instr) {
-            Ok(after) => {
-                flow_from(marks, exits_at(instr, place), after);
-                Ok(())
+        Mark::Has(before) => {
+            if !comes_round(code, marks.as_slice(), place, before, instr) {
+                return Err(VerifyFault::Wrong(Defect::ShapesDiffer, place));
             }
-            Err(defect) => Err(VerifyFault::Wrong(defect, place)),
-        },
+            match check_instr(callable, handler, place, before, instr) {
+                Ok(after) => {
+                    flow_from(marks, exits_at(instr, place), after);
+                    Ok(())
+                }
+                Err(defect) => Err(VerifyFault::Wrong(defect, place)),
+            }
+        }
+    }
+}
+
+/// Whether an `End` has the shape of the place after its `Repeat`. True for other instructions.
+fn comes_round(code: &Code, marks: &[Mark], place: usize, before: Shape, instr: Instr) -> bool
+    requires size { length marks.now ≡ length code.now }
+    requires within { place < length code.now }
+    requires instr { slice_get code.now place ≡ Some instr }
+    ensures round { result ≡ true → ComesRound code.now marks.now place before }
+    ensures wrong { result ≡ false → GoesWrong code.now marks.now place before }
+{
+    let Instr::End = instr else {
+        return true;
+    };
+    let Some(start) = code.block(place) else {
+        return true;
+    };
+    if start + 1 >= marks.len() {
+        return true;
+    }
+    match marks[start + 1] {
+        Mark::Has(first) => first.is_same(before),
+        _ => true,
     }
 }
 
@@ -95,7 +125,9 @@ fn flow_from(marks: &mut Vec<Mark>, exits: Exits, after: Shape)
 {
     match exits {
         Exits::Stop => {}
-        Exits::One(next) => flow_to(marks, next, after),
+        Exits::One(next) | Exits::Around(_, next) | Exits::Close(next) => {
+            flow_to(marks, next, after)
+        }
         Exits::Two(next, target) => {
             flow_to(marks, next, after);
             flow_to(marks, target, after);

@@ -11,6 +11,7 @@ pub mod fault;
 mod forward;
 pub mod laws;
 pub mod provider;
+mod route;
 mod shape;
 pub mod verified;
 pub mod verified_list;

@@ -1,15 +1,17 @@
 //! Handlers that the verifier accepted.
 ghost use Rattle.std.specs.Prelude.{◌≡◌, ◌<◌, length, MatchResult, IfOk, IfErr};
+ghost use Rattle.kb_code.specs.Blocks.{IsFormed};
 ghost use Rattle.kb_verify.specs.Accepted.{AreCallees, IsAccepted, IsChecked};
 ghost use Rattle.kb_verify.specs.Faults.{IsFailure, IsTrueFault};
 ghost use Rattle.kb_verify.specs.Paths.{IsDearestCost, IsWithinBudget};
 ghost use Rattle.kb_verify.specs.Shapes.{HasShapes};
 
-use crate::backward::{dearest_costs, dearest_path};
+use crate::backward::dearest_costs;
 use crate::callable::Callable;
 use crate::callees::{Callee, shallow_callees};
 use crate::fault::{Defect, VerifyFault};
 use crate::forward::assign;
+use crate::route::dearest_path;
 use kb_base::{Failure, Seq};
 use kb_code::Handler;
 use std::alloc::Global;
@@ -94,7 +96,8 @@ pub(crate) fn examine(
         × AreCallees callable.now handler.now found.1)
         (λ failure. IsFailure callable.now handler.now failure) }
 {
-    if handler.code().is_empty() {
+    let instrs = handler.code().instrs();
+    if instrs.is_empty() {
         return Err(Failure::Fault(VerifyFault::Wrong(Defect::FallsOff, 0)));
     }
     let marks = assign(alloc, callable, handler)?;
@@ -109,6 +112,7 @@ fn cost_within_budget(
     callable: &Callable,
     handler: &Handler,
 ) -> Result<u64, Failure<VerifyFault>>
+    requires formed { IsFormed handler.now.code }
     requires some_code { 0 < length handler.now.code }
     requires shapes { HasShapes callable.now handler.now }
     ensures { MatchResult result
@@ -120,6 +124,6 @@ fn cost_within_budget(
     if cost <= u64::from(handler.signature().budget()) {
         return Ok(cost);
     }
-    let path = dearest_path(alloc, callable, handler, costs.as_slice())?;
+    let path = dearest_path(alloc, callable, handler, costs.as_slice(), 0)?;
     Err(Failure::Fault(VerifyFault::OverBudget(path)))
 }

@@ -1,17 +1,18 @@
 -- A run does not depend on its bound, so it is one step followed by a run.
 use Rattle.std.proofs.Common.{◌≡◌, ◌<◌, ◌≤◌, ℕ, zero, suc, ◌-◌, Bool, true, false, List, Option, Some, None}
 use Rattle.std.proofs.Common.{nat_le, refl, ap, ◌∙◌, arith, if◌then◌else◌}
-use Rattle.std.specs.Prelude.{slice_get, nat_lt}
+use Rattle.std.specs.Prelude.{slice_get, nat_lt, ◌&&◌, length}
 use Rattle.kb_core.specs.declared.arg.Arg.{Arg}
 use Rattle.kb_code.specs.declared.instr.Instr.{Instr}
 use Rattle.kb_code.specs.Handler.{HandlerData}
 use Rattle.kb_vm.specs.declared.trap.Trap.TheVariants.{OutOfBudget, BadCode}
 use Rattle.kb_code.specs.Commands.{Callee, Plain, Coded, Table, declared_by}
-use Rattle.kb_vm.specs.Effect.{Effect, Stop, Leave, Next, Goto, Enter, effect}
+use Rattle.kb_code.specs.Blocks.{block_of, same_block}
+use Rattle.kb_vm.specs.Effect.{Effect, Stop, Leave, Next, Goto, Open, Turn, Enter, effect}
 use Rattle.kb_vm.specs.Meaning.{World, with_step, with_line, Answer, Done, Stuck, and_then, fetched}
-use Rattle.kb_vm.specs.Meaning.{Runner, run_callee}
+use Rattle.kb_vm.specs.Meaning.{Runner, run_callee, resumed}
 use Rattle.kb_vm.specs.Meaning.{follow, step, go, run}
-use Rattle.kb_vm.specs.Position.{Position, outset, moved, passed}
+use Rattle.kb_vm.specs.Position.{Position, outset, moved, passed, entered, turned}
 use borrow.Author.Tests.{leb-true}
 
 -- two runners agree for remaining budgets up to a limit
@@ -29,12 +30,17 @@ module _ (f g : Runner) (limit : ℕ) (same : Agree f g limit) where
   callee_same (Plain n) args w le = refl
   callee_same (Coded h) args w le = same h args h.signature.budget outset w le
 
-  goto_same : (h : HandlerData) (args : List Arg) (left : ℕ) (at : Position) (to : ℕ) (operands : List Arg) (w : World)
+  goto_same : (h : HandlerData) (args : List Arg) (left : ℕ) (at next : Position) (w : World)
       → left < limit → (b : Bool)
-      → (if b then f h args left (moved at to operands) w else Stuck BadCode h.command at.place w)
-      ≡ (if b then g h args left (moved at to operands) w else Stuck BadCode h.command at.place w)
-  goto_same h args left at to operands w lt false = refl
-  goto_same h args left at to operands w lt true = same h args left (moved at to operands) w lt
+      → (if b then f h args left next w else Stuck BadCode h.command at.place w)
+      ≡ (if b then g h args left next w else Stuck BadCode h.command at.place w)
+  goto_same h args left at next w lt false = refl
+  goto_same h args left at next w lt true = same h args left next w lt
+
+  resumed_same : (h : HandlerData) (args : List Arg) (left : ℕ) (at : Position) (w : World) → left < limit
+      → (next : Option Position) → resumed f h args left at w next ≡ resumed g h args left at w next
+  resumed_same h args left at w lt None = refl
+  resumed_same h args left at w lt (Some next) = same h args left next w lt
 
   enter_same : (h : HandlerData) (args : List Arg) (left : ℕ) (at : Position) (w : World) (callee : Callee)
       (given operands : List Arg) (v : World) → left < limit → (b : Bool)
@@ -59,7 +65,11 @@ module _ (f g : Runner) (limit : ℕ) (same : Agree f g limit) where
   follow_same h args left at w Leave lt = refl
   follow_same h args left at w (Next operands) lt = same h args left (passed at operands) w lt
   follow_same h args left at w (Goto to operands) lt =
-      goto_same h args left at to operands w lt (nat_lt at.place to)
+      goto_same h args left at (moved at to operands) w lt (nat_lt at.place to && same_block h.code at.place to)
+  follow_same h args left at w (Open n operands) lt =
+      goto_same h args left at (entered at n operands) w lt (nat_lt (length at.turns) 8)
+  follow_same h args left at w (Turn operands) lt =
+      resumed_same h args left at w lt (turned at.place operands (block_of h.code at.place) at.turns)
   follow_same h args left at w (Enter name callee given operands) lt =
       enter_same h args left at w callee given operands (with_line name given w) lt
       (nat_le (declared_by callee).budget left) refl

@@ -2,7 +2,7 @@
 use Rattle.std.proofs.Common.{◌≡◌, ℕ, zero, suc, ◌-◌, Bool, true, false, List, [], ◌∷◌, ◌++◌, Option}
 use Rattle.std.proofs.Common.{Some, None}
 use Rattle.std.proofs.Common.{nat_le, refl, sym, ap, ◌∙◌, if◌then◌else◌, append_assoc}
-use Rattle.std.specs.Prelude.{slice_get, nat_lt}
+use Rattle.std.specs.Prelude.{slice_get, nat_lt, ◌&&◌, length}
 use Rattle.std.proofs.lemmas.List.{append-nil}
 use Rattle.kb_core.specs.declared.arg.Arg.{Arg}
 use Rattle.kb_core.specs.declared.native.Native.{Native}
@@ -13,13 +13,14 @@ use Rattle.kb_vm.specs.declared.machine.Machine.{Machine}
 use Rattle.kb_vm.specs.declared.trap.Trap.{Trap}
 use Rattle.kb_vm.specs.declared.trap.Trap.TheVariants.{OutOfBudget, BadCode}
 use Rattle.kb_code.specs.Commands.{Callee, Plain, Coded, Table, declared_by}
-use Rattle.kb_vm.specs.Effect.{Effect, Stop, Leave, Next, Goto, Enter, effect}
+use Rattle.kb_code.specs.Blocks.{block_of, same_block}
+use Rattle.kb_vm.specs.Effect.{Effect, Stop, Leave, Next, Goto, Open, Turn, Enter, effect}
 use Rattle.kb_vm.specs.CallLine.{call_line}
 use Rattle.kb_vm.specs.Meaning.{World, with_step, with_line, native_called, Answer, Done, Stuck}
 use Rattle.kb_vm.specs.Meaning.{and_then, fetched}
-use Rattle.kb_vm.specs.Meaning.{Runner, run_callee, follow, go, run}
+use Rattle.kb_vm.specs.Meaning.{Runner, run_callee, resumed, follow, go, run}
 use Rattle.kb_vm.specs.Outcome.{world_of, BeginsWith, Precedes}
-use Rattle.kb_vm.specs.Position.{Position, outset, moved, passed}
+use Rattle.kb_vm.specs.Position.{Position, outset, moved, passed, entered, turned}
 use Rattle.kb_vm.specs.State.{resume, finish, position_of, rest, rest_of, after_native, after_coded}
 
 pub finish_more : (table : Table) (fs : List Frame) (f : Frame) (a : Answer)
@@ -92,10 +93,15 @@ module _ (f : Runner) (keeps : Keeps f) where
   callee_keeps (Plain n) args w = precedes_native n args w
   callee_keeps (Coded h) args w = keeps h args h.signature.budget outset w
 
-  goto_keeps : (h : HandlerData) (args : List Arg) (left : ℕ) (at : Position) (to : ℕ) (operands : List Arg) (w : World) (b : Bool)
-      → Precedes w (world_of (if b then f h args left (moved at to operands) w else Stuck BadCode h.command at.place w))
-  goto_keeps h args left at to operands w false = precedes_same w
-  goto_keeps h args left at to operands w true = keeps h args left (moved at to operands) w
+  goto_keeps : (h : HandlerData) (args : List Arg) (left : ℕ) (at next : Position) (w : World) (b : Bool)
+      → Precedes w (world_of (if b then f h args left next w else Stuck BadCode h.command at.place w))
+  goto_keeps h args left at next w false = precedes_same w
+  goto_keeps h args left at next w true = keeps h args left next w
+
+  resumed_keeps : (h : HandlerData) (args : List Arg) (left : ℕ) (at : Position) (w : World)
+      (next : Option Position) → Precedes w (world_of (resumed f h args left at w next))
+  resumed_keeps h args left at w None = precedes_same w
+  resumed_keeps h args left at w (Some next) = keeps h args left next w
 
   enter_keeps : (h : HandlerData) (args : List Arg) (left : ℕ) (at : Position) (w : World) (name : List ℕ) (callee : Callee)
       (given operands : List Arg) (b : Bool)
@@ -115,7 +121,11 @@ module _ (f : Runner) (keeps : Keeps f) where
   follow_keeps h args left at w Leave = precedes_same w
   follow_keeps h args left at w (Next operands) = keeps h args left (passed at operands) w
   follow_keeps h args left at w (Goto to operands) =
-      goto_keeps h args left at to operands w (nat_lt at.place to)
+      goto_keeps h args left at (moved at to operands) w (nat_lt at.place to && same_block h.code at.place to)
+  follow_keeps h args left at w (Open n operands) =
+      goto_keeps h args left at (entered at n operands) w (nat_lt (length at.turns) 8)
+  follow_keeps h args left at w (Turn operands) =
+      resumed_keeps h args left at w (turned at.place operands (block_of h.code at.place) at.turns)
   follow_keeps h args left at w (Enter name callee given operands) =
       enter_keeps h args left at w name callee given operands (nat_le (declared_by callee).budget left)
 

@@ -1,6 +1,7 @@
 pub mod Ends
 pub mod Fitting
 pub mod Bound
+pub mod Plain
 pub mod Frames
 pub mod Refusals
 pub mod Runs

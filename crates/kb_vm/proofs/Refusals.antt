@@ -16,7 +16,7 @@ use Rattle.kb_vm.specs.declared.values.One.TheVariants as one
 use Rattle.kb_vm.specs.declared.values.Two.{Two}
 use Rattle.kb_vm.specs.declared.values.Two.TheVariants as two
 use Rattle.kb_vm.specs.Action.{is_stop}
-use Rattle.kb_vm.specs.Effect.{Effect, Stop, Leave, Next, Goto, Enter, effect, pushed, pushed_at}
+use Rattle.kb_vm.specs.Effect.{Effect, Stop, Leave, Next, Goto, Open, Turn, Enter, effect, pushed, pushed_at}
 use Rattle.kb_vm.specs.Effect.{pushed_context}
 use Rattle.kb_vm.specs.Effect.{dropped, doubled, swapped, made, with_one, with_two, branched}
 use Rattle.kb_vm.specs.Meaning.{World, with_step}
@@ -102,6 +102,8 @@ only_calls table h args core operands (i.Call n) = inr (refl, refl)
 only_calls table h args core operands (i.Context n) = inl (pushes_context core (slice_get h.texts n) operands)
 only_calls table h args core operands i.Before = inl (pushes (Number (pos (size_of core.buffer.before))) operands)
 only_calls table h args core operands i.After = inl (pushes (Number (pos (size_of core.buffer.after))) operands)
+only_calls table h args core operands (i.Repeat n) = inl refl
+only_calls table h args core operands i.End = inl refl
 
 either_asks : (a b : Bool) → b ≡ true → a || b ≡ true
 either_asks true b e = refl
@@ -115,6 +117,8 @@ goes_by left (Stop trap) stays calm = absurd (true≢false stays)
 goes_by left Leave stays calm = refl
 goes_by left (Next operands) stays calm = refl
 goes_by left (Goto to operands) stays calm = refl
+goes_by left (Open n operands) stays calm = refl
+goes_by left (Turn operands) stays calm = refl
 goes_by left (Enter name callee args operands) stays calm = absurd (true≢false calm)
 
 refused_last : (instr : Instr) (left : ℕ) (e : Effect) (w : World) → asks_memory instr ≡ true

@@ -1,16 +1,16 @@
 -- One turn of the machine.
 use Rattle.std.proofs.Common.{◌≡◌, ◌<◌, ◌≤◌, ℕ, ◌+◌, ◌-◌, Bool, List, [], ◌∷◌, ◌++◌, Some, None}
 use Rattle.std.proofs.Common.{sym, ap, ◌∙◌, arith, if◌then◌else◌}
-use Rattle.std.proofs.lemmas.Bool.{le-leb, lt-leb, lt-ltb, le-ltb}
+use Rattle.std.proofs.lemmas.Bool.{le-leb, lt-leb}
 use Rattle.kb_core.specs.declared.arg.Arg.{Arg}
 use Rattle.kb_core.specs.Core.{Core}
 use Rattle.kb_vm.specs.declared.machine.Machine.{Machine}
 use Rattle.kb_vm.specs.declared.machine.Turn.{Turn}
 use Rattle.kb_vm.specs.declared.machine.Turn.TheVariants as turn
-use Rattle.kb_vm.specs.declared.trap.Trap.TheVariants.{OutOfBudget, BadCode}
+use Rattle.kb_vm.specs.declared.trap.Trap.TheVariants.{OutOfBudget}
 use Rattle.kb_vm.specs.CallLine.{call_line}
 use Rattle.kb_code.specs.Commands.{Callee, Plain, Coded, Table, declared_by}
-use Rattle.kb_vm.specs.Effect.{Enter, Goto}
+use Rattle.kb_vm.specs.Effect.{Enter}
 use Rattle.kb_vm.specs.Meaning.{World, with_line, Answer, Done, Stuck, and_then, run_callee, run}
 use Rattle.kb_vm.specs.Meaning.{native_called, first_world}
 use Rattle.kb_vm.specs.Outcome.{Shows}
@@ -27,23 +27,6 @@ use Rattle.std.specs.Prelude.{sum_by}
 use Rattle.std.proofs.lemmas.List.Sums.{sum_by-append}
 use Rattle.kb_vm.specs.Leave.{Keeps, Left}
 use Rattle.kb_vm.proofs.Frames.{finish_stuck}
-
--- a jump, by whether it goes to a later place
-goto_if : Table → Machine → ℕ → List Arg → World → Bool → Answer
-goto_if table m to operands w b = finish table m.callers (if b then run table m.frame.handler m.frame.args m.frame.left (moved (position_of m.frame) to operands) w else Stuck BadCode m.frame.handler.command m.frame.place w)
-
-pub goes_back : (table : Table) (m : Machine) (to : ℕ) (operands : List Arg) (w : World) → to ≤ m.frame.place
-    → rest_of table m (Goto to operands) w ≡ Stuck BadCode m.frame.handler.command m.frame.place w
-unfolding goto_if
-goes_back table m to operands w le =
-    ap (goto_if table m to operands w) (le-ltb _ _ le)
-    ∙ finish_stuck table m.callers BadCode m.frame.handler.command m.frame.place w
-
-pub goes_on : (table : Table) (m : Machine) (to : ℕ) (operands : List Arg) (w : World) → m.frame.place < to
-    → rest_of table m (Goto to operands) w
-    ≡ finish table m.callers (run table m.frame.handler m.frame.args m.frame.left (moved (position_of m.frame) to operands) w)
-unfolding goto_if
-goes_on table m to operands w lt = ap (goto_if table m to operands w) (lt-ltb _ _ lt)
 
 -- a call, by whether its frame can pay for it
 enter_if : Table → Machine → List ℕ → Callee → List Arg → List Arg → World → Bool → Answer

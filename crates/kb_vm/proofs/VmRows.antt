@@ -9,6 +9,7 @@ use Rattle.kb_core.specs.Core.{Core}
 use Rattle.kb_core.specs.Core.{new_core}
 use Rattle.kb_code.specs.declared.instr.Instr.{Instr}
 use Rattle.kb_code.specs.declared.instr.Instr.TheVariants as i
+use Rattle.kb_code.specs.Blocks.{around_at}
 use Rattle.kb_code.specs.Handler.{HandlerData}
 use Rattle.kb_vm.specs.declared.trap.Trap.{Trap}
 use Rattle.kb_vm.specs.declared.trap.Trap.TheVariants.{MissingOperand, UnknownCommand, WrongArgument}
@@ -115,3 +116,47 @@ no_code = refl
 no_way_back : started 9 (i.Jump 0 ∷ []) ≡ stuck BadCode 0 1
 unfolding handler table first row_in row_of started stuck run
 no_way_back = refl
+
+-- a block that types "hi" in each of its two iterations
+twice : List Instr
+twice = i.Repeat 2 ∷ i.Text 0 ∷ i.Call 0 ∷ i.End ∷ i.Return ∷ []
+
+hi_twice : Core
+hi_twice = record { buffer = record { before = codes "hihi"; after = [] }; scopes = first.scopes }
+
+-- the `Repeat` costs 1 once, and the `End` costs 1 in each iteration
+types_twice : started 2010 twice
+    ≡ Some (record {
+      trap = None;
+      core = hi_twice;
+      lines = codes "call type [\"hi\"]" ∷ codes "call type [\"hi\"]" ∷ [];
+      count = 8;
+      natives = TypeText ∷ TypeText ∷ [];
+    })
+unfolding handler table first row_in row_of started run list_text print_from escape_byte twice hi_twice around_at
+types_twice = refl
+
+one_too_few_of_two : started 2009 twice
+    ≡ Some (record {
+      trap = Some (OutOfBudget, 4);
+      core = hi_twice;
+      lines = codes "call type [\"hi\"]" ∷ codes "call type [\"hi\"]" ∷ [];
+      count = 7;
+      natives = TypeText ∷ TypeText ∷ [];
+    })
+unfolding handler table first row_in row_of started run list_text print_from escape_byte twice hi_twice around_at
+one_too_few_of_two = refl
+
+-- a jump out of a block, and one into a block; a jump to the block's `End` stays inside
+out_of_block : started 9 (i.Repeat 2 ∷ i.Jump 3 ∷ i.End ∷ i.Return ∷ []) ≡ stuck BadCode 1 2
+unfolding handler table first row_in row_of started stuck run around_at
+out_of_block = refl
+
+into_block : started 9 (i.Jump 2 ∷ i.Repeat 2 ∷ i.End ∷ i.Return ∷ []) ≡ stuck BadCode 0 1
+unfolding handler table first row_in row_of started stuck run around_at
+into_block = refl
+
+to_the_end : started 9 (i.Repeat 2 ∷ i.Jump 2 ∷ i.End ∷ i.Return ∷ [])
+    ≡ Some (record { trap = None; core = first; lines = []; count = 6; natives = [] })
+unfolding handler table first row_in row_of started stuck run around_at
+to_the_end = refl

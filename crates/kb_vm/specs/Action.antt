@@ -9,7 +9,7 @@ use Rattle.kb_vm.specs.declared.action.Called.{Called}
 use Rattle.kb_vm.specs.declared.action.Called.TheVariants as called
 use Rattle.kb_code.specs.Commands.{Callee, Plain, Coded, Table, IsLive, declared_by}
 use Rattle.kb_vm.specs.Memory.{makes_text}
-use Rattle.kb_vm.specs.Effect.{Effect, Stop, Leave, Next, Goto, Enter, topmost}
+use Rattle.kb_vm.specs.Effect.{Effect, Stop, Leave, Next, Goto, Open, Turn, Enter, topmost}
 use Rattle.kb_code.specs.Found.{callee_of}
 
 -- the number of arguments of a command
@@ -22,6 +22,8 @@ Does e (action.Stop trap) operands = e ≡ Stop trap
 Does e action.Leave operands = e ≡ Leave
 Does e action.Next operands = e ≡ Next operands
 Does e (action.Goto to) operands = e ≡ Goto to operands
+Does e (action.Open n) operands = e ≡ Open n operands
+Does e action.Turn operands = e ≡ Turn operands
 
 -- the result of a call instruction matches its effect; the arguments are still on the stack
 abbrev pub Calls : Effect → Called → List Arg → Type 0

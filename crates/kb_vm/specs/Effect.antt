@@ -21,12 +21,15 @@ use Rattle.kb_vm.specs.declared.values.Two.TheVariants as two
 use Rattle.kb_code.specs.Commands.{Callee, Table, declared_by}
 use Rattle.kb_vm.specs.Values.{size_of, one_of, two_of, context_arg}
 
--- it traps, returns, continues at the next place or at another one, or enters a command
+-- it traps, returns, continues at the next place or at another one, opens a block of so many iterations, ends
+-- an iteration, or enters a command
 pub data Effect : Type 0 where
   Stop : (trap : Trap) → Effect
   Leave : Effect
   Next : (operands : List Arg) → Effect
   Goto : (place : ℕ) (operands : List Arg) → Effect
+  Open : (turns : ℕ) (operands : List Arg) → Effect
+  Turn : (operands : List Arg) → Effect
   Enter : (name : List ℕ) (callee : Callee) (args : List Arg) (operands : List Arg) → Effect
 
 -- push an operand, unless the stack already has 64
@@ -123,3 +126,5 @@ effect table h args core operands (i.Call n) = called table h.signature.depth (s
 effect table h args core operands (i.Context n) = pushed_context core (slice_get h.texts n) operands
 effect table h args core operands i.Before = pushed (Number (pos (size_of core.buffer.before))) operands
 effect table h args core operands i.After = pushed (Number (pos (size_of core.buffer.after))) operands
+effect table h args core operands (i.Repeat n) = Open n operands
+effect table h args core operands i.End = Turn operands

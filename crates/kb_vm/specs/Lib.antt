@@ -5,6 +5,7 @@ pub mod CallLine
 pub mod Effect
 pub mod Position
 pub mod Meaning
+pub mod Plain
 pub mod Memory
 pub mod Action
 pub mod Outcome

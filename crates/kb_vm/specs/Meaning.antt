@@ -1,7 +1,7 @@
 -- The meaning of a run, defined with recursion for calls: without frames and without a count of the
 -- cost.
-use Rattle.std.specs.Prelude.{◌≡◌, ℕ, zero, suc, ◌-◌, nat_le, nat_lt, if◌then◌else◌, List, [], ◌∷◌, ◌++◌}
-use Rattle.std.specs.Prelude.{Option, Some, None, option_map, slice_get}
+use Rattle.std.specs.Prelude.{◌≡◌, ℕ, zero, suc, ◌-◌, nat_le, nat_lt, ◌&&◌, if◌then◌else◌, List, [], ◌∷◌, ◌++◌}
+use Rattle.std.specs.Prelude.{length, Option, Some, None, option_map, slice_get}
 use Rattle.kb_core.specs.declared.arg.Arg.{Arg}
 use Rattle.kb_core.specs.declared.native.Native.{Native}
 use Rattle.kb_core.specs.Core.{Core}
@@ -13,8 +13,9 @@ use Rattle.kb_vm.specs.declared.trap.Trap.{Trap}
 use Rattle.kb_vm.specs.declared.trap.Trap.TheVariants.{WrongArgument, OutOfBudget, BadCode}
 use Rattle.kb_vm.specs.CallLine.{call_line}
 use Rattle.kb_code.specs.Commands.{Callee, Plain, Coded, Table, declared_by}
-use Rattle.kb_vm.specs.Effect.{Effect, Stop, Leave, Next, Goto, Enter, effect}
-use Rattle.kb_vm.specs.Position.{Position, outset, moved, passed}
+use Rattle.kb_code.specs.Blocks.{block_of, same_block}
+use Rattle.kb_vm.specs.Effect.{Effect, Stop, Leave, Next, Goto, Open, Turn, Enter, effect}
+use Rattle.kb_vm.specs.Position.{Position, outset, moved, passed, entered, turned}
 
 -- a begun instruction: its effect, and the budget that its frame has left after it
 pub record Step : Type 0 where
@@ -73,14 +74,25 @@ abbrev pub run_callee : Runner → Callee → List Arg → World → Answer
 run_callee run (Plain native) args w = Done (native_called native args w)
 run_callee run (Coded g) args w = run g args g.signature.budget outset w
 
--- what follows from an instruction's effect, with the remaining budget `left`
+-- continues at a position, if there is one
+abbrev pub resumed : Runner → HandlerData → List Arg → ℕ → Position → World → Option Position → Answer
+resumed run h args left at w None = Stuck BadCode h.command at.place w
+resumed run h args left at w (Some next) = run h args left next w
+
+-- what follows from an instruction's effect, with the remaining budget `left`; well-formed blocks never nest
+-- deeper than 8
 abbrev pub follow : Runner → HandlerData → List Arg → ℕ → Position → World → Effect → Answer
 follow run h args left at w (Stop trap) = Stuck trap h.command at.place w
 follow run h args left at w Leave = Done w
 follow run h args left at w (Next operands) = run h args left (passed at operands) w
 follow run h args left at w (Goto to operands) =
-    if nat_lt at.place to then run h args left (moved at to operands) w
+    if nat_lt at.place to && same_block h.code at.place to then run h args left (moved at to operands) w
     else Stuck BadCode h.command at.place w
+follow run h args left at w (Open n operands) =
+    if nat_lt (length at.turns) 8 then run h args left (entered at n operands) w
+    else Stuck BadCode h.command at.place w
+follow run h args left at w (Turn operands) =
+    resumed run h args left at w (turned at.place operands (block_of h.code at.place) at.turns)
 follow run h args left at w (Enter name callee given operands) =
     if nat_le (declared_by callee).budget left
     then and_then (run_callee run callee given (with_line name given w))

@@ -1,12 +1,17 @@
 -- The meaning of the machine's state: the rest of the run.
 use Rattle.std.specs.Prelude.{◌≡◌, ℕ, zero, suc, ◌+◌, ◌-◌, ◌≤◌, ◌<◌, ◌^◌, Bool, true, false, List}
 use Rattle.std.specs.Prelude.{[], ◌∷◌, sum_by}
-use Rattle.std.specs.Prelude.{Option, Some, None, Result, Ok, Err, length, drop, slice_get}
+use Rattle.std.specs.Prelude.{nat_lt, ◌&&◌, if◌then◌else◌, Option, Some, None, Result, Ok, Err, length, drop}
+use Rattle.std.specs.Prelude.{slice_get}
 use Rattle.kb_core.specs.declared.arg.Arg.{Arg}
 use Rattle.kb_core.specs.declared.native.Native.{Native}
 use Rattle.kb_core.specs.Core.{Core}
 use Rattle.kb_code.specs.declared.instr.Instr.{Instr}
+use Rattle.kb_code.specs.Blocks.{block_of, same_block}
 use Rattle.kb_code.specs.Handler.{HandlerData}
+use Rattle.kb_base.specs.Reading.{or_fault}
+use Rattle.kb_vm.specs.declared.action.Action.{Action}
+use Rattle.kb_vm.specs.declared.action.Action.TheVariants as action
 use Rattle.kb_vm.specs.declared.trap.Trap.{Trap}
 use Rattle.kb_vm.specs.declared.trap.Trap.TheVariants.{OutOfBudget, BadCode}
 use Rattle.kb_vm.specs.declared.machine.Frame.{Frame}
@@ -21,7 +26,7 @@ use Rattle.kb_vm.specs.Effect.{Effect, Enter, called, topmost}
 use Rattle.kb_vm.specs.Meaning.{World, Answer, Done, Stuck, and_then, run, follow, native_called}
 use Rattle.kb_vm.specs.Memory.{RefusedLast, goes_on}
 use Rattle.kb_vm.specs.Outcome.{Shows, Precedes, world_of}
-use Rattle.kb_vm.specs.Position.{Position, outset, moved}
+use Rattle.kb_vm.specs.Position.{Position, standing, outset, moved, passed, entered, turned}
 
 -- the position of a frame
 abbrev pub position_of : Frame → Position
@@ -137,17 +142,25 @@ PausedFrom table h args at a v left (pause.Call index) =
     CallMayBeRefused left e v × (a ≡ follow (run table) h args left at v e)
 PausedFrom table h args at a v left pause.NoMemory = Precedes v (world_of a) × RefusedLast v
 
--- a run of a frame from a position to its pause, for all tables of live commands
-abbrev pub PausesAt : HandlerData → List Arg → Core → Position → ℕ → List Arg → Paused → Type 0
-PausesAt h args core at left after p =
+-- a run of a frame from a position to its pause, with the open blocks and the operands there, for all tables
+-- of live commands
+abbrev pub Pauses : HandlerData → List Arg → Core → Position → ℕ → List ℕ → List Arg → Paused → Type 0
+Pauses h args core at left turns operands p =
     (table : Table) (w : World) → w.core ≡ core → (v : World) × Begun (left - p.left) w v
-    × PausedFrom table h args (moved at p.place after) (run table h args left at w) v p.left p.why
+    × PausedFrom table h args (standing p.place turns operands) (run table h args left at w) v p.left p.why
 
--- the same from a place with operands, for any open blocks: no instruction opens or closes one
-abbrev pub Pauses : HandlerData → List Arg → Core → List Arg → ℕ → ℕ → List Arg → Paused → Type 0
-Pauses h args core operands place left after p =
-    (turns : List ℕ)
-    → PausesAt h args core (record { place = place; turns = turns; operands = operands }) left after p
+-- the position after an action in code, by the position with the operands after it, or the reason for a pause
+abbrev pub next_of : List Instr → Position → Action → Result Position Pause
+next_of code at (action.Stop trap) = Err (pause.Stop trap)
+next_of code at action.Leave = Err pause.Leave
+next_of code at action.Next = Ok (passed at at.operands)
+next_of code at (action.Goto to) =
+    if nat_lt at.place to && same_block code at.place to then Ok (moved at to at.operands)
+    else Err (pause.Stop BadCode)
+next_of code at (action.Open n) =
+    if nat_lt (length at.turns) 8 then Ok (entered at n at.operands) else Err (pause.Stop BadCode)
+next_of code at action.Turn =
+    or_fault (pause.Stop BadCode) (turned at.place at.operands (block_of code at.place) at.turns)
 
 -- an instruction at which a frame pauses was paid for
 abbrev pub IsPaid : ℕ → ℕ → ℕ → Pause → Type 0

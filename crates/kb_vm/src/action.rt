@@ -32,8 +32,12 @@ pub(crate) enum Action {
     Leave,
     /// Continue at the next instruction.
     Next,
-    /// Continue at this place. The caller traps if it isn't a later one.
+    /// Continue at this place. The caller traps if it isn't a later one of the same block.
     Goto(u16),
+    /// Open a block that runs this many times.
+    Open(u16),
+    /// End an iteration of the innermost open block.
+    Turn,
 }
 
 /// The result of a call instruction.
@@ -307,5 +311,7 @@ pub(crate) fn perform<'r: 'a, 'a>(
             operands,
             Operand::Number(size_of(core.buffer().after.as_str())),
         )),
+        Instr::Repeat(turns) => Ok(Action::Open(turns)),
+        Instr::End => Ok(Action::Turn),
     }
 }

@@ -1,5 +1,7 @@
 //! The frames of handlers, and the loop that runs them.
 ghost use Rattle.std.specs.Prelude.{◌≡◌, ◌≤◌, ◌<◌, ◌+◌, ◌^◌, [], true, IfOk, IfErr, is_ok, slice_get};
+ghost use Rattle.std.specs.Prelude.{option_map};
+ghost use Rattle.kb_base.specs.Reading.{seen};
 ghost use Rattle.kb_core.specs.Native.{budget_of, parameters_of};
 ghost use Rattle.kb_core.specs.Ran.{Does};
 ghost use Rattle.kb_core.specs.Signature.{fits};
@@ -11,21 +13,22 @@ ghost use Rattle.kb_vm.specs.Leave.{Left};
 ghost use Rattle.kb_vm.specs.Meaning.{World, run, first_world};
 ghost use Rattle.kb_vm.specs.Outcome.{Shows, Ends};
 ghost use Rattle.kb_vm.specs.Memory.{RefusedLast};
-ghost use Rattle.kb_vm.specs.Position.{outset};
+ghost use Rattle.kb_code.specs.Blocks.{block_of};
+ghost use Rattle.kb_vm.specs.Position.{standing, outset, turned};
 ghost use Rattle.kb_vm.specs.State.{Begins, Turned, TurnedFrom, Pays, PaysFrom, after_native, after_coded};
 ghost use Rattle.kb_vm.specs.State.{rest_of, credit, after_call, fetched_at, called_by};
-ghost use Rattle.kb_vm.specs.State.{CallMayBeRefused, IsPaid, Pauses};
+ghost use Rattle.kb_vm.specs.State.{CallMayBeRefused, IsPaid, Pauses, next_of};
 
 use crate::action::{Action, Called, call, index_of, perform};
 use crate::arena::Arena;
-use crate::blocks::Turns;
+use crate::blocks::{BLOCK_LIMIT, Turns};
 use crate::call_line::call_line;
 use crate::callers::Callers;
 use crate::given::Given;
 use crate::operands::Operands;
 use crate::trap::Trap;
 use kb_base::Text;
-use kb_code::{Commands, Found, Instr, Linked};
+use kb_code::{Code, Commands, Found, Instr, Linked};
 use kb_core::{Core, Native, Ran};
 use kb_stream::Lines;
 use std::alloc::Global;
@@ -357,6 +360,53 @@ fn paused_at(place: usize, left: u32, why: Pause) -> Paused
     Paused { place, left, why }
 }
 
+/// The place of the next instruction after an action at a place, or the reason for a pause.
+#[inline]
+fn next_place(code: &Code, turns: &mut Turns, place: usize, action: Action) -> Result<usize, Pause>
+    requires { place + 1 < 2 ^ 64 }
+    ensures { (operands : _) → next_of code.now (standing place turns.old operands) action
+        ≡ seen (λ next. standing next turns.new operands) result }
+{
+    match action {
+        Action::Stop(trap) => Err(Pause::Stop(trap)),
+        Action::Leave => Err(Pause::Leave),
+        Action::Next => Ok(place + 1),
+        Action::Goto(to) => {
+            let to = usize::from(to);
+            if place < to && code.same_block(place, to) {
+                Ok(to)
+            } else {
+                Err(Pause::Stop(Trap::BadCode))
+            }
+        }
+        Action::Open(count) => {
+            if turns.len() >= BLOCK_LIMIT {
+                return Err(Pause::Stop(Trap::BadCode));
+            }
+            turns.push(count);
+            Ok(place + 1)
+        }
+        Action::Turn => end_turn(code, turns, place).ok_or(Pause::Stop(Trap::BadCode)),
+    }
+}
+
+/// The place of the next instruction after an `End`: after the `Repeat` of its block if the block has a
+/// further iteration, or else after the block. `None` if no block is open.
+fn end_turn(code: &Code, turns: &mut Turns, place: usize) -> Option<usize>
+    requires { place + 1 < 2 ^ 64 }
+    ensures { (operands : _) → turned place operands (block_of code.now place) turns.old
+        ≡ option_map (λ next. standing next turns.new operands) result }
+{
+    let start = code.block(place)?;
+    let left = turns.pop()?;
+    if left > 1 {
+        turns.push(left - 1);
+        Some(start + 1)
+    } else {
+        Some(place + 1)
+    }
+}
+
 /// Runs the instructions of a frame from a place, each at a cost of 1, up to the first that calls a
 /// command, returns, traps, or is refused memory. The frame's state is borrowed, so no instruction
 /// moves it.
@@ -365,19 +415,22 @@ fn run_on<'r: 'a, 'a>(
     handler: &Linked<'r>,
     args: &Given<'a>,
     core: &Core,
+    turns: &mut Turns,
     operands: &mut Operands<'a>,
     place: usize,
     left: u32,
 ) -> Paused
-    ensures pauses { Pauses handler.now args.now core.now operands.old place left operands.new result }
+    ensures pauses { Pauses handler.now args.now core.now (standing place turns.old operands.old) left
+        turns.new operands.new result }
     ensures few { result.left ≤ left }
     ensures paid { IsPaid left result.place result.left result.why }
 {
     let code = handler.handler().code();
+    let instrs = code.instrs();
     let mut place = place;
     let mut left = left;
     loop {
-        let instr = match fetch(code, place, left) {
+        let instr = match fetch(instrs, place, left) {
             Ok(instr) => instr,
             Err(trap) => return paused_at(place, left, Pause::Stop(trap)),
         };
@@ -385,18 +438,12 @@ fn run_on<'r: 'a, 'a>(
         if let Some(index) = index_of(instr) {
             return paused_at(place, left, Pause::Call(index));
         }
-        match perform(arena, handler, args, core, operands, instr) {
-            Ok(Action::Next) => place += 1,
-            Ok(Action::Goto(to)) => {
-                let to = usize::from(to);
-                if to <= place {
-                    return paused_at(place, left, Pause::Stop(Trap::BadCode));
-                }
-                place = to;
-            }
-            Ok(Action::Stop(trap)) => return paused_at(place, left, Pause::Stop(trap)),
-            Ok(Action::Leave) => return paused_at(place, left, Pause::Leave),
-            Err(_) => return paused_at(place, left, Pause::NoMemory),
+        let Ok(action) = perform(arena, handler, args, core, operands, instr) else {
+            return paused_at(place, left, Pause::NoMemory);
+        };
+        match next_place(code, turns, place, action) {
+            Ok(next) => place = next,
+            Err(why) => return paused_at(place, left, why),
         }
     }
 }
@@ -423,11 +470,20 @@ fn take_turn<'r: 'a, 'a, L: Commands>(
         handler,
         args,
         place,
-        turns,
+        mut turns,
         left,
         mut operands,
     } = frame;
-    let paused = run_on(arena, &handler, &args, &core, &mut operands, place, left);
+    let paused = run_on(
+        arena,
+        &handler,
+        &args,
+        &core,
+        &mut turns,
+        &mut operands,
+        place,
+        left,
+    );
     let machine = Machine {
         frame: Frame {
             handler,

@@ -95,7 +95,7 @@ fn start_handler<'r, L: Commands>(
     ensures bound { result.spent ≤ handler.entry.signature.budget }
 {
     let begun = handler.handler();
-    match fetch(begun.code(), 0, begun.signature().budget()) {
+    match fetch(begun.code().instrs(), 0, begun.signature().budget()) {
         Ok(_) => start_begun(alloc, commands, handler, args, core),
         Err(trap) => {
             let command = handler.handler().command().as_str();

@@ -15,8 +15,8 @@ pub enum Trap {
     OutOfBudget,
     /// The declared depth of the called command isn't less than the caller's.
     TooDeep,
-    /// There is no instruction, text or argument at a place or index, a jump doesn't go to a later
-    /// place, or the stack already has 64 operands.
+    /// There is no instruction, text or argument at a place or index, a jump doesn't go to a later place
+    /// of the same block, or the stack already has 64 operands.
     BadCode,
 }
 

@@ -6,7 +6,7 @@ use Rattle.kb_code.proofs.coding.failure_in.Goals as goal
 pub loop-left-preserved : goal.loop-left-preserved
 loop-left-preserved c = (
   c.loop-left.invariant.0
-      ∙ passed_over c.loop-left.place c.in-Ok._instr c.loop-left.left.now c.in-len3-up.len_at_least
+      ∙ passed_over c.args.version c.loop-left.place c.in-Ok._instr c.loop-left.left.now c.in-len3-up.len_at_least
       c.from_be_bytes-operand.ensures (sym c.instr_at.ensures ∙ c.in-Ok.is),
   rw (take_rest c.loop-left.left.now 3) (omega (
     arith,

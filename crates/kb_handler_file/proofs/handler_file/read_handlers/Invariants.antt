@@ -10,5 +10,5 @@ use Rattle.kb_handler_file.proofs.handler_file.read_handlers.Given as goal
 abbrev pub invariant-loop-element : goal.invariant-loop-element
 invariant-loop-element l =
     seen (λ rest. l.handlers ++ rest)
-    (each_read handler_of (listed (items_view (into_iter_items l.element-iterator))))
-    ≡ each_read handler_of (listed (items_view l.fn.elements.items))
+    (each_read (handler_of l.fn.version) (listed (items_view (into_iter_items l.element-iterator))))
+    ≡ each_read (handler_of l.fn.version) (listed (items_view l.fn.elements.items))

@@ -1,5 +1,5 @@
 use Rattle.std.proofs.Common.{◌≡◌, ◌≤◌, ℕ, length}
-use Rattle.kb_verify.proofs.Dearest.{IsDearest}
+use Rattle.kb_verify.specs.Costs.{IsDearest}
 use Rattle.kb_verify.proofs.backward.dearest_costs.Given as goal
 
 abbrev pub invariant-loop-place : goal.invariant-loop-place

@@ -1,4 +1,4 @@
-use Rattle.std.proofs.Common.{◌≡◌, ◌∙◌, ◌+◌, ap, sym, subst, Some, length, map, arith}
+use Rattle.std.proofs.Common.{◌≡◌, ◌∙◌, ◌+◌, ap, sym, subst, Some, length, map, arith, rules}
 use Rattle.std.proofs.lemmas.Option.{slice_get_within}
 use Rattle.kb_code.specs.declared.instr.Instr.TheVariants.{Call}
 use Rattle.kb_code.specs.Reachable.{CalleesBelow}
@@ -43,7 +43,7 @@ returns c =
     let h = c.args.handler.now in
     let i = c.loop-place.invariant in
     let callees = c.loop-place.callees.items in
-    let size : length c.code-place-end.result.now ≡ length h.code = ap length c.code-place-end.ensures in
+    let size : length c.instrs-place-end.result.now ≡ length h.code = search rules in
     let n : c.loop-place.place ≡ length h.code = omega (arith, c.loop-place-test.false, c.loop-place.auto.place-end, size) in
     let called : CalleesBelow h (length h.code) (map (λ x. x.index) callees) = subst (λ q. CalleesBelow h q (map (λ x. x.index) callees)) n i.called in (
       subst (AreCallees c.args.callable.now h) (sym c.from_vec.ensures) (record { called = callees_are h _ called; declared = i.declared }),

@@ -2,8 +2,9 @@ use Rattle.std.proofs.Common.{◌≡◌, ◌<◌, ◌^◌, length, refl, ap, ari
 use Rattle.std.specs.Prelude.{slice_index}
 use Rattle.std.proofs.lemmas.Option.{get_or_from_slice_get, slice_get_read}
 use Rattle.kb_verify.specs.Paths.{IsDearestCost, IsWithinBudget}
-use Rattle.kb_verify.proofs.Checks.{all_lead_on}
-use Rattle.kb_verify.proofs.Dearest.{path_most, dearest_is}
+use Rattle.kb_code.specs.Reachable.{first}
+use Rattle.kb_verify.proofs.Attained.{dearest_is}
+use Rattle.kb_verify.proofs.Dearest.{path_most}
 use Rattle.kb_verify.proofs.verified.cost_within_budget.Goals as goal
 
 pub returns-then-cost-from : goal.returns-then-cost-from
@@ -21,8 +22,8 @@ returns-then-cost-from c =
     let most = path_most commands h costs are 0 path d is in
     omega (arith, most, first, c.if-cost-from.true, c.from.ensures, c.budget.ensures.budget, c.budget.ensures.limit, declared) in (
       within,
-      subst (IsDearestCost commands h) first (dearest_is commands h costs are (all_lead_on commands h c.requires.shapes) h.signature.budget fits c.requires.some_code within),
+      subst (IsDearestCost commands h) first (dearest_is commands h c.requires.formed c.requires.shapes.0 c.requires.shapes.1 costs are h.signature.budget fits c.requires.some_code within),
     )
 
-pub dearest_path-requires-clause-leads : goal.dearest_path-requires-clause-leads
-dearest_path-requires-clause-leads c = all_lead_on c.args.callable.now c.args.handler.now c.requires.shapes
+pub dearest_path-requires-clause-reached : goal.dearest_path-requires-clause-reached
+dearest_path-requires-clause-reached c = first c.requires.some_code

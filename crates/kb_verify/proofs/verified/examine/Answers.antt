@@ -1,4 +1,5 @@
-use Rattle.std.proofs.Common.{◌<◌, length, rules}
+use Rattle.std.proofs.Common.{◌<◌, length, rules, subst}
+use Rattle.kb_code.specs.Blocks.{IsFormed}
 use Rattle.kb_verify.proofs.Passes.{all_looked}
 use Rattle.kb_verify.proofs.verified.examine.Goals as goal
 
@@ -12,6 +13,7 @@ pub returns : goal.returns
 returns c =
     let some : 0 < length c.args.handler.now.code = search rules in (
       record {
+        formed = subst IsFormed c.code.ensures c.instrs-instrs.ensures.formed;
         some_code = some;
         shapes = all_looked c.args.callable.now c.args.handler.now c.in_ok-marks.marks.items c.in_ok-marks.ensures;
         within_budget = c.in_ok-cost.ensures.0;

@@ -1,6 +1,6 @@
 use Rattle.std.proofs.Common.{◌<◌, ◌+◌, ◌∙◌, ap, sym, subst, arith}
 use Rattle.kb_vm.specs.Meaning.{run}
-use Rattle.kb_vm.specs.Position.{moved}
+use Rattle.kb_vm.specs.Position.{standing}
 use Rattle.kb_vm.specs.State.{PausedFrom, IsPaid, TurnedFrom, finish, position_of}
 use Rattle.kb_vm.specs.declared.machine.Machine.{Machine}
 use Rattle.kb_vm.proofs.Frames.{finish_keeps, finish_stuck}
@@ -13,8 +13,8 @@ returns-in-Stop-clause-turned g c = λ w s.
     let f = m.frame in
     let t = g.L.Commands.live c.args.commands.now in
     let p = c.run_on-paused in
-    let q = p.ensures.pauses f.turns t w s.core_is in
-    let left = subst (PausedFrom t f.handler f.args (moved (position_of f) p.result.place p.new.operands) (run t f.handler f.args f.left (position_of f) w) q.0 p.result.left) c.in-Stop.is q.2 in (
+    let q = p.ensures.pauses t w s.core_is in
+    let left = subst (PausedFrom t f.handler f.args (standing p.result.place p.new.turns p.new.operands) (run t f.handler f.args f.left (position_of f) w) q.0 p.result.left) c.in-Stop.is q.2 in (
       q.0,
       paused_shows w q.0 m.core m.lines m.spent _ _ s q.1 c.from.ensures,
       ap (finish t m.callers) left ∙ finish_stuck t m.callers c.in-Stop.trap f.handler.command p.result.place q.0,
@@ -26,8 +26,8 @@ returns-in-Leave-clause-turned g c = λ w s.
     let f = m.frame in
     let t = g.L.Commands.live c.args.commands.now in
     let p = c.run_on-paused in
-    let q = p.ensures.pauses f.turns t w s.core_is in
-    let left = subst (PausedFrom t f.handler f.args (moved (position_of f) p.result.place p.new.operands) (run t f.handler f.args f.left (position_of f) w) q.0 p.result.left) c.in-Leave.is q.2 in
+    let q = p.ensures.pauses t w s.core_is in
+    let left = subst (PausedFrom t f.handler f.args (standing p.result.place p.new.turns p.new.operands) (run t f.handler f.args f.left (position_of f) w) q.0 p.result.left) c.in-Leave.is q.2 in
     subst (λ a. TurnedFrom t a c.leave.result) (sym (ap (finish t m.callers) left))
     (left_turned t _ c.leave.result q.0 (paused_shows w q.0 m.core m.lines m.spent _ _ s q.1 c.from.ensures) (c.leave.ensures t))
 
@@ -36,7 +36,7 @@ returns-in-Leave-clause-pays g c =
     let m = c.args.machine in
     let p = c.run_on-paused.result in
     let n : Machine = record {
-      frame = record { handler = m.frame.handler; args = m.frame.args; place = p.place; turns = m.frame.turns; left = p.left; operands = c.run_on-paused.new.operands };
+      frame = record { handler = m.frame.handler; args = m.frame.args; place = p.place; turns = c.run_on-paused.new.turns; left = p.left; operands = c.run_on-paused.new.operands };
       callers = m.callers;
       core = m.core;
       lines = m.lines;
@@ -51,8 +51,8 @@ returns-in-Call-clause-turned g c = λ w s.
     let f = m.frame in
     let t = g.L.Commands.live c.args.commands.now in
     let p = c.run_on-paused in
-    let q = p.ensures.pauses f.turns t w s.core_is in
-    let left = subst (PausedFrom t f.handler f.args (moved (position_of f) p.result.place p.new.operands) (run t f.handler f.args f.left (position_of f) w) q.0 p.result.left) c.in-Call.is q.2 in
+    let q = p.ensures.pauses t w s.core_is in
+    let left = subst (PausedFrom t f.handler f.args (standing p.result.place p.new.turns p.new.operands) (run t f.handler f.args f.left (position_of f) w) q.0 p.result.left) c.in-Call.is q.2 in
     subst (λ a. TurnedFrom t a c.enter_call.result) (sym (ap (finish t m.callers) left.1))
     (c.enter_call.ensures.turned q.0 (paused_shows w q.0 m.core m.lines m.spent _ _ s q.1 c.from.ensures) left.0)
 
@@ -62,8 +62,8 @@ returns-in-NoMemory-clause-turned g c = λ w s.
     let f = m.frame in
     let t = g.L.Commands.live c.args.commands.now in
     let p = c.run_on-paused in
-    let q = p.ensures.pauses f.turns t w s.core_is in
-    let left = subst (PausedFrom t f.handler f.args (moved (position_of f) p.result.place p.new.operands) (run t f.handler f.args f.left (position_of f) w) q.0 p.result.left) c.in-NoMemory.is q.2 in (
+    let q = p.ensures.pauses t w s.core_is in
+    let left = subst (PausedFrom t f.handler f.args (standing p.result.place p.new.turns p.new.operands) (run t f.handler f.args f.left (position_of f) w) q.0 p.result.left) c.in-NoMemory.is q.2 in (
       q.0,
       paused_shows w q.0 m.core m.lines m.spent _ _ s q.1 c.from.ensures,
       finish_keeps t m.callers _ q.0 left.0,

@@ -12,7 +12,7 @@ pub start_begun-requires : goal.start_begun-requires
 start_begun-requires g c =
     let code = c.args.handler.code in
     let left : c.budget.result ≡ c.args.handler.signature.budget = search rules in
-    let same : c.code.result.now ≡ code = search rules in
+    let same : c.instrs.result.now ≡ code = search rules in
     ap (λ n. is_ok (fetched_at (slice_get code 0) n)) (sym left)
     ∙ ap (λ xs. is_ok (fetched_at (slice_get xs 0) c.budget.result)) (sym same)
     ∙ sym (ap is_ok c.in-Ok.ensures.instr)
@@ -26,7 +26,7 @@ returns-in-Err-clause-ends g c =
     let o = c.unspent in
     let left : c.budget.result ≡ h.signature.budget = search rules in
     let named : c.as_str-command.result.now ≡ h.command = search rules in
-    let same : c.code.result.now ≡ h.code = search rules in
+    let same : c.instrs.result.now ≡ h.code = search rules in
     let stuck = first_stuck t h c.args.args w c.in-Err.trap
     (c.in-Err.ensures.instr ∙ ap (λ xs. fetched_at (slice_get xs 0) c.budget.result) same ∙ ap (λ n. fetched_at (slice_get h.code 0) n) left) in
     subst (Ends c.args.core a o.result) (sym o.ensures.finish) (
