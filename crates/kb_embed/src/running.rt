@@ -58,7 +58,11 @@ impl Model for Running {
 
 impl Drop for Running {
     fn drop(self) {
-        let Running { session, shelf, .. } = self;
+        let Running {
+            session,
+            shelf,
+            number: _,
+        } = self;
         drop(shelf);
         drop(session.into_trace());
     }
