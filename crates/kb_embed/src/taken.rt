@@ -111,8 +111,9 @@ fn taken_by_key(
     ensures { IfOk result (λ taken. TakesFound session.now.state
         (chord_spelling (session.now.state.pressed ++ key ∷ [])) (found_by key session.now.state) taken) }
 {
-    let chord = chord_text(alloc, session.pressed(), key)?;
-    match session.look_up(key)? {
+    let key = &key;
+    let chord = chord_text(alloc, session.pressed(), *key)?;
+    match session.look_up(*key)? {
         Resolved::Found(rule) => taken_by_rule(alloc, rule, chord, session),
         Resolved::More => Ok(Taken::bare(alloc, TakenKind::Chord, chord)),
         Resolved::Nothing => Ok(Taken::bare(alloc, TakenKind::Nothing, chord)),
