@@ -92,7 +92,7 @@ function control(scope, key, value) {
   if (isTruth) input.checked = value;
   else input.value = JSON.stringify(value);
   input.onchange = () => tell({ event: "set", scope, key, value: isTruth ? input.checked : parsed(input.value) });
-  label.append(input, ` ${key}`);
+  label.append(...(isTruth ? [input, ` ${key}`] : [`${key} `, input]));
   return label;
 }
 
