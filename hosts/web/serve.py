@@ -3,7 +3,8 @@
     python3 hosts/web/serve.py [--port N] [--layout F] [--defaults F] [--user F] [DIR]..
 
 It serves http://127.0.0.1:N/ (8040 without --port) on this machine alone, over the shared library
-(tools/build-library makes it). Without files it takes those of examples/. The page loads nothing from outside.
+(tools/build-library makes it; PAFJIRN_LIBRARY names another). Without files it takes those of examples/. The page
+loads nothing from outside.
 """
 
 from __future__ import annotations
@@ -12,6 +13,7 @@ import argparse
 import dataclasses
 import http.server
 import json
+import os
 import pathlib
 import sys
 from typing import Any
@@ -22,7 +24,9 @@ sys.path.insert(0, str(HERE.parent / "python"))
 import places
 from pafjirn import Ending, Engine, EngineError, File, LoadRefused, Record
 
-EXAMPLES = HERE.parent.parent / "examples"
+TOP = HERE.parent.parent
+EXAMPLES = TOP / "examples"
+INSTALLED = TOP / ".rt/prefix/lib/libpafjirn.so"
 PAGES = {
     "/": ("page.html", "text/html; charset=utf-8"),
     "/page.css": ("page.css", "text/css; charset=utf-8"),
@@ -300,6 +304,8 @@ def main() -> int:
         parser.add_argument(name, type=pathlib.Path)
     parser.add_argument("folders", nargs="*", type=pathlib.Path, metavar="DIR")
     words = parser.parse_args()
+    if INSTALLED.exists():
+        os.environ.setdefault("PAFJIRN_LIBRARY", str(INSTALLED))
     try:
         session = Session(given_files(words))
     except LoadRefused as refused:
