@@ -140,9 +140,22 @@ at("query").addEventListener("keydown", (event) => {
   showEntries(entries);
 });
 
+// Loads files, each with its path: the name of its folder tells an extension from another.
 async function load(files) {
-  const read = [...files].map(async (file) => ({ path: file.webkitRelativePath || file.name, text: await file.text() }));
+  const read = [...files].map(async (file) => ({
+    path: file.path || file.webkitRelativePath || file.name, text: await (file.file || file).text(),
+  }));
   await send("/files", await Promise.all(read));
+}
+
+// The JSON files of what was dropped: files, and folders of extensions.
+async function filesIn(entry) {
+  if (entry.isFile) {
+    const file = await new Promise((done, failed) => entry.file(done, failed));
+    return entry.name.endsWith(".json") ? [{ file, path: entry.fullPath.slice(1) }] : [];
+  }
+  const inside = await new Promise((done, failed) => entry.createReader().readEntries(done, failed));
+  return (await Promise.all(inside.filter((it) => it.isFile).map(filesIn))).flat();
 }
 at("pick").addEventListener("change", () => load(at("pick").files));
 addEventListener("dragover", (event) => { event.preventDefault(); document.body.classList.add("dropping"); });
@@ -150,7 +163,8 @@ addEventListener("dragleave", () => document.body.classList.remove("dropping"));
 addEventListener("drop", (event) => {
   event.preventDefault();
   document.body.classList.remove("dropping");
-  load(event.dataTransfer.files);
+  const entries = [...event.dataTransfer.items].map((it) => it.webkitGetAsEntry()).filter(Boolean);
+  Promise.all(entries.map(filesIn)).then((files) => load(files.flat()));
 });
 
 fetch("/state").then((answer) => answer.json()).then(show);
