@@ -4,7 +4,8 @@ ghost use Rattle.std.specs.List.{flat_map};
 ghost use Rattle.kb_resolve.specs.Enablements.{enablement_in, enablement_of};
 ghost use Rattle.kb_context.specs.Scopes.{context};
 ghost use Rattle.kb_resolve.specs.Pressed.{step_of};
-ghost use Rattle.kb_resolve.specs.Resolver.{MayAskPatterns};
+ghost use Rattle.kb_resolve.specs.Resolved.{resolution_of};
+ghost use Rattle.kb_resolve.specs.Resolver.{MayAskPatterns, resolved};
 ghost use Rattle.kb_bindings.specs.Sources.{pressed, still_pressed, rules_of, with_user_rules, source_of};
 ghost use Rattle.kb_bindings.specs.Sources.{contribution_of, contributions_of, enablement, with_enabled};
 ghost use Rattle.kb_files.specs.Enabled.{is_enabled_at, switched_at};
@@ -22,7 +23,7 @@ use kb_keys::Keystroke;
 use kb_manifest::{Command, CommandTable};
 use kb_palette::PaletteCommand;
 use kb_palette_commands::palette_commands;
-use kb_resolve::{ChordState, Contribution, Enablements, Pressed, Resolver};
+use kb_resolve::{ChordState, Contribution, Enablements, Pressed, Resolved, Resolver};
 use kb_rules::{Origin, RuleList, RuleSet};
 use std::alloc::Global;
 use std::marker::Model;
@@ -133,6 +134,19 @@ impl Bindings {
             (context scopes.now.seen) (enablement self.now) (rules_of self.now)) }
     {
         chord.press(stroke, &self.resolver, scopes, &self.enablements)
+    }
+
+    /// Looks up the rule of these keystrokes, over what the focus of the scopes sees. Nothing is pressed.
+    /// `NoMemory` only if a clause or an enablement with a pattern is evaluated.
+    pub fn look_up<'b>(
+        &'b self,
+        strokes: &[Keystroke],
+        scopes: &Scopes,
+    ) -> Result<Resolved<'b>, NoMemory>
+        ensures { IfOk result (λ found. resolution_of found
+            ≡ resolved strokes.now (context scopes.now.seen) (enablement self.now) (rules_of self.now)) }
+    {
+        self.resolver.resolve(strokes, scopes, &self.enablements)
     }
 
     /// The warnings about the entries of all files, in the order of the files.

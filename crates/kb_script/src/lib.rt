@@ -6,7 +6,9 @@ pub mod fault;
 pub mod laws;
 pub mod script;
 pub mod script_run;
-mod shelf;
+pub mod shelf;
 
 pub use fault::ScriptFault;
+pub use script::{ScriptLine, read_line};
 pub use script_run::{SCRIPT_LIMIT, run_script, stream_script};
+pub use shelf::obey;

@@ -22,7 +22,7 @@ use std::alloc::{AllocError, Global};
 /// contract's marks are those that the session found. If memory is refused, also while parsing, the session
 /// is stopped, and the shelf still has all its closures.
 #[tactic(auto, using(crate::proofs::ShelfLemmas::halting, kb_session::proofs::Stopping::answers_quietly))]
-pub(crate) fn obey<C: HostCommand>(
+pub fn obey<C: HostCommand>(
     alloc: Global,
     number: u64,
     line: &[u8],

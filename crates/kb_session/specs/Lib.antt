@@ -1,5 +1,6 @@
 pub mod Fault
 pub mod Headline
+pub mod Inspect
 pub mod Palette
 pub mod Press
 pub mod Session

@@ -1,5 +1,6 @@
 //! The result of an event.
-ghost use Rattle.std.specs.Prelude.{◌≡◌};
+ghost use Rattle.std.specs.Prelude.{◌≡◌, IfOk};
+ghost use Rattle.kb_execute.specs.declared.start.Finish.TheVariants.{Done};
 ghost use Rattle.kb_session.specs.Handled.{done_by};
 
 use kb_base::NoMemory;
@@ -18,7 +19,8 @@ pub struct Handled {
 
 /// The result of an event that starts no command.
 pub(crate) fn started_nothing(answered: Result<Answer, NoMemory>) -> Result<Handled, NoMemory>
-    ensures { result ≡ done_by answered }
+    ensures value { result ≡ done_by answered }
+    ensures finish { IfOk result (λ handled. handled.finish ≡ Done) }
 {
     match answered {
         Ok(answer) => Ok(Handled {

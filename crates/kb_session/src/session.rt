@@ -11,6 +11,7 @@ ghost use Rattle.kb_session.specs.Session.{Loads, LoadsRaw, Takes, Does, halt, U
 ghost use Rattle.kb_session.specs.Session.{loaded_session};
 ghost use Rattle.kb_session.specs.Session.{FailsAt, FailsAmong, is_late};
 ghost use Rattle.kb_bindings.specs.Sources.{source_of};
+ghost use Rattle.kb_session.specs.Inspect.{finish_of};
 ghost use Rattle.kb_session.specs.State.{IsSafe, happens, reload, next, left_lines, with_user, stops};
 ghost use Rattle.kb_bindings.specs.Warning.{warnings_of};
 ghost use Rattle.kb_session.specs.declared.fault.SessionFault.TheVariants.{NoMemory};
@@ -41,6 +42,7 @@ use std::mem;
 
 mod closures;
 mod extensions;
+mod inspect;
 mod palette;
 
 /// A session of the engine, with the host's closures for native commands. Contracts see its state and its
@@ -315,13 +317,14 @@ impl<C: HostCommand> Session<C> {
         }
     }
 
-    /// Handles one event as `handle` does, and also returns how a command that it started ended.
+    /// Handles one event as `handle` does, and also returns how a command that it started ended (`finish`).
     ///
     /// Errors: those of `handle`.
     #[tactic(auto, using(crate::proofs::Stopping::taking))]
     pub fn handle_fully(&mut self, event: Event) -> Result<Handled, SessionFault>
         ensures ok { IfOk result (λ handled. Takes (happens event) self.old handled.answer self.new) }
         ensures stops { IfOk result (λ handled. self.new.state.stopped ≡ stops handled.finish) }
+        ensures finish { IfOk result (λ handled. handled.finish ≡ finish_of event self.old.state) }
         ensures err { IfErr result (λ fault. FailsAt fault (happens event) self.old self.new) }
     {
         if self.stopped {
@@ -341,6 +344,7 @@ impl<C: HostCommand> Session<C> {
         requires running { self.old.state.stopped ≡ false }
         ensures ok { IfOk result (λ handled. Does (happens event) self.old handled.answer self.new) }
         ensures stops { IfOk result (λ handled. self.new.state.stopped ≡ stops handled.finish) }
+        ensures finish { IfOk result (λ handled. handled.finish ≡ finish_of event self.old.state) }
         ensures err { OnErr result (IsHalf event self.old self.new) }
     {
         match event {
@@ -355,6 +359,7 @@ impl<C: HostCommand> Session<C> {
         requires running { self.old.state.stopped ≡ false }
         ensures ok { IfOk result (λ handled. Does (happens event) self.old handled.answer self.new) }
         ensures stops { IfOk result (λ handled. self.new.state.stopped ≡ stops handled.finish) }
+        ensures finish { IfOk result (λ handled. handled.finish ≡ finish_of event self.old.state) }
         ensures err { OnErr result (IsHalf event self.old self.new) }
     {
         match event {
@@ -446,6 +451,7 @@ impl<C: HostCommand> Session<C> {
         ensures ok { IfOk result (λ handled.
             Does (happens (Event.Key key)) self.old handled.answer self.new) }
         ensures stops { IfOk result (λ handled. self.new.state.stopped ≡ stops handled.finish) }
+        ensures finish { IfOk result (λ handled. handled.finish ≡ finish_of (Event.Key key) self.old.state) }
         ensures err { OnErr result (HalfDone self.old self.new) }
     {
         let finish = press_key(

@@ -1,5 +1,6 @@
 //! The palette of a session: the list of commands for a query, and the choice of an entry.
 ghost use Rattle.std.specs.Prelude.{◌≡◌, ◌++◌, false, IfOk, OnOk, OnErr, option_map};
+ghost use Rattle.kb_session.specs.Inspect.{finish_of};
 ghost use Rattle.kb_session.specs.Palette.{choice_started, entry_at, entry_lines, palette_lines};
 ghost use Rattle.kb_session.specs.Session.{Does, HalfChosen, Undone};
 ghost use Rattle.kb_session.specs.State.{happens, stops};
@@ -52,6 +53,8 @@ impl<C: HostCommand> Session<C> {
         ensures ok { IfOk result (λ handled.
             Does (happens (event.Choose number)) self.old handled.answer self.new) }
         ensures stops { IfOk result (λ handled. self.new.state.stopped ≡ stops handled.finish) }
+        ensures finish { IfOk result (λ handled.
+            handled.finish ≡ finish_of (event.Choose number) self.old.state) }
         ensures err { OnErr result (HalfChosen self.old self.new) }
     {
         let Some(entry) = entry_at(&self.listed, number) else {

@@ -1,0 +1,62 @@
+-- What a handle owns, and what a call through a handle answers.
+use Rattle.std.specs.Prelude.{Bool, true, false, Option, Some, None, ◌≡◌, ℕ, List, [], length}
+use base.Fml.{Fml, ftrue, ffalse}
+use denote.RattleType.{RattleType}
+use denote.RawPtr.{Ptr}
+use mir.Syntax.{Ty}
+use Rattle.std.specs.contracts.impls.GlobalAllocator.TheImpl.{ghosts}
+use Rattle.std_alloc.specs.Box.Ownership.{box_owns}
+use Rattle.kb_embed.specs.Engine.{entries_of, entry_text, kind_number, new_engine, numbered_text}
+use Rattle.kb_embed.specs.Values.{EngineData}
+use Rattle.kb_embed.specs.declared.outcome.Outcome.{Outcome}
+use Rattle.kb_embed.specs.declared.outcome.Outcome.TheVariants as outcome
+use Rattle.kb_session.specs.Palette.{entry_at}
+
+-- the right to give a block back to the C library's heap, whose handles are all one
+abbrev pub token : Ty → Ptr → Fml
+token = ghosts.dealloc_token (record { memory = record { seal = tt } })
+
+-- a live handle owns a value in a block of its own, and one that isn't live owns nothing
+abbrev pub held : (R : RattleType) → Ptr → Bool → Option R.Denot → Fml
+held R p true (Some x) = box_owns token R p x
+held R p false None = ftrue
+held R p true None = ffalse
+held R p false (Some x) = ffalse
+
+-- a new engine takes the place of what the handle held, or memory was refused, and the handle keeps it
+abbrev pub Makes : Option EngineData → Option Outcome → Option EngineData → Type 0
+Makes old (Some outcome.Done) new = new ≡ Some new_engine
+Makes old (Some outcome.NoMemory) new = new ≡ old
+Makes old o new = ⊥
+
+-- a call through a live handle does this to the engine; through a dead one it is answered as unknown, and the
+-- handle stays dead
+abbrev pub Answers : (EngineData → Outcome → EngineData → Type 0) → Option EngineData → Option Outcome
+    → Option EngineData → Type 0
+Answers P (Some old) (Some o) (Some new) = P old o new
+Answers P None (Some o) new = (o ≡ outcome.Unknown) × (new ≡ None)
+Answers P old o new = ⊥
+
+-- the number of what the last event did, 0 without an engine, and the place of the rule that it took
+abbrev pub kind_held : Option EngineData → ℕ
+kind_held None = 0
+kind_held (Some e) = kind_number e.taken.kind
+
+abbrev pub place_held : Option EngineData → ℕ
+place_held None = 0
+place_held (Some e) = e.taken.place
+
+-- how many entries the last palette has
+abbrev pub entries_held : Option EngineData → ℕ
+entries_held None = 0
+entries_held (Some e) = length (entries_of e.running)
+
+-- the text with a number, of the engine that a handle holds; empty without one
+abbrev pub text_held : ℕ → Option EngineData → List ℕ
+text_held number None = []
+text_held number (Some e) = numbered_text number e
+
+-- a text of an entry of the palette
+abbrev pub entry_held : ℕ → ℕ → Option EngineData → List ℕ
+entry_held number part None = []
+entry_held number part (Some e) = entry_text (entry_at number (Some (entries_of e.running))) part

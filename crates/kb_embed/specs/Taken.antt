@@ -1,0 +1,54 @@
+-- What an event takes: the rule of a key press, or the entry of a choice.
+use Rattle.std.specs.Prelude.{◌≡◌, ◌++◌, ⊤, ℕ, false, List, [], ◌∷◌, Option, Some, None}
+use Rattle.kb_bindings.specs.Sources.{source_of}
+use Rattle.kb_embed.specs.declared.taken.Taken.{Taken}
+use Rattle.kb_embed.specs.declared.taken.TakenKind.{TakenKind}
+use Rattle.kb_embed.specs.declared.taken.TakenKind.TheVariants as kind
+use Rattle.kb_keys.specs.Chord.{chord_spelling}
+use Rattle.kb_keys.specs.declared.keystroke.Keystroke.{Keystroke}
+use Rattle.kb_palette.specs.declared.listing.Entry.{Entry}
+use Rattle.kb_resolve.specs.Resolved.{Resolution, found, more, nothing}
+use Rattle.kb_rules.specs.declared.rule.Rule.{Rule}
+use Rattle.kb_session.specs.Inspect.{found_by}
+use Rattle.kb_session.specs.Palette.{entry_at}
+use Rattle.kb_session.specs.State.{State}
+use Rattle.kb_trace.specs.declared.event.Event.{Event}
+use Rattle.kb_trace.specs.declared.event.Event.TheVariants as event
+use Rattle.serde_json.specs.Data.{Data}
+use Rattle.serde_json.specs.Written.{compact_text, has_float}
+
+-- nothing but these keystrokes
+abbrev pub bare : TakenKind → List ℕ → Taken
+bare is chord =
+    record { kind = is; chord = chord; command = []; arguments = []; source = []; place = 0 }
+
+-- the text of arguments, empty without them; a rule's have whole numbers only
+abbrev pub AreArguments : Option Data → List ℕ → Type 0
+AreArguments None text = text ≡ []
+AreArguments (Some given) text = has_float given ≡ false → text ≡ compact_text given
+
+-- the rule that a press takes
+pub record TakesRule (s : State) (chord : List ℕ) (rule : Rule) (t : Taken) : Type 0 where
+  pub kind_is : t.kind ≡ kind.Started
+  pub chord_is : t.chord ≡ chord
+  pub command_is : t.command ≡ rule.command
+  pub arguments_are : AreArguments rule.args t.arguments
+  pub source_is : t.source ≡ source_of s.sources rule.origin
+  pub place_is : t.place ≡ rule.place
+
+-- what a press takes, by what it finds
+abbrev pub TakesFound : State → List ℕ → Resolution → Taken → Type 0
+TakesFound s chord (found rule) t = TakesRule s chord rule t
+TakesFound s chord more t = t ≡ bare kind.Chord chord
+TakesFound s chord nothing t = t ≡ bare kind.Nothing chord
+
+-- a choice takes the command of the entry, without arguments
+abbrev pub chosen : Option Entry → Taken
+chosen None = bare kind.Nothing []
+chosen (Some e) = record (bare kind.Started []) { command = e.command }
+
+-- what an event takes; an event that starts no command takes nothing
+abbrev pub Takes : Event → State → Taken → Type 0
+Takes (event.Key key) s t = TakesFound s (chord_spelling (s.pressed ++ key ∷ [])) (found_by key s) t
+Takes (event.Choose number) s t = t ≡ chosen (entry_at number s.listed)
+Takes e s t = t ≡ bare kind.Nothing []

@@ -1,0 +1,245 @@
+//! The C library (`include/pafjirn.h`), and the one place with unsafe code. Each call below keeps the duties
+//! of its caller: a slice's pointer is never null, and a handle stays in its engine, which gives it to one call
+//! at a time and is neither `Send` nor `Sync`, by the pointer in the handle.
+use std::ptr;
+
+pub const DONE: u32 = 0;
+pub const OUT_OF_ORDER: u32 = 1;
+pub const REFUSED: u32 = 3;
+pub const NO_MEMORY: u32 = 5;
+pub const NOT_FOUND: u32 = 7;
+pub const BAD_ARGUMENTS: u32 = 8;
+pub const NO_KEY: u32 = 10;
+pub const STOPPED: u32 = 97;
+pub const TRAPPED: u32 = 103;
+
+pub const TRACE: u32 = 0;
+pub const NOTICE: u32 = 1;
+pub const CHORD: u32 = 2;
+pub const COMMAND: u32 = 3;
+pub const ARGUMENTS: u32 = 4;
+pub const SOURCE: u32 = 5;
+pub const BEFORE: u32 = 6;
+pub const AFTER: u32 = 7;
+
+pub const CHORDING: u32 = 1;
+pub const STARTED: u32 = 2;
+
+pub const LABEL: u32 = 0;
+pub const ENTRY_COMMAND: u32 = 1;
+
+#[repr(C)]
+struct Raw {
+    at: *mut u8,
+    live: bool,
+}
+
+#[link(name = "pafjirn")]
+extern "C" {
+    fn pafjirn_new(engine: *mut Raw) -> u32;
+    fn pafjirn_free(engine: *mut Raw);
+    fn pafjirn_platform(engine: *mut Raw, platform: u32) -> u32;
+    fn pafjirn_file(engine: *mut Raw, file: u32, bytes: *const u8, length: usize) -> u32;
+    fn pafjirn_extension(
+        engine: *mut Raw,
+        manifest: *const u8,
+        manifest_length: usize,
+        has_handlers: bool,
+        handlers: *const u8,
+        handlers_length: usize,
+    ) -> u32;
+    fn pafjirn_load(engine: *mut Raw) -> u32;
+    fn pafjirn_line(engine: *mut Raw, line: *const u8, length: usize) -> u32;
+    fn pafjirn_key(engine: *mut Raw, key: *const u8, length: usize) -> u32;
+    fn pafjirn_focus(engine: *mut Raw, scope: *const u8, length: usize) -> u32;
+    fn pafjirn_set_truth(
+        engine: *mut Raw,
+        scope: *const u8,
+        scope_length: usize,
+        key: *const u8,
+        key_length: usize,
+        truth: bool,
+    ) -> u32;
+    fn pafjirn_set_number(
+        engine: *mut Raw,
+        scope: *const u8,
+        scope_length: usize,
+        key: *const u8,
+        key_length: usize,
+        number: i64,
+    ) -> u32;
+    fn pafjirn_set_text(
+        engine: *mut Raw,
+        scope: *const u8,
+        scope_length: usize,
+        key: *const u8,
+        key_length: usize,
+        text: *const u8,
+        text_length: usize,
+    ) -> u32;
+    fn pafjirn_unset(
+        engine: *mut Raw,
+        scope: *const u8,
+        scope_length: usize,
+        key: *const u8,
+        key_length: usize,
+    ) -> u32;
+    fn pafjirn_palette(engine: *mut Raw, query: *const u8, length: usize) -> u32;
+    fn pafjirn_choose(engine: *mut Raw, number: u32) -> u32;
+    fn pafjirn_read(engine: *mut Raw, part: u32, from: usize, into: *mut u8, room: usize) -> usize;
+    fn pafjirn_taken(engine: *mut Raw) -> u32;
+    fn pafjirn_place(engine: *mut Raw) -> usize;
+    fn pafjirn_entries(engine: *mut Raw) -> usize;
+    fn pafjirn_entry(
+        engine: *mut Raw,
+        number: u32,
+        part: u32,
+        from: usize,
+        into: *mut u8,
+        room: usize,
+    ) -> usize;
+}
+
+/// The handle of an engine, or of none. It ends its engine when it is dropped.
+pub struct Handle(Raw);
+
+impl Handle {
+    pub fn new() -> Handle {
+        Handle(Raw {
+            at: ptr::null_mut(),
+            live: false,
+        })
+    }
+
+    pub fn make(&mut self) -> u32 {
+        unsafe { pafjirn_new(&mut self.0) }
+    }
+
+    pub fn platform(&mut self, platform: u32) -> u32 {
+        unsafe { pafjirn_platform(&mut self.0, platform) }
+    }
+
+    pub fn file(&mut self, file: u32, bytes: &[u8]) -> u32 {
+        unsafe { pafjirn_file(&mut self.0, file, bytes.as_ptr(), bytes.len()) }
+    }
+
+    pub fn extension(&mut self, manifest: &[u8], handlers: Option<&[u8]>) -> u32 {
+        let more = handlers.unwrap_or(&[]);
+        unsafe {
+            pafjirn_extension(
+                &mut self.0,
+                manifest.as_ptr(),
+                manifest.len(),
+                handlers.is_some(),
+                more.as_ptr(),
+                more.len(),
+            )
+        }
+    }
+
+    pub fn load(&mut self) -> u32 {
+        unsafe { pafjirn_load(&mut self.0) }
+    }
+
+    pub fn line(&mut self, line: &[u8]) -> u32 {
+        unsafe { pafjirn_line(&mut self.0, line.as_ptr(), line.len()) }
+    }
+
+    pub fn key(&mut self, key: &[u8]) -> u32 {
+        unsafe { pafjirn_key(&mut self.0, key.as_ptr(), key.len()) }
+    }
+
+    pub fn focus(&mut self, scope: &[u8]) -> u32 {
+        unsafe { pafjirn_focus(&mut self.0, scope.as_ptr(), scope.len()) }
+    }
+
+    pub fn set_truth(&mut self, scope: &[u8], key: &[u8], truth: bool) -> u32 {
+        let raw = &mut self.0;
+        unsafe { pafjirn_set_truth(raw, scope.as_ptr(), scope.len(), key.as_ptr(), key.len(), truth) }
+    }
+
+    pub fn set_number(&mut self, scope: &[u8], key: &[u8], number: i64) -> u32 {
+        let raw = &mut self.0;
+        unsafe { pafjirn_set_number(raw, scope.as_ptr(), scope.len(), key.as_ptr(), key.len(), number) }
+    }
+
+    pub fn set_text(&mut self, scope: &[u8], key: &[u8], text: &[u8]) -> u32 {
+        unsafe {
+            pafjirn_set_text(
+                &mut self.0,
+                scope.as_ptr(),
+                scope.len(),
+                key.as_ptr(),
+                key.len(),
+                text.as_ptr(),
+                text.len(),
+            )
+        }
+    }
+
+    pub fn unset(&mut self, scope: &[u8], key: &[u8]) -> u32 {
+        unsafe { pafjirn_unset(&mut self.0, scope.as_ptr(), scope.len(), key.as_ptr(), key.len()) }
+    }
+
+    pub fn palette(&mut self, query: &[u8]) -> u32 {
+        unsafe { pafjirn_palette(&mut self.0, query.as_ptr(), query.len()) }
+    }
+
+    pub fn choose(&mut self, number: u32) -> u32 {
+        unsafe { pafjirn_choose(&mut self.0, number) }
+    }
+
+    pub fn taken(&mut self) -> u32 {
+        unsafe { pafjirn_taken(&mut self.0) }
+    }
+
+    pub fn place(&mut self) -> usize {
+        unsafe { pafjirn_place(&mut self.0) }
+    }
+
+    pub fn entries(&mut self) -> usize {
+        unsafe { pafjirn_entries(&mut self.0) }
+    }
+
+    pub fn entry(&mut self, number: u32, part: u32) -> String {
+        let mut bytes = vec![0; 64];
+        read_whole(&mut bytes, |room| unsafe {
+            pafjirn_entry(&mut self.0, number, part, 0, room.as_mut_ptr(), room.len())
+        });
+        text_of(bytes)
+    }
+
+    pub fn text(&mut self, part: u32) -> String {
+        let mut bytes = vec![0; 64];
+        self.read_into(part, &mut bytes);
+        text_of(bytes)
+    }
+
+    pub fn read_into(&mut self, part: u32, bytes: &mut Vec<u8>) {
+        read_whole(bytes, |room| unsafe {
+            pafjirn_read(&mut self.0, part, 0, room.as_mut_ptr(), room.len())
+        });
+    }
+}
+
+impl Drop for Handle {
+    fn drop(&mut self) {
+        unsafe { pafjirn_free(&mut self.0) }
+    }
+}
+
+/// Reads a whole text, whose length a read returns, into bytes that grow to it.
+fn read_whole<F: FnMut(&mut [u8]) -> usize>(bytes: &mut Vec<u8>, mut read: F) {
+    bytes.resize(bytes.capacity(), 0);
+    let mut length = read(bytes);
+    if length > bytes.len() {
+        bytes.resize(length, 0);
+        length = read(bytes);
+    }
+    bytes.truncate(length);
+}
+
+/// The text of bytes that the library wrote, which are always UTF-8.
+fn text_of(bytes: Vec<u8>) -> String {
+    String::from_utf8(bytes).unwrap_or_else(|wrong| String::from_utf8_lossy(wrong.as_bytes()).into())
+}
