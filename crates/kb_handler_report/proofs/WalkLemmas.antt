@@ -11,7 +11,7 @@ use Rattle.kb_code.specs.declared.exits.Exits.{Exits}
 use Rattle.kb_code.specs.declared.exits.Exits.TheVariants.{Stop, One, Two, Around, Close}
 use Rattle.kb_code.specs.declared.instr.Instr.{Instr}
 use Rattle.kb_code.specs.declared.instr.Instr.TheVariants.{Return}
-use Rattle.kb_code.proofs.BlockLemmas.{one_end, start_before}
+use Rattle.kb_code.proofs.BlockLemmas.{start_before}
 use Rattle.kb_verify.specs.Callable.{Commands}
 use Rattle.kb_verify.specs.Costs.{capped}
 use Rattle.kb_verify.specs.Paths.{cost, Steps, Choice, Turns, Path, returns, ends, goes_on, falls, jumps, repeats}
@@ -138,11 +138,13 @@ module _ (commands : Commands) (h : HandlerData) (times : ℕ) where
     -- the same along each path with these steps
     pub record IsUnderWay (place : ℕ) (left : Steps) (visits : List Visit) (spent : ℕ) : Type 0 where
       pub later : start ≤ place
+      pub fits : spent < 2 ^ 64
       pub each : (c : ℕ) (is : Path commands h start path c) → IsWay c is place left visits spent
 
     pub way_start : (spent : ℕ) (visits : List Visit) → spent ≡ 0 → visits ≡ first → IsUnderWay start path visits spent
     way_start spent visits none same = record {
       later = omega arith;
+      fits = omega (arith, none);
       each = λ c is. record {
         rest = c;
         on = is;
@@ -174,10 +176,10 @@ module _ (commands : Commands) (h : HandlerData) (times : ℕ) where
           let even = way.even in let costs = last.1 in
           (told ∙ ap (λ vs. visits ++ vs) (sym last.0) ∙ sym way.lists, omega (arith, r, even, costs, price_is))
 
-      pub way_close : (q : ℕ) → Close q ≡ exits_of (suc place) i → spent < 2 ^ 64 →
+      pub way_close : (q : ℕ) → Close q ≡ exits_of (suc place) i →
           IsAdded commands h times start path first more spent
-      way_close q e fits c is =
-          let way = w.each c is in
+      way_close q e c is =
+          let way = w.each c is in let fits = w.fits in
           let last = goes c is (Close q) e in
           let even = way.even in let costs = last.1 in
           (told ∙ ap (λ vs. visits ++ vs) (sym last.0) ∙ sym way.lists, omega (arith, fits, even, costs))
@@ -204,7 +206,7 @@ module _ (commands : Commands) (h : HandlerData) (times : ℕ) where
           let l = (goes some.0 some.1 (One q) e).later in
           let s = w.later in (
             l,
-            record { later = omega (arith, l, s); each = λ c is. way_on q now left n c is (goes c is (One q) e) },
+            record { later = omega (arith, l, s); fits = omega (arith, n); each = λ c is. way_on q now left n c is (goes c is (One q) e) },
           )
 
       pub way_two : (q r to now : ℕ) (steps : Steps) → ((c : ℕ) × Path commands h start path c) →
@@ -218,6 +220,7 @@ module _ (commands : Commands) (h : HandlerData) (times : ℕ) where
             l,
             record {
               later = omega (arith, l, s);
+              fits = omega (arith, n);
               each = λ c is.
                   let f = goes c is (Two q r) e in
                   subst (λ t. IsWay c is t steps more now) (sym (is_to f.0 f.1 f.2))
@@ -227,7 +230,7 @@ module _ (commands : Commands) (h : HandlerData) (times : ℕ) where
           )
 
       -- the block at a place where the path comes
-      pub way_block : (n q : ℕ) → ((c : ℕ) × Path commands h start path c) → Around n q ≡ exits_of (suc place) i →
+      pub way_block : (n q : ℕ) → (some : (c : ℕ) × Path commands h start path c) → Around n q ≡ exits_of (suc place) i →
           GoesAround place i n q left
           (visits_in commands h times place left (w.each some.0 some.1).rest (w.each some.0 some.1).on)
           (w.each some.0 some.1).rest
@@ -246,7 +249,7 @@ module _ (commands : Commands) (h : HandlerData) (times : ℕ) where
           let f = start_before h.code place g.end g.closes in
           let same = is_end g.end g.closes in
           let l : place < end + 1 = omega (arith, f, same) in
-          let s = w.later in (l, record { later = omega (arith, l, s); each = each })
+          let s = w.later in (l, record { later = omega (arith, l, s); fits = omega (arith, is_now); each = each })
         where
           each : (c : ℕ) (is : Path commands h start path c) → IsWay c is (end + 1) steps behind now
           each c is =

@@ -2,7 +2,7 @@
 ghost use Rattle.std.specs.Prelude.{◌≡◌, ℕ, Bool, IfOk, if◌then◌else◌};
 ghost use Rattle.kb_handler_report.specs.Visits.{IsAdded, IsListed};
 ghost use Rattle.kb_verify.specs.Paths.{Choice, Path, Steps, Turns};
-ghost use Rattle.kb_verify.specs.Route.{route_of};
+ghost use Rattle.kb_verify.specs.Route.{before, route_of};
 
 use kb_base::NoMemory;
 use kb_code::{Exits, Handler, Instr};
@@ -116,8 +116,17 @@ fn iteration(left: &[Step]) -> (&[Step], &[Step])
     ensures rest { (turn rest : Steps) → route_of left.now ≡ Turns turn rest → route_of result.1.now ≡ rest }
 {
     match left {
-        [Step::Turns(turn), rest @ ..] => (turn.as_slice(), rest),
-        [Step::Choice(_), rest @ ..] => (rest, rest),
+        [first, rest @ ..] => (steps_inside(first), rest),
         [] => (left, left),
+    }
+}
+
+/// The steps of the iteration that is this step.
+fn steps_inside(step: &Step) -> &[Step]
+    ensures { (more turn rest : Steps) → before step.now more ≡ Turns turn rest → route_of result.now ≡ turn }
+{
+    match step {
+        Step::Turns(turn) => turn.as_slice(),
+        Step::Choice(_) => &[],
     }
 }

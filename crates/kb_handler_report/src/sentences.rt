@@ -149,9 +149,10 @@ fn add_visit(handler: &Handler, visit: &Visit, said: &mut String) -> Result<(), 
     let cost = visit.cost;
     let times = visit.times;
     let spelled = Spelled::new(handler, visit.instr);
-    if times == 1 {
-        write!(said, "        place {place}: {cost} for {spelled}\n")
-    } else {
-        write!(said, "        place {place}: {cost} for {spelled}, {times} times\n")
+    write!(said, "        place {place}: {cost} for {spelled}")?;
+    match times {
+        1 => write!(said, "\n"),
+        u64::MAX => write!(said, ", {times} times or more\n"),
+        _ => write!(said, ", {times} times\n"),
     }
 }
