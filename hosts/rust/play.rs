@@ -93,7 +93,10 @@ fn run(words: &[String]) -> Result<(), Stop> {
             word if word.starts_with("--") => return Err(Stop::Words),
             folder => {
                 let handlers = fs::read(format!("{folder}/handlers.json")).ok();
-                engine.extension(&read(&format!("{folder}/package.json"))?, handlers.as_deref())?;
+                engine.extension(
+                    &read(&format!("{folder}/package.json"))?,
+                    handlers.as_deref(),
+                )?;
             }
         }
     }
@@ -127,7 +130,11 @@ fn main() -> ExitCode {
         }
         Err(Stop::Engine(error)) => {
             eprintln!("{error}");
-            ExitCode::from(if matches!(error, Error::Refused(_)) { 3 } else { 4 })
+            ExitCode::from(if matches!(error, Error::Refused(_)) {
+                3
+            } else {
+                4
+            })
         }
         Err(Stop::Write) => ExitCode::from(4),
     }

@@ -155,12 +155,30 @@ impl Handle {
 
     pub fn set_truth(&mut self, scope: &[u8], key: &[u8], truth: bool) -> u32 {
         let raw = &mut self.0;
-        unsafe { pafjirn_set_truth(raw, scope.as_ptr(), scope.len(), key.as_ptr(), key.len(), truth) }
+        unsafe {
+            pafjirn_set_truth(
+                raw,
+                scope.as_ptr(),
+                scope.len(),
+                key.as_ptr(),
+                key.len(),
+                truth,
+            )
+        }
     }
 
     pub fn set_number(&mut self, scope: &[u8], key: &[u8], number: i64) -> u32 {
         let raw = &mut self.0;
-        unsafe { pafjirn_set_number(raw, scope.as_ptr(), scope.len(), key.as_ptr(), key.len(), number) }
+        unsafe {
+            pafjirn_set_number(
+                raw,
+                scope.as_ptr(),
+                scope.len(),
+                key.as_ptr(),
+                key.len(),
+                number,
+            )
+        }
     }
 
     pub fn set_text(&mut self, scope: &[u8], key: &[u8], text: &[u8]) -> u32 {
@@ -178,7 +196,15 @@ impl Handle {
     }
 
     pub fn unset(&mut self, scope: &[u8], key: &[u8]) -> u32 {
-        unsafe { pafjirn_unset(&mut self.0, scope.as_ptr(), scope.len(), key.as_ptr(), key.len()) }
+        unsafe {
+            pafjirn_unset(
+                &mut self.0,
+                scope.as_ptr(),
+                scope.len(),
+                key.as_ptr(),
+                key.len(),
+            )
+        }
     }
 
     pub fn palette(&mut self, query: &[u8]) -> u32 {
@@ -241,5 +267,6 @@ fn read_whole<F: FnMut(&mut [u8]) -> usize>(bytes: &mut Vec<u8>, mut read: F) {
 
 /// The text of bytes that the library wrote, which are always UTF-8.
 fn text_of(bytes: Vec<u8>) -> String {
-    String::from_utf8(bytes).unwrap_or_else(|wrong| String::from_utf8_lossy(wrong.as_bytes()).into())
+    String::from_utf8(bytes)
+        .unwrap_or_else(|wrong| String::from_utf8_lossy(wrong.as_bytes()).into())
 }
