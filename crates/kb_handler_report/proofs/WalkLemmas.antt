@@ -104,25 +104,25 @@ module _ (commands : Commands) (h : HandlerData) (times : ℕ) where
   )
   goes_by p steps c
       (repeats {q = q} {n = n} {e = end} {c = a} {d = d} {turn = turn} {rest = rest} i at is lt closes inner past) = (
-    i,
-    at,
-    subst (GoesOn p i steps (visit_of commands h times p i ∷ visits_in commands h (capped (times * n)) q turn a inner
-        ++ visits_in commands h times (suc end) rest d past) c) (sym is)
-        (record {
-      turn = turn;
-      rest = rest;
-      is = refl;
-      end = end;
-      closes = closes;
-      later = lt;
-      once = a;
-      after = d;
-      inner = inner;
-      past = past;
-      lists = refl;
-      costs = refl;
-    }),
-  )
+        i,
+        at,
+        subst (GoesOn p i steps (visit_of commands h times p i ∷ visits_in commands h (capped (times * n)) q turn a inner
+            ++ visits_in commands h times (suc end) rest d past) c) (sym is)
+            (record {
+              turn = turn;
+              rest = rest;
+              is = refl;
+              end = end;
+              closes = closes;
+              later = lt;
+              once = a;
+              after = d;
+              inner = inner;
+              past = past;
+              lists = refl;
+              costs = refl;
+            }),
+      )
 
   module _ (start : ℕ) (path : Steps) (first : List Visit) where
     -- a walk so far along a path: these places were visited, and the path goes on from here with the steps that

@@ -127,10 +127,9 @@ add_visits-requires t c =
     let next : p + 1 ≡ suc p = omega arith in
     let told = c.in_ok-push.ensures.items ∙ ap (with_visit c.walk.visits.items c.args.times p i) c.instr_cost-cost.ensures in
     let b = way_block commands h c.args.times c.args.start (route_of c.args.path.now) c.args.visits.now.items p left c.walk.visits.items c.push.new.self.items c.walk.spent c.instr_cost-cost.result i c.walk.invariant at told c.instr_cost-cost.ensures c.in-Around.turns c.in-Around.inner c.requires (c.in-Around.ensures ∙ ap (λ n. exits_of n i) next) in
-    let later = b.later in let l = c.walk.invariant.later in
-    (
-        omega (arith, later, within, l),
-        (b.once, subst (λ s. Path commands h c.in-Around.inner s b.once) (sym (c.iteration.ensures.turn b.turn b.rest b.is)) b.inner),
+    let later = b.later in let l = c.walk.invariant.later in (
+      omega (arith, later, within, l),
+      (b.once, subst (λ s. Path commands h c.in-Around.inner s b.once) (sym (c.iteration.ensures.turn b.turn b.rest b.is)) b.inner),
     )
 
 pub overflow_add-place-in-Around : goal.overflow_add-place-in-Around
@@ -162,13 +161,13 @@ walk-smaller t c =
     let told = c.in_ok-push.ensures.items ∙ ap (with_visit c.walk.visits.items c.args.times p i) c.instr_cost-cost.ensures in
     let read : c.code-in-Around.result.now ≡ h.code = search rules in
     let on = way_around commands h c.args.times c.args.start (route_of c.args.path.now) c.args.visits.now.items p left c.walk.visits.items c.push.new.self.items c.walk.spent c.instr_cost-cost.result i c.walk.invariant at told c.instr_cost-cost.ensures c.in-Around.turns c.in-Around.inner c.end-place.result c.in_ok-one-in-Around.one c.saturating_mul-often.result
-        c.saturating_mul-block.result c.saturating_add-spent-in-Around.result (route_of c.iteration.result.0.now) (route_of c.iteration.result.1.now)
-        c.add_visits.new.visits.items c.requires (c.in-Around.ensures ∙ ap (λ n. exits_of n i) next) (c.saturating_mul-often.ensures ∙ ap (λ y. capped (c.args.times * y)) c.from.ensures)
-        (c.saturating_mul-block.ensures ∙ ap (λ x. capped (x * c.from-in-Around.result)) c.saturating_add-in-Around.ensures
-        ∙ ap (λ y. capped (capped (c.in_ok-one-in-Around.one + 1) * y)) c.from-in-Around.ensures)
-        (let a = c.saturating_add-spent-in-Around.ensures in let b = c.saturating_add-in-Around-2.ensures in omega (arith, a, b))
-        (λ e closes. c.end-place.ensures e (subst (λ xs. Closes xs p e) (sym read) closes))
-        c.iteration.ensures.turn c.iteration.ensures.rest c.in_ok-one-in-Around.ensures in
+    c.saturating_mul-block.result c.saturating_add-spent-in-Around.result (route_of c.iteration.result.0.now) (route_of c.iteration.result.1.now)
+    c.add_visits.new.visits.items c.requires (c.in-Around.ensures ∙ ap (λ n. exits_of n i) next) (c.saturating_mul-often.ensures ∙ ap (λ y. capped (c.args.times * y)) c.from.ensures)
+    (c.saturating_mul-block.ensures ∙ ap (λ x. capped (x * c.from-in-Around.result)) c.saturating_add-in-Around.ensures
+    ∙ ap (λ y. capped (capped (c.in_ok-one-in-Around.one + 1) * y)) c.from-in-Around.ensures)
+    (let a = c.saturating_add-spent-in-Around.ensures in let b = c.saturating_add-in-Around-2.ensures in omega (arith, a, b))
+    (λ e closes. c.end-place.ensures e (subst (λ xs. Closes xs p e) (sym read) closes))
+    c.iteration.ensures.turn c.iteration.ensures.rest c.in_ok-one-in-Around.ensures in
     let l = on.0 in omega (arith, l, within)
 
 pub walk-preserved : goal.walk-preserved
@@ -183,11 +182,11 @@ walk-preserved t c =
     let told = c.in_ok-push.ensures.items ∙ ap (with_visit c.walk.visits.items c.args.times p i) c.instr_cost-cost.ensures in
     let read : c.code-in-Around.result.now ≡ h.code = search rules in
     let on = way_around commands h c.args.times c.args.start (route_of c.args.path.now) c.args.visits.now.items p left c.walk.visits.items c.push.new.self.items c.walk.spent c.instr_cost-cost.result i c.walk.invariant at told c.instr_cost-cost.ensures c.in-Around.turns c.in-Around.inner c.end-place.result c.in_ok-one-in-Around.one c.saturating_mul-often.result
-        c.saturating_mul-block.result c.saturating_add-spent-in-Around.result (route_of c.iteration.result.0.now) (route_of c.iteration.result.1.now)
-        c.add_visits.new.visits.items c.requires (c.in-Around.ensures ∙ ap (λ n. exits_of n i) next) (c.saturating_mul-often.ensures ∙ ap (λ y. capped (c.args.times * y)) c.from.ensures)
-        (c.saturating_mul-block.ensures ∙ ap (λ x. capped (x * c.from-in-Around.result)) c.saturating_add-in-Around.ensures
-        ∙ ap (λ y. capped (capped (c.in_ok-one-in-Around.one + 1) * y)) c.from-in-Around.ensures)
-        (let a = c.saturating_add-spent-in-Around.ensures in let b = c.saturating_add-in-Around-2.ensures in omega (arith, a, b))
-        (λ e closes. c.end-place.ensures e (subst (λ xs. Closes xs p e) (sym read) closes))
-        c.iteration.ensures.turn c.iteration.ensures.rest c.in_ok-one-in-Around.ensures in
+    c.saturating_mul-block.result c.saturating_add-spent-in-Around.result (route_of c.iteration.result.0.now) (route_of c.iteration.result.1.now)
+    c.add_visits.new.visits.items c.requires (c.in-Around.ensures ∙ ap (λ n. exits_of n i) next) (c.saturating_mul-often.ensures ∙ ap (λ y. capped (c.args.times * y)) c.from.ensures)
+    (c.saturating_mul-block.ensures ∙ ap (λ x. capped (x * c.from-in-Around.result)) c.saturating_add-in-Around.ensures
+    ∙ ap (λ y. capped (capped (c.in_ok-one-in-Around.one + 1) * y)) c.from-in-Around.ensures)
+    (let a = c.saturating_add-spent-in-Around.ensures in let b = c.saturating_add-in-Around-2.ensures in omega (arith, a, b))
+    (λ e closes. c.end-place.ensures e (subst (λ xs. Closes xs p e) (sym read) closes))
+    c.iteration.ensures.turn c.iteration.ensures.rest c.in_ok-one-in-Around.ensures in
     on.1

@@ -9,5 +9,5 @@ pub returns-in-Turns : goal.returns-in-Turns
 returns-in-Turns c more turn rest e =
     let v = c.in-Turns.turn in
     let f : Turns (route_of v.items) more ≡ Turns turn rest =
-        sym (turn_before v more) ∙ ap (λ z. before z more) (sym c.in-Turns.is) ∙ e in
+    sym (turn_before v more) ∙ ap (λ z. before z more) (sym c.in-Turns.is) ∙ e in
     ap route_of c.as_slice.ensures.value ∙ (cc)
