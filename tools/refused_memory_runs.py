@@ -20,9 +20,9 @@ class Run:
     spare: int = 0
 
 
-def handlers(*given):
+def handlers(*given, version=1):
     """A handlers.json, on one line."""
-    return json.dumps({"version": 1, "handlers": given}).encode()
+    return json.dumps({"version": version, "handlers": given}).encode()
 
 
 def handler(command, budget, depth, code, **more):
@@ -157,13 +157,15 @@ UPDATES = b"\n".join(
         b'p.e ["',
         b"p.e [,]",
         b"p.e {}",
-        b'p.e {"version":2,"handlers":[]}',
+        b'p.e {"version":3,"handlers":[]}',
         b"p.e " + handlers({**HI, "code": "0g"}),
         b"p.e " + handlers(HI, HI),
         b"p.e " + handlers({**HI, "depth": 65}),
         b"p.e " + handlers({**HI, "code": "00"}),
         b"p.e " + handlers({**HI, "code": "ff0000"}),
         b"p.e " + handlers({**HI, "code": "030002"}),
+        b"p.e " + handlers({**HI, "code": "500002"}),
+        b"p.e " + handlers({**HI, "code": "500002"}, version=2),
         b"p.e " + handlers({**HI, "budget": 2000}),
         b"p.e " + handlers({**HI, "code": "050000"}),
         b"p.e " + handlers({**HI, "calls": ["x.no"]}),
@@ -188,6 +190,7 @@ RUNS = [
         BOTH,
         b"palette no STRASSE\nchoose 2\nchoose 1\npalette br pair\nchoose 1\npalette\ndisable acme.notes\nchoose 2\npalette\n",
     ),
+    Run("repeated blocks", "keyrun", ["examples/rulers"], b"key ctrl+alt+6\nkey ctrl+alt+7\nkey ctrl+alt+7\n"),
     Run("raw handlers", "rawrun", ["--user", "crates/kb_rawrun/data/user.json", "crates/kb_rawrun/data"], b"key h\nkey h\n"),
     Run("check-handlers", "check-handlers", BOTH),
     Run(
