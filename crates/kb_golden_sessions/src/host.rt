@@ -58,7 +58,7 @@ fn for_nothing(ran: Ran) -> Ran
     Ran { core, cost }
 }
 
-fn command(native: Native, cost: Cost) -> Command {
+fn usual_command(native: Native, cost: Cost) -> Command {
     Command {
         native,
         cost,
@@ -71,7 +71,7 @@ pub(crate) fn all_commands(alloc: Global, cost: Cost) -> Result<Vec<Command>, No
     let mut commands = Vec::new(alloc);
     for native in NATIVES {
         commands
-            .push(command(native, cost))
+            .push(usual_command(native, cost))
             .map_err(NoMemory::from)?;
     }
     Ok(commands)
@@ -87,7 +87,7 @@ pub(crate) fn commands_named(
     for word in words.split(' ') {
         if let Some(native) = Native::named(word) {
             commands
-                .push(command(native, cost))
+                .push(usual_command(native, cost))
                 .map_err(NoMemory::from)?;
         }
     }
