@@ -218,7 +218,7 @@ RUNS = [
         + b"update p.e " + handlers({**HI, "budget": 2000}) + b"\nupdate p.e " + handlers({**HI, "texts": ["yo"]}) + b"\nkey h\n",
         {**HI_FILES, **FOLLOWER},
     ),
-    Run("updates that are refused", "keyrun", HI_WORDS, UPDATES + b"\nkey h\n", HI_FILES, spare=2),
+    Run("updates that are refused", "keyrun", HI_WORDS, UPDATES + b"\nkey h\n", HI_FILES, spare=3),
     Run(
         "a palette with choices",
         "keyrun",
