@@ -4,8 +4,10 @@
 /// `choices`.
 #[derive(Clone, Copy, Debug)]
 pub(crate) enum Finding {
-    /// `kb_handler_file` refuses the file with the handler.
+    /// `kb_handler_file` refuses the file with the handler, and its blocks are well formed.
     NotRead,
+    /// `kb_handler_file` accepts the file with the handler, and its blocks aren't well formed.
+    Read,
     /// The verifier accepts the handler, and a path through its code costs more than the budget.
     Accepted,
     /// The verifier refuses the handler by this fault, and the budget is enough.

@@ -74,7 +74,7 @@ pub(crate) fn object(
     Ok(text)
 }
 
-/// The file that has these objects.
-pub(crate) fn file(alloc: Global, objects: &str) -> Result<String, NoMemory> {
-    format!(in alloc; "{{\"version\":1,\"handlers\":[{objects}]}}")
+/// The file of a version that has these objects.
+pub(crate) fn file(alloc: Global, version: u16, objects: &str) -> Result<String, NoMemory> {
+    format!(in alloc; "{{\"version\":{version},\"handlers\":[{objects}]}}")
 }

@@ -7,7 +7,7 @@ use kb_core::Kind;
 use kb_verify::Callable;
 
 /// The number of instructions of a phrase.
-const SIZE: u16 = 3;
+pub(crate) const SIZE: u16 = 3;
 
 /// The first `NATIVES` names of `CALLS` are those of natives.
 const NATIVES: u16 = 3;
@@ -212,8 +212,7 @@ fn with_top(random: &mut Random, top: Top, p: Parts) -> Phrase {
     }
 }
 
-/// A random phrase for a stack with this on top; its jump, if it has one, leads to the phrase with number
-/// `later`.
+/// A random phrase for a stack with this on top; its jump, if it has one, leads to the place `later`.
 pub(crate) fn random_phrase(
     random: &mut Random,
     callable: &Callable,
@@ -221,7 +220,7 @@ pub(crate) fn random_phrase(
     top: Top,
     later: u16,
 ) -> Phrase {
-    let parts = random_parts(random, names.params, later.wrapping_mul(SIZE));
+    let parts = random_parts(random, names.params, later);
     let code = match random.below(8) {
         0 | 1 | 2 | 3 => return with_top(random, top, parts),
         4 => calling(callable, random.below(names.handlers), parts),

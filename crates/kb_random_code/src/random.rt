@@ -1,5 +1,6 @@
 //! Random handlers. A seed always gives the same ones.
-use crate::phrases::{Names, Top, arbitrary, later, random_phrase};
+use crate::blocks::random_blocks;
+use crate::phrases::{Names, SIZE, Top, arbitrary, later, random_phrase};
 use kb_base::NoMemory;
 use kb_code::Instr;
 use kb_core::Kind;
@@ -32,9 +33,17 @@ impl Random {
     }
 }
 
+/// Where random handlers come from: a sequence of numbers, and the version of their code.
+#[derive(Clone, Copy)]
+pub(crate) struct Source {
+    pub random: Random,
+    pub version: u16,
+}
+
 /// A handler without its name and its budget.
 #[derive(Drop)]
 pub(crate) struct Draft {
+    pub version: u16,
     pub params: Vec<Kind>,
     pub depth: u16,
     pub code: Vec<Instr>,
@@ -97,7 +106,7 @@ fn random_code(
             top = jump.1;
         }
         let to = later(random, count, nth);
-        let phrase = random_phrase(random, callable, names, top, to);
+        let phrase = random_phrase(random, callable, names, top, to.wrapping_mul(SIZE));
         code.extend_from_slice(phrase.code.as_slice())?;
         if phrase.jumps() {
             jump = (to, phrase.top);
@@ -109,21 +118,27 @@ fn random_code(
     Ok(code)
 }
 
-/// A random handler, which may call the first `handlers` handlers of its file.
+/// A random handler, which may call the first `handlers` handlers of its file. Code of version 2 has blocks.
 pub(crate) fn random_draft(
     alloc: Global,
-    random: &mut Random,
+    source: &mut Source,
     callable: &Callable,
     handlers: u16,
 ) -> Result<Draft, NoMemory> {
+    let version = source.version;
+    let random = &mut source.random;
     let params = random_params(alloc, random)?;
     let depth = random_depth(random, handlers);
     let names = Names {
         params: u16::try_from(params.len()).unwrap_or(0),
         handlers,
     };
-    let code = random_code(alloc, random, callable, names)?;
+    let code = match version {
+        1 => random_code(alloc, random, callable, names)?,
+        _ => random_blocks(alloc, random, callable, names)?,
+    };
     Ok(Draft {
+        version,
         params,
         depth,
         code,

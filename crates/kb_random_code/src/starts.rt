@@ -60,7 +60,8 @@ fn start_all(
     Ok(most)
 }
 
-/// Registers an accepted handler and starts it once for each choice: the most that a start spends.
+/// Registers an accepted handler and starts it once for each choice: the most that a start spends, or 0 where
+/// the handler is too expensive to be started.
 pub(crate) fn run(
     alloc: Global,
     registry: &mut Registry<FullBudget>,
@@ -69,5 +70,9 @@ pub(crate) fn run(
     counts: &mut Counts,
 ) -> Result<u64, Failure<Finding>> {
     replace(alloc, registry, u32::from(trial.place), verified)?;
-    start_all(alloc, registry, trial, counts)
+    if trial.is_started() {
+        start_all(alloc, registry, trial, counts)
+    } else {
+        Ok(0)
+    }
 }

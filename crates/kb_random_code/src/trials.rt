@@ -4,7 +4,7 @@ use crate::counts::Counts;
 use crate::finding::Finding;
 use crate::handler_files::file;
 use crate::live::{FullBudget, clear, natives};
-use crate::random::Random;
+use crate::random::{Random, Source};
 use crate::trial::{Trial, random_trial};
 use crate::verdict::{Verdict, judge};
 use kb_base::{Failure, NoMemory};
@@ -72,7 +72,7 @@ fn is_accepted(
             Err(Failure::Fault(Finding::Accepted))
         }
         Verdict::Accepted(_) => {
-            counts.accepted = counts.accepted.wrapping_add(1);
+            counts.accept(trial.has_blocks(), trial.is_started());
             try_below_cost(alloc, callable, registry, trial, counts)?;
             try_at_cost(alloc, callable, registry, trial, counts)?;
             Ok(true)
@@ -104,7 +104,7 @@ fn finding_text(
 ) -> Result<String, NoMemory> {
     let object = trial.object(alloc)?;
     let objects = format!(in alloc; "{object}{live}")?;
-    let file = file(alloc, objects.as_str())?;
+    let file = file(alloc, trial.draft.version, objects.as_str())?;
     format!(in alloc; "{finding:?}: {file}")
 }
 
@@ -132,14 +132,14 @@ fn try_handler(
 
 fn try_handlers(
     alloc: Global,
-    random: &mut Random,
+    source: &mut Source,
     callable: &mut Callable,
     registry: &mut Registry<FullBudget>,
     live: &mut String,
     counts: &mut Counts,
 ) -> Result<Option<String>, NoMemory> {
     for place in 0..HANDLERS {
-        let trial = random_trial(alloc, random, callable, place)?;
+        let trial = random_trial(alloc, source, callable, place)?;
         let found = try_handler(alloc, callable, registry, trial, live, counts)?;
         if found.is_some() {
             return Ok(found);
@@ -150,25 +150,25 @@ fn try_handlers(
 
 fn try_file(
     alloc: Global,
-    random: &mut Random,
+    source: &mut Source,
     registry: &mut Registry<FullBudget>,
     counts: &mut Counts,
 ) -> Result<Option<String>, NoMemory> {
     clear(registry, u32::from(HANDLERS));
     let mut callable = callable_with(alloc, &[])?;
     let mut live = String::new(alloc);
-    try_handlers(alloc, random, &mut callable, registry, &mut live, counts)
+    try_handlers(alloc, source, &mut callable, registry, &mut live, counts)
 }
 
 fn try_files(
     alloc: Global,
-    random: &mut Random,
+    source: &mut Source,
     registry: &mut Registry<FullBudget>,
     counts: &mut Counts,
     files: u32,
 ) -> Result<Option<String>, NoMemory> {
     for nth in 0..files {
-        if let Some(found) = try_file(alloc, random, registry, counts)? {
+        if let Some(found) = try_file(alloc, source, registry, counts)? {
             return Ok(Some(format!(in alloc; "file {nth}: {found}")?));
         }
     }
@@ -178,23 +178,29 @@ fn try_files(
 // Tests this number of files over a registry with the natives.
 fn try_seed_over(
     alloc: Global,
-    seed: u64,
+    source: Source,
     registry: &mut Registry<FullBudget>,
     files: u32,
 ) -> Result<String, NoMemory> {
-    let mut random = Random::new(seed);
+    let mut source = source;
     let mut counts = Counts::new();
-    match try_files(alloc, &mut random, registry, &mut counts, files)? {
+    match try_files(alloc, &mut source, registry, &mut counts, files)? {
         Some(found) => Ok(found),
-        None => counts.text(alloc),
+        None => counts.text(alloc, source.version),
     }
 }
 
-/// Tests this number of files of random handlers: the counts, or the first finding with the number of its
-/// file.
-pub(crate) fn try_seed(alloc: Global, seed: u64, files: u32) -> Result<String, NoMemory> {
+/// Tests this number of files of random handlers, with code of this version: the counts, or the first finding
+/// with the number of its file.
+pub(crate) fn try_seed(
+    alloc: Global,
+    version: u16,
+    seed: u64,
+    files: u32,
+) -> Result<String, NoMemory> {
     let mut registry = natives(alloc)?;
-    let output = try_seed_over(alloc, seed, &mut registry, files);
+    let random = Random::new(seed);
+    let output = try_seed_over(alloc, Source { random, version }, &mut registry, files);
     drop(registry);
     output
 }

@@ -2,10 +2,11 @@
 use crate::counts::Counts;
 use crate::finding::Finding;
 use crate::live::FullBudget;
-use crate::paths::{jumps_of, path_by};
+use crate::paths::{cost_by, has_bad_blocks, steps_by};
 use crate::starts::run;
+use crate::steps::{jumps_in, steps_text};
 use crate::trial::Trial;
-use kb_base::Failure;
+use kb_base::{Failure, NoMemory};
 use kb_code::Handler;
 use kb_registry::Registry;
 use kb_verify::{Callable, Step, VerifyFault, verify};
@@ -21,15 +22,27 @@ pub(crate) enum Verdict {
 }
 
 // Whether a path is one of this code, costs as much as the most expensive one, and more than the budget.
-fn is_over_budget(callable: &Callable, trial: &Trial, path: &[Step]) -> bool {
-    let Some(taken) = path_by(callable, trial.draft.code.as_slice(), jumps_of(path)) else {
-        return false;
-    };
-    taken.branches == path.len() && taken.cost == trial.highest_cost && taken.cost > trial.budget
+fn is_over_budget(
+    alloc: Global,
+    callable: &Callable,
+    trial: &Trial,
+    path: &[Step],
+) -> Result<bool, NoMemory> {
+    let code = trial.draft.code.as_slice();
+    let steps = steps_text(alloc, path)?;
+    let jumps = jumps_in(steps.as_str());
+    let taken = steps_by(alloc, code, jumps)?;
+    match cost_by(callable, code, jumps) {
+        Some(cost) if cost == trial.highest_cost => {
+            Ok(taken.as_str() == steps.as_str() && cost > trial.budget)
+        }
+        _ => Ok(false),
+    }
 }
 
 // The number of a fault, where its place and its path are right.
 fn fault_number(
+    alloc: Global,
     callable: &Callable,
     trial: &Trial,
     fault: &VerifyFault,
@@ -39,15 +52,18 @@ fn fault_number(
     if place >= trial.draft.code.len() {
         return Err(Failure::Fault(Finding::Outside { number, place }));
     }
-    match fault {
-        VerifyFault::OverBudget(path) if !is_over_budget(callable, trial, path.as_slice()) => {
-            Err(Failure::Fault(Finding::Path))
-        }
-        _ => Ok(number),
+    let VerifyFault::OverBudget(path) = fault else {
+        return Ok(number);
+    };
+    if is_over_budget(alloc, callable, trial, path.as_slice())? {
+        Ok(number)
+    } else {
+        Err(Failure::Fault(Finding::Path))
     }
 }
 
 fn refused(
+    alloc: Global,
     callable: &Callable,
     trial: &Trial,
     failure: &Failure<VerifyFault>,
@@ -55,7 +71,7 @@ fn refused(
     match failure {
         Failure::NoMemory => Err(Failure::NoMemory),
         Failure::Fault(fault) => {
-            let number = fault_number(callable, trial, fault)?;
+            let number = fault_number(alloc, callable, trial, fault)?;
             Ok(Verdict::Refused(number))
         }
     }
@@ -77,10 +93,20 @@ fn judge_read(
         },
         Err((handler, failure)) => {
             drop(handler);
-            let verdict = refused(callable, trial, &failure);
+            let verdict = refused(alloc, callable, trial, &failure);
             drop(failure);
             verdict
         }
+    }
+}
+
+// The verdict on a handler whose file is refused, which has to be for its blocks.
+fn judge_unread(alloc: Global, trial: &Trial) -> Result<Verdict, Failure<Finding>> {
+    let said = trial.file_fault(alloc)?;
+    if has_bad_blocks(trial.draft.code.as_slice()) && said.as_str() == "53 BadBlock" {
+        Ok(Verdict::Refused(53))
+    } else {
+        Err(Failure::Fault(Finding::NotRead))
     }
 }
 
@@ -93,7 +119,11 @@ pub(crate) fn judge(
     counts: &mut Counts,
 ) -> Result<Verdict, Failure<Finding>> {
     match trial.handler(alloc)? {
+        Some(handler) if has_bad_blocks(trial.draft.code.as_slice()) => {
+            drop(handler);
+            Err(Failure::Fault(Finding::Read))
+        }
         Some(handler) => judge_read(alloc, callable, registry, trial, handler, counts),
-        None => Err(Failure::Fault(Finding::NotRead)),
+        None => judge_unread(alloc, trial),
     }
 }
