@@ -163,6 +163,34 @@ impl Bindings {
         self.extensions.as_slice()
     }
 
+    /// The default rules.
+    pub fn defaults(&self) -> &RuleList
+        ensures { result.now ≡ self.now.defaults }
+    {
+        &self.defaults
+    }
+
+    /// The rules of the user.
+    pub fn user(&self) -> &RuleList
+        ensures { result.now ≡ self.now.user }
+    {
+        &self.user
+    }
+
+    /// The search among the rules in force.
+    pub fn resolver(&self) -> &Resolver
+        ensures { result.now ≡ rules_of self.now }
+    {
+        &self.resolver
+    }
+
+    /// The enablements of the commands that enabled extensions contribute.
+    pub fn enablements(&self) -> &Enablements
+        ensures { enablement_in result.now ≡ enablement self.now }
+    {
+        &self.enablements
+    }
+
     /// The commands of the palette: those of the enabled extensions, in load order.
     pub fn palette(&self) -> &[PaletteCommand]
         ensures { result.now ≡ palette_commands self.now.extensions }

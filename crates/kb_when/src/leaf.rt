@@ -8,7 +8,7 @@ use kb_pattern::Pattern;
 
 /// An atom with its own texts. The tree and the flat form of a clause share it.
 #[derive(Debug, Drop)]
-pub(crate) enum Leaf {
+pub enum Leaf {
     /// A key alone.
     Key(Text),
     /// A key and the text that its value must equal.

@@ -5,6 +5,7 @@ ghost use Rattle.kb_session.specs.Inspect.{found_by};
 
 use crate::session::Session;
 use kb_base::NoMemory;
+use kb_bindings::Bindings;
 use kb_core::Core;
 use kb_keys::Keystroke;
 use kb_registry::HostCommand;
@@ -17,6 +18,13 @@ impl<C: HostCommand> Session<C> {
         ensures { result.now ≡ self.now.state.core }
     {
         self.core.core()
+    }
+
+    /// What binds keys: the rules, the extensions, and the search among them.
+    pub fn bindings(&self) -> &Bindings
+        ensures { result.now ≡ self.now.state.sources }
+    {
+        &self.bindings
     }
 
     /// The keystrokes of the open chord, in order, or none if no chord is open.
