@@ -83,8 +83,8 @@ impl<V: Drop> TextMap<V> {
         Ok(())
     }
 
-    /// Sets the value of a key, which is copied if the map lacks it. Error: `NoMemory`, only in that case; the
-    /// map is then unchanged.
+    /// Sets the value of a key, which is copied if the map lacks it. Error: `NoMemory`, only in that case;
+    /// the map is then unchanged.
     pub fn set(&mut self, alloc: Global, key: &str, value: V) -> Result<(), NoMemory>
         ensures ok { OnOk result (self.new ≡ map.insert self.old key.now value) }
         ensures err { OnErr result (self.new ≡ self.old) }

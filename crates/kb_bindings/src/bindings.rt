@@ -119,8 +119,8 @@ impl Bindings {
         }
     }
 
-    /// Presses a key, over what the focus of the scopes sees. `NoMemory` only if a clause or an enablement with
-    /// a pattern is evaluated; the chord is then unchanged.
+    /// Presses a key, over what the focus of the scopes sees. `NoMemory` only if a clause or an enablement
+    /// with a pattern is evaluated; the chord is then unchanged.
     pub fn press<'b>(
         &'b self,
         chord: &mut ChordState,

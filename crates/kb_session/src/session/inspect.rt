@@ -34,8 +34,9 @@ impl<C: HostCommand> Session<C> {
         self.chord.pressed()
     }
 
-    /// What a press of the key would find now, behind the keystrokes of the open chord: the rule whose command
-    /// it would start, that a chord would be open, or nothing. Nothing is pressed. `NoMemory` changes nothing.
+    /// What a press of the key would find now, behind the keystrokes of the open chord: the rule whose
+    /// command it would start, that a chord would be open, or nothing. Nothing is pressed. `NoMemory`
+    /// changes nothing.
     pub fn look_up(&self, key: Keystroke) -> Result<Resolved<'_>, NoMemory>
         ensures { IfOk result (λ found. resolution_of found ≡ found_by key self.now.state) }
     {
