@@ -85,7 +85,7 @@ impl Leaf {
     }
 
     /// Whether both leaves are the same atom. The marks of patterns are not compared.
-    pub(crate) fn same(&self, other: &Leaf) -> bool
+    pub fn same(&self, other: &Leaf) -> bool
         ensures { result ≡ same (clause_of_leaf self.now) (clause_of_leaf other.now) }
     {
         match self {
