@@ -3,7 +3,9 @@ use Rattle.std.proofs.Common.{◌≡◌, ℕ, ◌+◌, List, [], ◌∷◌, Bool
 use Rattle.std.proofs.Common.{sym, ◌∙◌, ap, String, string_bytes, is_some, add-one, Result, Ok, Err, OnErr}
 use Rattle.std.specs.Ordering.{nat_cmp, eq_by_cmp}
 use Rattle.std.specs.Str.{bytes_eq}
-use Rattle.std.specs.List.{AllByRecursion, IsDistinct}
+use Rattle.std.specs.Borrow.{Bor}
+use Rattle.std.specs.Prelude.{◌||◌, map, ◌++◌}
+use Rattle.std.specs.List.{AllByRecursion, IsDistinct, list_any}
 use Rattle.std.specs.Map.{lookup, keys_of}
 use Rattle.std.specs.Cmp.Lexicographic.{slice_cmp}
 use Rattle.std.specs.HashMap as hash
@@ -110,3 +112,27 @@ filled_more m n k v rest w new is q =
     ∙ filled_step (bytes_eq q (string_bytes k)) (get m q) v
     (lookup (λ s. bytes_eq q (string_bytes s)) rest) w
     (λ e. ap (get m) ((bytes_eq-Decides q (string_bytes k)).0 e) ∙ no_value _ new)
+
+-- ---- a table whose keys are lent
+
+or_apart : (a b c : Bool) → ((a || b) || c) ≡ (a || (b || c))
+or_apart true b c = refl
+or_apart false b c = refl
+
+first_taken : {X : Type 0} (b : Bool) (v : X) (o : Option X) → ((b || false) || is_some o) ≡ is_some (cond b (Some v) o)
+first_taken true v o = refl
+first_taken false v o = refl
+
+-- an entry that is taken goes from the entries that are left to the keys that were taken
+pub one_taken : {X : Type 0} (taken : List (Bor (List ℕ))) (one : Bor (List ℕ)) (k : String Global) (v : X)
+    (rest : List (String Global × X)) (q : List ℕ) → one.now ≡ string_bytes k
+    → (list_any (bytes_eq q) (map (λ (b : Bor (List ℕ)). b.now) (taken ++ one ∷ []))
+    || is_some (lookup (λ s. bytes_eq q (string_bytes s)) rest))
+    ≡ (list_any (bytes_eq q) (map (λ (b : Bor (List ℕ)). b.now) taken)
+    || is_some (lookup (λ s. bytes_eq q (string_bytes s)) ((k, v) ∷ rest)))
+one_taken [] one k v rest q e =
+    ap (λ (t : List ℕ). (bytes_eq q t || false) || is_some (lookup (λ s. bytes_eq q (string_bytes s)) rest)) e
+    ∙ first_taken (bytes_eq q (string_bytes k)) v (lookup (λ s. bytes_eq q (string_bytes s)) rest)
+one_taken (t ∷ ts) one k v rest q e =
+    or_apart (bytes_eq q t.now) _ _ ∙ ap (λ (b : Bool). bytes_eq q t.now || b) (one_taken ts one k v rest q e)
+    ∙ sym (or_apart (bytes_eq q t.now) _ _)

@@ -14,8 +14,8 @@ abbrev pub Gives : {F X Y : Type 0} → (X → Y) → Result X (Failure F) → R
 Gives view (Ok x) meant = meant ≡ Ok (view x)
 Gives view (Err failure) meant = Fails failure meant
 
--- a call was refused for the fault that there is, or was refused memory; refused memory may come where there is
--- a fault too
+-- a call was refused for the fault that there is, or was refused memory; refused memory may come where there
+-- is a fault too
 abbrev pub IsRefusal : {F : Type 0} → Option F → Failure F → Type 0
 IsRefusal fault NoMemory = Unit {0}
 IsRefusal fault (Fault f) = fault ≡ Some f

@@ -1,6 +1,6 @@
-//! The small types that every crate stands on: a text that contracts see as its bytes, a list that they see as
-//! its items, a map from texts, the one error of a refused allocation, why a call gave nothing, and refusals
-//! with the one table of faults.
+//! The small types that every crate stands on: a text that contracts see as its bytes, a list that they see
+//! as its items, a map from texts, the one error of a refused allocation, why a call gave nothing, and
+//! refusals with the one table of faults.
 #![tactic(auto)]
 
 pub mod blank;

@@ -35,8 +35,7 @@ impl Refusal {
 }
 
 /// The name of the fault with a number, which lines print behind the number; empty for any other number.
-/// Numbers and names are our decision. No call returns 53 or 96 yet: they are reserved for blocks of
-/// instructions, and for the command palette.
+/// Numbers and names are our decision.
 #[tactic(auto, unfolding(crate::specs::Faults::fault_name))]
 pub fn fault_name(number: u32) -> &'static str
     ensures { result.now ≡ fault_name number }

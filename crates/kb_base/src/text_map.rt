@@ -1,6 +1,9 @@
 //! Maps with texts as keys.
-ghost use Rattle.std.specs.Prelude.{◌≡◌, ◌<◌, ◌^◌, ◌↔◌, ℕ, List, IsTrue, OnOk, OnErr, false, option_copied};
+ghost use Rattle.std.specs.Prelude.{◌≡◌, ◌<◌, ◌^◌, ◌↔◌, ℕ, List, IsTrue, OnOk, OnErr, IfOk, false, option_copied};
+ghost use Rattle.std.specs.Prelude.{map as mapped};
 ghost use Rattle.std.specs.FinMap as map;
+ghost use Rattle.std.specs.List.{list_any};
+ghost use Rattle.std.specs.Str.{bytes_eq};
 ghost use Rattle.kb_base.specs.TextMap.{filled};
 
 use crate::memory::NoMemory;
@@ -80,8 +83,8 @@ impl<V: Drop> TextMap<V> {
         Ok(())
     }
 
-    /// Sets the value of a key, which is copied if the map lacks it. Error: `NoMemory`, only in that case; the
-    /// map is then unchanged.
+    /// Sets the value of a key, which is copied if the map lacks it. Error: `NoMemory`, only in that case;
+    /// the map is then unchanged.
     pub fn set(&mut self, alloc: Global, key: &str, value: V) -> Result<(), NoMemory>
         ensures ok { OnOk result (self.new ≡ map.insert self.old key.now value) }
         ensures err { OnErr result (self.new ≡ self.old) }
@@ -106,6 +109,18 @@ impl<V: Drop> TextMap<V> {
         ensures { self.new ≡ map.empty }
     {
         self.table.clear();
+    }
+
+    /// All keys, lent, in no order that is known. Error: `NoMemory`.
+    pub fn keys(&self, alloc: Global) -> Result<Vec<&str>, NoMemory>
+        ensures { IfOk result (λ keys. (key : List ℕ)
+            → list_any (bytes_eq key) (mapped (λ k. k.now) keys.items) ≡ map.contains_key self.now key) }
+    {
+        let mut keys = Vec::new(alloc);
+        for (key, _) in &self.table {
+            keys.push(key.as_str())?;
+        }
+        Ok(keys)
     }
 
     /// Gives each key of this map that the other map lacks the number there. Error: `NoMemory`; the other

@@ -10,7 +10,8 @@ use Rattle.kb_palette.specs.Command.{CommandData}
 use Rattle.kb_palette_commands.specs.Palette.{palette_commands}
 use Rattle.kb_when.specs.Marks.{MarkedClause}
 
--- the searched rules, the enablements, the palette's commands and the warnings are derived from what binds keys
+-- the searched rules, the enablements, the palette's commands and the warnings are derived from what binds
+-- keys
 pub record IsSearched (sources : Sources) (rules : List Rule) (enabled : List ℕ → Option MarkedClause)
     (palette : List CommandData) (warnings : List Warning) : Type 0 where
   pub rules_are : rules ≡ rules_of sources

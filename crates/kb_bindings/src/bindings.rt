@@ -119,8 +119,8 @@ impl Bindings {
         }
     }
 
-    /// Presses a key, over what the focus of the scopes sees. `NoMemory` only if a clause or an enablement with
-    /// a pattern is evaluated; the chord is then unchanged.
+    /// Presses a key, over what the focus of the scopes sees. `NoMemory` only if a clause or an enablement
+    /// with a pattern is evaluated; the chord is then unchanged.
     pub fn press<'b>(
         &'b self,
         chord: &mut ChordState,
@@ -161,6 +161,34 @@ impl Bindings {
         ensures { result.now ≡ self.now.extensions }
     {
         self.extensions.as_slice()
+    }
+
+    /// The default rules.
+    pub fn defaults(&self) -> &RuleList
+        ensures { result.now ≡ self.now.defaults }
+    {
+        &self.defaults
+    }
+
+    /// The rules of the user.
+    pub fn user(&self) -> &RuleList
+        ensures { result.now ≡ self.now.user }
+    {
+        &self.user
+    }
+
+    /// The search among the rules in force.
+    pub fn resolver(&self) -> &Resolver
+        ensures { result.now ≡ rules_of self.now }
+    {
+        &self.resolver
+    }
+
+    /// The enablements of the commands that enabled extensions contribute.
+    pub fn enablements(&self) -> &Enablements
+        ensures { enablement_in result.now ≡ enablement self.now }
+    {
+        &self.enablements
     }
 
     /// The commands of the palette: those of the enabled extensions, in load order.

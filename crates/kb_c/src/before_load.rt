@@ -8,8 +8,8 @@ use crate::handle::Handle;
 use kb_embed::{Engine, Outcome};
 use std::alloc::Global;
 
-/// Makes an engine without files, in the place of what the handle holds. 0, or 5 where memory is refused: then
-/// the handle keeps what it held.
+/// Makes an engine without files, in the place of what the handle holds. 0, or 5 where memory is refused:
+/// then the handle keeps what it held.
 #[unsafe(no_mangle)]
 pub extern "C" fn pafjirn_new(alloc: Global, h: &mut Handle) -> u32
     ensures { Makes h.old.value (outcome_numbered result) h.new.value }

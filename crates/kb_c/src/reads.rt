@@ -7,9 +7,10 @@ use crate::handle::Handle;
 use kb_embed::read_over;
 use std::alloc::Global;
 
-/// Copies a text from a place on, as much as there is room for, and returns the length of the whole text: 0 is
-/// the trace of the last event, 1 the notice of the load, 2 to 5 what the last event took (the keystrokes so
-/// far, the command, its arguments as JSON, the rule's file), 6 and 7 the text before and behind the caret.
+/// Copies a text from a place on, as much as there is room for, and returns the length of the whole text: 0
+/// is the trace of the last event, 1 the notice of the load, 2 to 5 what the last event took (the keystrokes
+/// so far, the command, its arguments as JSON, the rule's file), 6 and 7 the text before and behind the
+/// caret.
 #[unsafe(no_mangle)]
 pub extern "C" fn pafjirn_read(
     alloc: Global,

@@ -6,7 +6,8 @@ use Rattle.kb_code.specs.Blocks.{Closes, is_inside}
 use Rattle.kb_code.specs.Exits.{exits_of, is_exit}
 use Rattle.kb_code.specs.Handler.{HandlerData}
 
--- the instruction at a place can continue at a later place of the code: the next one, or one of the same block
+-- the instruction at a place can continue at a later place of the code: the next one, or one of the same
+-- block
 pub record Follows (code : List Instr) (p q : ℕ) : Type 0 where
   pub instr : Instr
   pub at : slice_get code p ≡ Some instr

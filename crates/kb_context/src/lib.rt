@@ -4,12 +4,12 @@
 mod draft;
 pub mod fault;
 pub mod layout;
-mod scope_tree;
+pub mod scope_tree;
 pub mod scopes;
 pub mod value;
 
 pub use fault::{ScopeFault, UnknownScope};
 pub use layout::{Layout, LayoutScope, SCOPE_LIMIT};
-pub use scope_tree::KEY_LIMIT;
+pub use scope_tree::{KEY_LIMIT, Scope};
 pub use scopes::Scopes;
 pub use value::ContextValue;

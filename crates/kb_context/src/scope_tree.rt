@@ -16,12 +16,15 @@ use std::marker::Model;
 /// The maximum number of keys in all scopes together (our decision).
 pub const KEY_LIMIT: usize = 10_000;
 
-/// A scope: its name, the index of the scope around it, and the values of its keys.
+/// A scope.
 #[derive(Debug, Drop)]
-pub(crate) struct Scope {
-    pub(crate) name: Text,
-    pub(crate) parent: Option<usize>,
-    pub(crate) keys: TextMap<ContextValue>,
+pub struct Scope {
+    /// Its name.
+    pub name: Text,
+    /// The index of the scope around it, which comes before it; the outermost scope has none.
+    pub parent: Option<usize>,
+    /// The values of its own keys.
+    pub keys: TextMap<ContextValue>,
 }
 
 /// The innermost value of a key, searched from the scope at index `from` outward. Each scope on the path
@@ -160,6 +163,20 @@ impl ScopeTree {
             focus,
             keys,
         })
+    }
+
+    /// All scopes, the outermost first.
+    pub(crate) fn scopes(&self) -> &[Scope]
+        ensures { result.now ≡ self.now.scopes }
+    {
+        self.scopes.as_slice()
+    }
+
+    /// The index of the scope that has the focus.
+    pub(crate) fn focused(&self) -> usize
+        ensures { result ≡ self.now.focus }
+    {
+        self.focus
     }
 
     /// The innermost value of a key from the focused scope outward. Each scope on the path costs one lookup.

@@ -5,7 +5,7 @@ ghost use Rattle.kb_context.specs.Scopes.{next_revision, IsFlatBut, IsFlatFor};
 
 use crate::fault::{ScopeFault, UnknownScope};
 use crate::layout::Layout;
-use crate::scope_tree::ScopeTree;
+use crate::scope_tree::{Scope, ScopeTree};
 use crate::value::ContextValue;
 use kb_base::{Failure, NoMemory, TextMap};
 use std::alloc::Global;
@@ -100,6 +100,20 @@ impl Scopes {
         ensures { result ≡ self.now.revision }
     {
         self.revision
+    }
+
+    /// All scopes, the outermost first, each behind the scope around it.
+    pub fn scopes(&self) -> &[Scope]
+        ensures { result.now ≡ self.now.seen.scopes }
+    {
+        self.tree.scopes()
+    }
+
+    /// The index of the scope that has the focus.
+    pub fn focused(&self) -> usize
+        ensures { result ≡ self.now.seen.focus }
+    {
+        self.tree.focused()
     }
 
     /// Makes the flat map for the present revision, so that `get` costs two lookups until the focus changes.

@@ -21,8 +21,8 @@ use std::marker::Model;
 mod inputs;
 mod reads;
 
-/// An engine: its files, and the session that was loaded from them. Contracts see both, with the notice of the
-/// last load and what the last event took.
+/// An engine: its files, and the session that was loaded from them. Contracts see both, with the notice of
+/// the last load and what the last event took.
 #[derive(Drop)]
 pub struct Engine {
     files: HostFiles,
@@ -93,8 +93,9 @@ impl Engine {
         }
     }
 
-    /// Copies the bytes of a file: 0 is the layout of the scopes, 1 the default rules, 2 the user's rules. The
-    /// outcomes are `Done`, `OutOfOrder` behind the load, `Unknown` for any other number, and `NoMemory`.
+    /// Copies the bytes of a file: 0 is the layout of the scopes, 1 the default rules, 2 the user's rules.
+    /// The outcomes are `Done`, `OutOfOrder` behind the load, `Unknown` for any other number, and
+    /// `NoMemory`.
     pub fn set_file(&mut self, number: u32, bytes: &[u8]) -> Outcome
         ensures { GivesFile number bytes.now self.old result self.new }
     {
@@ -194,9 +195,9 @@ impl Engine {
         }
     }
 
-    /// Has the session do what a line of a script says (`docs/FORMATS.md` lists the lines). What a key press or
-    /// a choice takes is noted too. The outcomes are those of `Running::tell_line`, and `OutOfOrder` before the
-    /// load.
+    /// Has the session do what a line of a script says (`docs/FORMATS.md` lists the lines). What a key press
+    /// or a choice takes is noted too. The outcomes are those of `Running::tell_line`, and `OutOfOrder`
+    /// before the load.
     #[tactic(auto, using(crate::proofs::EngineLemmas::halting))]
     pub fn tell_line(&mut self, line: &[u8]) -> Outcome
         ensures { TellsLine line.now self.old result self.new }

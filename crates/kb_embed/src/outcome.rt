@@ -20,8 +20,8 @@ pub enum Outcome {
     NoKey,
     /// A text isn't UTF-8, or a text of JSON is no context value. Nothing changed.
     NoText,
-    /// No live command has the identifier: it is a command of the host's own, which runs it. The trace has its
-    /// lines.
+    /// No live command has the identifier: it is a command of the host's own, which runs it. The trace has
+    /// its lines.
     NotFound,
     /// The arguments don't fit the command. The trace has its lines.
     BadArguments,

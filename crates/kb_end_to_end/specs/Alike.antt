@@ -12,8 +12,8 @@ use Rattle.kb_stream.specs.Lines.{Begins}
 abbrev pub OneBegins : List (List ℕ) → List (List ℕ) → Type 0
 OneBegins one other = Begins one other ⊎ Begins other one
 
--- loads of the same files with closures for the same native commands give the same session, if they report the
--- same patterns as unread
+-- loads of the same files with closures for the same native commands give the same session, if they report
+-- the same patterns as unread
 abbrev pub LoadsAlike : Type 0
 LoadsAlike = (files : Files) (natives : List Native) (one other : Seen) → marks_by one ≡ marks_by other
     → IsOf files natives one → IsOf files natives other → one ≡ other
@@ -30,8 +30,8 @@ RunsOrBreaks said old new before now =
     RunsAndWrites move said old new before now
     ⊎ (StopsAndWrites move Halts said old new before now ⊎ LacksLines move said old new before now)
 
--- the same lines, with the same patterns unread in each reload, give the same session, shelf and trace; where one
--- of the runs broke off, one of the traces is the beginning of the other
+-- the same lines, with the same patterns unread in each reload, give the same session, shelf and trace;
+-- where one of the runs broke off, one of the traces is the beginning of the other
 pub record ScriptsAlike : Type 0 where
   pub whole : (said : List Said) (old one other : Traced Stand) (a b c d : Option (List ℕ))
       → RunsAndWrites move said old one a b → RunsAndWrites move said old other c d → one ≡ other

@@ -6,8 +6,8 @@ use kb_registry::HostCommand;
 use kb_session::{Session, SessionFault};
 use kb_trace::{Answer, Event};
 
-/// Handles an event in two sessions with equal states and traces. Where both succeed, they answer the same, and
-/// their states and traces are equal again, for any closures.
+/// Handles an event in two sessions with equal states and traces. Where both succeed, they answer the same,
+/// and their states and traces are equal again, for any closures.
 ///
 /// Errors: the first result is that of `first`, the second that of `second`; see `Session::handle`.
 #[tactic(auto, using(crate::proofs::AlikeLemmas::same_answer))]
@@ -26,8 +26,8 @@ pub fn handle_alike<C: HostCommand, D: HostCommand>(
 }
 
 /// Runs the same events in two sessions with equal states and traces. Where both succeed, their states and
-/// traces are equal again, for any closures. In any case one of the traces is the beginning of the other, also
-/// where memory was refused or a handler of a raw session trapped.
+/// traces are equal again, for any closures. In any case one of the traces is the beginning of the other,
+/// also where memory was refused or a handler of a raw session trapped.
 ///
 /// Errors: the first result is that of `first`, the second that of `second`; see `Session::run`.
 #[tactic(auto, using(crate::proofs::AlikeLemmas::runs_alike))]
@@ -56,8 +56,9 @@ pub fn raw_loads_are_alike()
     ensures { RawLoadsAlike }
 {}
 
-/// The same script, with the same patterns unread in its reloads, leaves equal sessions and shelves, whichever
-/// closures these have. Where one of two runs breaks off, one of the traces is the beginning of the other.
+/// The same script, with the same patterns unread in its reloads, leaves equal sessions and shelves,
+/// whichever closures these have. Where one of two runs breaks off, one of the traces is the beginning of
+/// the other.
 pub fn scripts_are_alike()
     ensures { ScriptsAlike }
 {}

@@ -11,7 +11,7 @@ use Rattle.kb_execute.specs.declared.start.Finish.{Finish}
 use Rattle.kb_execute.specs.declared.start.Finish.TheVariants.{Done, NotFound, BadArguments, Trapped}
 use Rattle.kb_trace.specs.Lines as line
 use Rattle.kb_vm.specs.Meaning as answer
-use Rattle.kb_vm.specs.Meaning.{Answer, first_world, run, run_callee}
+use Rattle.kb_vm.specs.Meaning.{Answer, core_of, lines_of, first_world, run, run_callee}
 use Rattle.kb_vm.specs.Trap.{number_of}
 
 pub record Started : Type 0 where
@@ -32,9 +32,9 @@ unfit command core = started core (line.bad_arguments_line command ∷ []) BadAr
 
 -- a command ran; the last line reports how it ended
 abbrev pub ran : Answer → Started
-ran (answer.Done w) = started w.core (w.lines ++ line.done_line w.core.buffer ∷ []) Done
+ran (answer.Done w) = started (core_of w) (lines_of w ++ line.done_line (core_of w).buffer ∷ []) Done
 ran (answer.Stuck trap command place w) =
-    started w.core (w.lines ++ line.trap_line (number_of trap) command place ∷ []) Trapped
+    started (core_of w) (lines_of w ++ line.trap_line (number_of trap) command place ∷ []) Trapped
 
 -- a live command runs if the arguments fit it
 abbrev pub started_with : Table → List ℕ → Callee → Option (List Arg) → Core → Started

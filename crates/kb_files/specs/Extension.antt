@@ -1,5 +1,5 @@
--- The extension that the bytes of a `package.json` hold, for the patterns that aren't read, or the refusal for
--- the first fault of the file, which doesn't depend on patterns.
+-- The extension that the bytes of a `package.json` hold, for the patterns that aren't read, or the refusal
+-- for the first fault of the file, which doesn't depend on patterns.
 use Rattle.std.specs.Prelude.{ℕ, true, List, ◌++◌, Some, Result}
 use Rattle.kb_base.specs.declared.note.Origin.{Origin}
 use Rattle.kb_base.specs.declared.note.Origin.TheVariants as origin

@@ -14,7 +14,8 @@ use kb_rules::{Origin, RuleList, read_list};
 use serde_json::Value;
 use std::alloc::Global;
 
-/// The rules of a file, with a warning for each dropped element, and the unread patterns: JSON with comments whose value is an array, as VS Code's `keybindings.json`.
+/// The rules of a file, with a warning for each dropped element, and the unread patterns: JSON with comments
+/// whose value is an array, as VS Code's `keybindings.json`.
 ///
 /// Errors: the first fault of the file, those of its text (1 to 4) and then another shape (41); or
 /// `NoMemory`.

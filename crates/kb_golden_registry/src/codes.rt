@@ -13,8 +13,8 @@ use std::alloc::{AllocError, Global};
 // Code of these extensions may call each other's handlers.
 const EXTENSIONS: u32 = 4;
 
-// One handler, written NAME, NAME>CALLEE, NAME@BUDGET^DEPTH or NAME@BUDGET^DEPTH>CALLEE. The budget is 100 and
-// the depth 1 where they are absent. It calls its callee, if it has one, and returns.
+// One handler, written NAME, NAME>CALLEE, NAME@BUDGET^DEPTH or NAME@BUDGET^DEPTH>CALLEE. The budget is 100
+// and the depth 1 where they are absent. It calls its callee, if it has one, and returns.
 fn add_handler(output: &mut String, text: &str) -> Result<(), NoMemory> {
     let (head, callee) = text.split_once('>').unwrap_or((text, ""));
     let (name, limits) = head.split_once('@').unwrap_or((head, "100^1"));

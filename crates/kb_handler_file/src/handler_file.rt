@@ -38,13 +38,14 @@ impl HandlerFile {
     ///   "budget": 1004, "depth": 1, "texts": ["hi"], "calls": ["type"], "code": "010000300000000000"}]}
     /// ```
     ///
-    /// Version 2 has repeated blocks. `params`, `texts` and `calls` are optional and default to empty lists. `code` is hexadecimal text.
-    /// Other members are ignored. Texts are moved out of the value.
+    /// Version 2 has repeated blocks. `params`, `texts` and `calls` are optional and default to empty lists.
+    /// `code` is hexadecimal text. Other members are ignored. Texts are moved out of the value.
     ///
     /// Errors, in this order:
     ///
     /// 1. For the file, decided without allocating: `Shape` if the value is not an object, `version` is not
-    ///    1 or 2, or `handlers` is not a list (40 for a missing member, otherwise 41). Then `TooLarge` (44) for
+    ///    1 or 2, or `handlers` is not a list (40 for a missing member, otherwise 41). Then `TooLarge` (44)
+    /// for
     ///    more than 1,000 handlers.
     /// 2. For the first invalid handler: `Shape` (41) if it is not an object; `Shape` (40, 41) for a member,
     ///    in the order above; `TooLarge` for more than 8 parameters, a budget outside 1 to 1,000,000,000, a

@@ -33,7 +33,7 @@ IsAdded commands h times start path before visits told =
     (c : ℕ) (is : Path commands h start path c) →
     (visits ≡ before ++ visits_in commands h times start path c is) × (told ≡ capped c)
 
--- these are the places of the path with these steps from the first place, and this is its cost, as far as 64 bits
--- go
+-- these are the places of the path with these steps from the first place, and this is its cost, as far as 64
+-- bits go
 abbrev pub IsListed : Commands → HandlerData → Steps → List Visit → ℕ → Type 0
 IsListed commands h path visits told = IsAdded commands h 1 0 path [] visits told

@@ -28,10 +28,10 @@ use std::alloc::Global;
 /// the empty text where there is no scope. Other members are ignored. Whether the scopes are a tree
 /// is asked by `Scopes::new`.
 ///
-/// Errors: `MissingMember` (40) where `scopes` or a `name` is absent, with or without other faults; what is no
-/// object or no list lacks nothing. Then `WrongShape` (41) where the layout, a scope or `keys` is no
-/// object, `scopes` no list, a `name`, a `parent` or the `focus` no text, or a key's value no context
-/// value: `null` is there, and is none of these; or `NoMemory`.
+/// Errors: `MissingMember` (40) where `scopes` or a `name` is absent, with or without other faults; what is
+/// no object or no list lacks nothing. Then `WrongShape` (41) where the layout, a scope or `keys` is no
+/// object, `scopes` no list, a `name`, a `parent` or the `focus` no text, or a key's value no context value:
+/// `null` is there, and is none of these; or `NoMemory`.
 pub fn read_layout(alloc: Global, value: Value) -> Result<Layout, Failure<FileFault>>
     ensures { Gives (λ layout. layout) result (layout_of (view value)) }
 {

@@ -11,7 +11,8 @@ use std::alloc::Global;
 pub struct Notes {
     /// At most one warning for each entry.
     pub warnings: Seq<Warning>,
-    /// The unsupported patterns, also those of an entry that an earlier one with the same identifier replaces.
+    /// The unsupported patterns, also those of an entry that an earlier one with the same identifier
+    /// replaces.
     pub unread: Seq<UnreadPattern>,
 }
 

@@ -1,5 +1,5 @@
 //! A command of the palette.
-ghost use Rattle.std.specs.Prelude.{◌≡◌, IfOk};
+ghost use Rattle.std.specs.Prelude.{◌≡◌, IfOk, option_copied};
 ghost use Rattle.std.specs.List.{list_any};
 ghost use Rattle.kb_context.specs.Scopes.{context};
 ghost use Rattle.kb_palette.specs.Command.{is_visible, is_shown};
@@ -80,6 +80,20 @@ impl PaletteCommand {
         ensures { result.now ≡ self.now.label }
     {
         self.label.as_str()
+    }
+
+    /// The enablement of the command, if it has one.
+    pub fn enablement(&self) -> Option<&SharedClause>
+        ensures { option_copied result ≡ self.now.enablement }
+    {
+        self.enablement.as_ref()
+    }
+
+    /// The clauses of the palette's items that name the command; an item without a clause has `None`.
+    pub fn items(&self) -> &[Option<SharedClause>]
+        ensures { result.now ≡ self.now.items }
+    {
+        self.items.as_slice()
     }
 
     /// Whether the folded words of a query find the command, and it is shown. The words are compared first,

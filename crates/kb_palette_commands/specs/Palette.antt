@@ -24,7 +24,8 @@ with_clauses clauses c = record {
   items = clauses c.name;
 }
 
--- the commands of enabled extensions, in load order, the first of each identifier, with all items that name it
+-- the commands of enabled extensions, in load order, the first of each identifier, with all items that name
+-- it
 abbrev pub palette_commands : List Extension → List CommandData
 palette_commands extensions =
     map (with_clauses (clauses_of (flat_map items_in extensions)))

@@ -13,10 +13,10 @@ use kb_palette::PaletteCommand;
 use kb_when::SharedClause;
 use std::alloc::Global;
 
-/// The commands of the palette: what the enabled extensions contribute, in load order. Of several contributions
-/// of one identifier the first counts, whole (our decision). The label of a command is its title, behind its
-/// category and `: ` where it has one (VS Code's documentation). All items of enabled extensions that name a
-/// command belong to it.
+/// The commands of the palette: what the enabled extensions contribute, in load order. Of several
+/// contributions of one identifier the first counts, whole (our decision). The label of a command is its
+/// title, behind its category and `: ` where it has one (VS Code's documentation). All items of enabled
+/// extensions that name a command belong to it.
 ///
 /// Error: `NoMemory`.
 pub fn palette_commands(

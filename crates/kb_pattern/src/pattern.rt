@@ -61,6 +61,13 @@ impl Pattern {
         &self.text
     }
 
+    /// The flags of the pattern.
+    pub fn flags(&self) -> Flags
+        ensures { result ≡ self.now.flags }
+    {
+        self.flags
+    }
+
     /// Whether the pattern matches somewhere in a text; `false` for an unread pattern. Error: `NoMemory`,
     /// only if the pattern is not marked as unread.
     pub fn matches(&self, alloc: Global, text: &str) -> Result<bool, NoMemory>

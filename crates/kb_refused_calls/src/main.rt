@@ -1,5 +1,5 @@
-//! `refused-calls`: some calls of the library, and what they answer. `tools/refused-calls` runs it once for each of
-//! its allocations, and refuses that one. The status is 1 if a line can't be written.
+//! `refused-calls`: some calls of the library, and what they answer. `tools/refused-calls` runs it once for
+//! each of its allocations, and refuses that one. The status is 1 if a line can't be written.
 #![tactic(auto)]
 
 mod host;

@@ -22,8 +22,8 @@ abbrev pub matches : Keys → Enabling → List Keystroke → Rule → Bool
 matches keys enablement pressed rule =
     begins_with rule.chord pressed && may_start keys enablement rule
 
--- the rule's clause has a pattern that is read; or the clause holds, so the enablement of the rule's command is
--- evaluated, and that has a pattern
+-- the rule's clause has a pattern that is read; or the clause holds, so the enablement of the rule's command
+-- is evaluated, and that has a pattern
 abbrev pub HasPatterns : Keys → Enabling → Rule → Type 0
 HasPatterns keys enablement rule =
     WhenHasReadPattern rule.when

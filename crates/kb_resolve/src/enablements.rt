@@ -43,7 +43,7 @@ impl Enablements {
 
     /// The enablement of a command, or `None` if it has none.
     #[tactic(auto, unfolding(crate::specs::Enablements::enablement_in))]
-    pub(crate) fn of(&self, command: &str) -> Option<&SharedClause>
+    pub fn of(&self, command: &str) -> Option<&SharedClause>
         ensures { option_map (λ clause. clause.now) result ≡ enablement_in self.now command.now }
     {
         match self.table.get(command) {

@@ -56,6 +56,13 @@ impl Resolver {
         Ok(Resolver { set, index })
     }
 
+    /// The rules in force, from the top down.
+    pub fn rules(&self) -> &[Rc<Rule>]
+        ensures { map (λ r. r.value) result.now ≡ self.now }
+    {
+        self.set.rules()
+    }
+
     /// The number of rules with this first keystroke: `resolve` looks at no other rules.
     pub fn candidates(&self, stroke: &Keystroke) -> usize
         ensures { result ≡ count_by (λ rule. begins stroke.now rule.chord) self.now }

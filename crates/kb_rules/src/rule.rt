@@ -20,6 +20,7 @@ pub struct Rule {
     pub args: Option<Json>,
     /// The file of the rule.
     pub origin: Origin,
-    /// The place of the rule in its list: the number of elements above it, including dropped ones and removals.
+    /// The place of the rule in its list: the number of elements above it, including dropped ones and
+    /// removals.
     pub place: usize,
 }

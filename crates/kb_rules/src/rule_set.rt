@@ -36,9 +36,9 @@ impl Model for RuleSet {
 impl RuleSet {
     /// The rules in force: the default rules, those of the enabled extensions in load order, and then the
     /// user's (VS Code's documentation). What a removal of one of these lists takes (`Removal::takes`) is
-    /// left out, but no rule of the user ever is, and a removal acts at any place in its list (our decisions). The
-    /// lists of extensions that aren't enabled count for nothing. The rules are shared with the lists that
-    /// they come from. `NoMemory` where memory was refused.
+    /// left out, but no rule of the user ever is, and a removal acts at any place in its list (our
+    /// decisions). The lists of extensions that aren't enabled count for nothing. The rules are shared with
+    /// the lists that they come from. `NoMemory` where memory was refused.
     pub fn assemble(
         alloc: Global,
         defaults: &RuleList,

@@ -1,5 +1,5 @@
--- The headline: what a program with verified handlers keeps, for all files that its load accepts and for every
--- script.
+-- The headline: what a program with verified handlers keeps, for all files that its load accepts and for
+-- every script.
 use Rattle.std.specs.Prelude.{◌≡◌, ⊤, false, Result, Ok, Err}
 use Rattle.kb_exit.specs.declared.outcome.Stop.{Stop}
 use Rattle.kb_exit.specs.declared.outcome.Stop.TheVariants.{Unread, Load, Script, NoMemory}
@@ -19,8 +19,9 @@ MemoryAloneStops (Err (Script fault)) = IsOfStreams fault
 MemoryAloneStops (Err NoMemory) = ⊤
 
 -- with verified handlers: whatever inputs come, each key starts exactly the command of the last rule whose
--- keystrokes, clause and enablement match, or opens, keeps or leaves a chord; no handler meets a missing operand,
--- an unknown command, a wrong argument or a spent budget; and nothing but refused memory stops the session
+-- keystrokes, clause and enablement match, or opens, keeps or leaves a chord; no handler meets a missing
+-- operand, an unknown command, a wrong argument or a spent budget; and nothing but refused memory stops the
+-- session
 abbrev pub KeepsHeadline : Verification → State → Result (Unit {0}) Stop → Type 0
 KeepsHeadline Verified s end = Headline s × MemoryAloneStops end
 KeepsHeadline Raw s end = ⊤

@@ -62,8 +62,8 @@ abbrev pub IsStatus : Verification → ℕ → Type 0
 IsStatus verification status = (status ≡ 0) ⊎ ((status ≡ 2) ⊎ ((status ≡ 3) ⊎ ((status ≡ 4)
     ⊎ ((verification ≡ Raw) × (status ≡ 5)))))
 
--- a run over the system, of whose files, streams and console contracts know nothing: it is carried out, and its
--- end is reported; or memory was refused before it began
+-- a run over the system, of whose files, streams and console contracts know nothing: it is carried out, and
+-- its end is reported; or memory was refused before it began
 abbrev pub RunsOnSystem : Verification → Options → Closures → ℕ → Type 0
 RunsOnSystem verification given closures status =
     (status ≡ 4)

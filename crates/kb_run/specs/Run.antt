@@ -39,8 +39,8 @@ abbrev pub Flushes : Bool → Option (List ℕ) → Option (List ℕ) → Type 0
 Flushes true written has = Keeps written has
 Flushes false written has = (left : List ℕ) × Keeps written (append_known has left)
 
--- The script was run, its lines were written through a buffer, and the buffer was flushed. `new` is the session
--- after the run with all trace lines. The session itself keeps no line that was written.
+-- The script was run, its lines were written through a buffer, and the buffer was flushed. `new` is the
+-- session after the run with all trace lines. The session itself keeps no line that was written.
 pub record Plays (had left : Option (List ℕ)) (old : Traced Stand) (before has : Option (List ℕ))
     (end : Result (Unit {0}) Stop) : Type 0 where
   pub ran : Result (Unit {0}) (Failure ScriptFault)

@@ -227,9 +227,10 @@ fn run_files<
 /// The load registers the host's closures, and the script takes more of them from the shelf. Warnings of the
 /// load are written before the script runs.
 ///
-/// With verified handlers the headline of the product holds (`KeepsHeadline`): the trace is the plain model's,
-/// each key starts exactly the command of the last rule whose keystrokes, clause and enablement match, or opens,
-/// keeps or leaves a chord, no handler gets stuck, and nothing but refused memory stops the session.
+/// With verified handlers the headline of the product holds (`KeepsHeadline`): the trace is the plain
+/// model's, each key starts exactly the command of the last rule whose keystrokes, clause and enablement
+/// match, or opens, keeps or leaves a chord, no handler gets stuck, and nothing but refused memory stops the
+/// session.
 ///
 /// Errors: why the run stopped before its end.
 #[tactic(auto, using(crate::proofs::RunLemmas::files))]

@@ -18,8 +18,8 @@ IsOfStreams WriteFailed = ⊤
 IsOfStreams Stopped = ⊥
 IsOfStreams Trapped = ⊥
 
--- no handler trapped, and nothing but refused memory stopped the session: the script ran, or its reader or its
--- writer failed, or memory was refused
+-- no handler trapped, and nothing but refused memory stopped the session: the script ran, or its reader or
+-- its writer failed, or memory was refused
 abbrev pub MemoryAloneStops : Result (Unit {0}) (Failure ScriptFault) → Type 0
 MemoryAloneStops (Ok done) = ⊤
 MemoryAloneStops (Err NoMemory) = ⊤

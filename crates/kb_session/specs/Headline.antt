@@ -26,8 +26,8 @@ IsFound s key finding =
     IsGreatest (s.pressed ++ key ∷ []) (context s.core.scopes) (enablement s.sources) (rules_of s.sources)
     finding
 
--- a key press starts exactly the command of the found rule, or opens or keeps a chord where that rule has more
--- keystrokes, or leaves a chord or is unbound where there is no such rule
+-- a key press starts exactly the command of the found rule, or opens or keeps a chord where that rule has
+-- more keystrokes, or leaves a chord or is unbound where there is no such rule
 pub record Presses (s : State) (key : Keystroke) : Type 0 where
   pub finding : Resolution
   pub greatest : IsFound s key finding

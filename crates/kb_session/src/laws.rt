@@ -16,9 +16,9 @@ pub fn runs_through_when_verified()
     ensures { RunsThrough }
 {}
 
-/// If a session is safe and not stopped, as one from `Session::load` is, then after all lists of inputs it isn't
-/// stopped, each key press starts exactly the command of the last rule whose keystrokes, clause and enablement
-/// match, or opens, keeps or leaves a chord, and no handler gets stuck.
+/// If a session is safe and not stopped, as one from `Session::load` is, then after all lists of inputs it
+/// isn't stopped, each key press starts exactly the command of the last rule whose keystrokes, clause and
+/// enablement match, or opens, keeps or leaves a chord, and no handler gets stuck.
 pub fn headline_holds_when_verified()
     ensures { HeadlineHolds }
 {}

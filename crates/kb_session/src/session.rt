@@ -242,7 +242,8 @@ impl<C: HostCommand> Session<C> {
         mem::replace(&mut self.trace, Lines::new(self.alloc))
     }
 
-    /// Keeps the first `len` trace lines and removes the others. The memory of those is kept for further lines.
+    /// Keeps the first `len` trace lines and removes the others. The memory of those is kept for further
+    /// lines.
     pub fn truncate_trace(&mut self, len: usize)
         ensures { self.new ≡ record self.old { trace = take len self.old.trace } }
     {
@@ -292,10 +293,10 @@ impl<C: HostCommand> Session<C> {
     }
 
     /// Handles one event. A change of the focus, and an extension that is enabled or disabled, end an open
-    /// chord; a change of a key, a palette, a choice and an update of an extension don't. The list of a palette
-    /// stays until an entry of it is chosen, or until the next palette. A chosen command starts without
-    /// arguments, also if it was disabled or hidden since. A handler that traps has its trace line, and stops
-    /// the session. (These are our decisions.)
+    /// chord; a change of a key, a palette, a choice and an update of an extension don't. The list of a
+    /// palette stays until an entry of it is chosen, or until the next palette. A chosen command starts
+    /// without arguments, also if it was disabled or hidden since. A handler that traps has its trace line,
+    /// and stops the session. (These are our decisions.)
     ///
     /// Refusals: a scope that doesn't exist (20); a key too many (22); a choice of an entry that the last
     /// palette doesn't have, or without a palette (96); an extension that doesn't exist (92);
@@ -337,8 +338,8 @@ impl<C: HostCommand> Session<C> {
         }
     }
 
-    /// Handles one event. If memory is refused, the trace may have some of its lines. A key press, of which there
-    /// are most, goes by itself: the match on all events first makes places for all their texts.
+    /// Handles one event. If memory is refused, the trace may have some of its lines. A key press, of which
+    /// there are most, goes by itself: the match on all events first makes places for all their texts.
     #[tactic(auto, using(crate::proofs::Stopping::stopping))]
     fn take(&mut self, event: Event) -> Result<Handled, NoMemory>
         requires running { self.old.state.stopped ≡ false }

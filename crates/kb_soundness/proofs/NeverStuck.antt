@@ -28,7 +28,7 @@ use Rattle.kb_verify.specs.Accepted.{IsCallee}
 use Rattle.kb_vm.specs.declared.trap.Trap.{Trap}
 use Rattle.kb_vm.specs.declared.trap.Trap.TheVariants.{OutOfBudget, BadCode, WrongArgument}
 use Rattle.kb_vm.specs.Effect.{Effect, Stop, Leave, Next, Goto, Open, Turn, Enter, effect}
-use Rattle.kb_vm.specs.Meaning.{World, first_world, with_step, with_line, Answer, Done, Stuck, and_then}
+use Rattle.kb_vm.specs.Meaning.{World, core_of, first_world, with_step, with_line, Answer, Done, Stuck, and_then}
 use Rattle.kb_vm.specs.Position.{Position, standing, outset, moved, passed, entered, turned}
 use Rattle.kb_vm.specs.Meaning.{fetched, resumed, run_callee, follow, go, run, start_callee}
 use Rattle.kb_soundness.specs.Sound.{IsVerified, AllVerified, IsDone, NeverStuck, StartsNeverStuck}
@@ -209,13 +209,13 @@ module _ (table : Table) (all : AllVerified table) where
       (v.callees p k d callee, let deep = v.accepted.within_depth p k d callee in omega (arith, deep)) in
       let is = checked_at commands h formed shape has p x here.reachable at in
       let on : Instr → ℕ → Answer = λ y rest.
-      let e = effect table h args w.core point.operands y in follow (go n table) h args rest point
+      let e = effect table h args (core_of w) point.operands y in follow (go n table) h args rest point
       (with_step y rest e w) e in
       let stuck : Trap → Answer = λ trap. Stuck trap h.command p w in
       subst (λ o. IsDone (fetched o left stuck on)) (sym at)
       (subst (λ m. IsDone (fetched (Some x) m stuck on)) (sym l)
       (follow_done n (safe n) h v args fa (left - 1) point here x at _ (omega (arith, l, lt)) _
-      (moves table commands h (right_at commands h formed shape has p x here.reachable at).after p args w.core
+      (moves table commands h (right_at commands h formed shape has p x here.reachable at).after p args (core_of w)
       (shape p) point.operands x fa lives is.has_room is.effect_is here.fit)))
 
 pub never_stuck : NeverStuck

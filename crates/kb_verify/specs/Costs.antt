@@ -1,5 +1,5 @@
--- The cost of the most expensive path from each place to the end of its block, saturating at the largest number
--- of 64 bits.
+-- The cost of the most expensive path from each place to the end of its block, saturating at the largest
+-- number of 64 bits.
 use Rattle.std.specs.Prelude.{◌≡◌, ℕ, suc, ◌+◌, ◌-◌, ◌*◌, ◌^◌, min, max, nat_lt, if◌then◌else◌}
 use Rattle.std.specs.Prelude.{List, length, Some, slice_get, slice_index}
 use Rattle.kb_code.specs.declared.instr.Instr.{Instr}
@@ -19,8 +19,8 @@ capped n = min n (2 ^ 64 - 1)
 abbrev pub later_cost : List ℕ → ℕ → ℕ → ℕ
 later_cost costs p q = if nat_lt p q then slice_index costs q else 0
 
--- the cost from a place whose instruction has a price, by the costs from the later places; `past` is the place
--- after its block, if it opens one
+-- the cost from a place whose instruction has a price, by the costs from the later places; `past` is the
+-- place after its block, if it opens one
 abbrev pub total : List ℕ → ℕ → ℕ → ℕ → Exits → ℕ
 total costs p past price Stop = price
 total costs p past price (Close q) = 0

@@ -48,8 +48,8 @@ abbrev pub IsTrueFault : Failure VerifyFault → Type 0
 IsTrueFault NoMemory = ⊥
 IsTrueFault (Fault fault) = Unit {0}
 
--- a handler has a fault: the path of `is_dear` may be too long for a list in memory, and no handler that is read
--- is without code (`not_code`)
+-- a handler has a fault: the path of `is_dear` may be too long for a list in memory, and no handler that is
+-- read is without code (`not_code`)
 pub data IsRefused (commands : Commands) (h : HandlerData) : Type 0 where
   has_defect : (defect : Defect) (place : ℕ) → IsEmpty h defect place ⊎ IsFirstWrong commands h place defect →
       IsRefused commands h

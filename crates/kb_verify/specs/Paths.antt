@@ -24,8 +24,8 @@ pub data Steps : Type 0 where
   Choice : (jumped : Bool) (rest : Steps) → Steps
   Turns : (turn rest : Steps) → Steps
 
--- a path from a place to a return, or to the `End` of the place's own block, and its cost; the `End` is not part
--- of the path, and a block of n iterations costs 1 + n * (the cost of its path + 1)
+-- a path from a place to a return, or to the `End` of the place's own block, and its cost; the `End` is not
+-- part of the path, and a block of n iterations costs 1 + n * (the cost of its path + 1)
 pub data Path (commands : Commands) (h : HandlerData) : ℕ → Steps → ℕ → Type 0 where
   returns : {p : ℕ} (i : Instr) → slice_get h.code p ≡ Some i → exits_of (suc p) i ≡ Stop →
       Path commands h p Nothing (cost commands h i)

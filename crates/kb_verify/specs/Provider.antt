@@ -1,5 +1,5 @@
--- The commands that the handlers of an extension may call: native commands, the handlers of the extensions that
--- it depends on, in load order, and those of its own file. Of equal names the first counts.
+-- The commands that the handlers of an extension may call: native commands, the handlers of the extensions
+-- that it depends on, in load order, and those of its own file. Of equal names the first counts.
 use Rattle.std.specs.Prelude.{ℕ, Bool, List, [], ◌∷◌, if◌then◌else◌}
 use Rattle.std.specs.FinMap as map
 use Rattle.std.specs.List.{list_any}

@@ -10,8 +10,8 @@ use Rattle.kb_verify.specs.declared.fault.Defect.TheVariants as defect
 use Rattle.kb_verify.specs.Callable.{Commands}
 use Rattle.kb_verify.specs.Check.{check}
 
--- the check at a place succeeds, each following place below the bound has the resulting shape, and an `End` has
--- the shape of the place after its `Repeat`
+-- the check at a place succeeds, each following place below the bound has the resulting shape, and an `End`
+-- has the shape of the place after its `Repeat`
 pub record IsRightAt (commands : Commands) (h : HandlerData) (shape : ℕ → List Kind) (bound p : ℕ)
     (i : Instr) : Type 0 where
   pub after : List Kind

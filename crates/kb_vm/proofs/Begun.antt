@@ -9,37 +9,46 @@ use Rattle.kb_code.specs.Handler.{HandlerData}
 use Rattle.kb_code.specs.Commands.{Table}
 use Rattle.kb_vm.specs.declared.trap.Trap.{Trap}
 use Rattle.kb_vm.specs.Effect.{effect}
-use Rattle.kb_vm.specs.Meaning.{Step, World, Answer, Done, Stuck, fetched, follow, with_step, run}
+use Rattle.kb_vm.specs.Meaning.{Event, StepBegun, LineWritten, NativeRun, Step, World, core_of, steps_among, steps_of}
+use Rattle.kb_vm.specs.Meaning.{after_event, Answer, Done, Stuck, fetched, follow, with_step, run}
 use Rattle.kb_vm.specs.Memory.{IsBegun}
-use Rattle.kb_vm.specs.Outcome.{BeginsWith, world_of}
+use Rattle.kb_vm.specs.Outcome.{Precedes, world_of}
 use Rattle.kb_vm.specs.Position.{outset}
 use Rattle.kb_vm.specs.State.{fetched_at}
 use Rattle.kb_vm.proofs.Bound.{run_step}
 use Rattle.kb_vm.proofs.Frames.{follow_keeps, run_keeps}
 use Rattle.kb_vm.proofs.Runs.{trap_in}
 
-grows : (xs : List Step) (s : Step) (zs : List Step) → (xs ++ s ∷ []) ++ zs ≡ [] → ⊥
-grows [] s zs e = cc
-grows (x ∷ xs) s zs e = cc
+grows : (xs : List Step) (s : Step) → xs ++ s ∷ [] ≡ [] → ⊥
+grows [] s e = cc
+grows (x ∷ xs) s e = cc
 
-begun_after : (a : Answer) (xs : List Step) (s : Step) → BeginsWith (world_of a).steps (xs ++ s ∷ []) → IsBegun a
-begun_after (Done w) xs s b = tt
-begun_after (Stuck trap command place w) xs s b = λ none. grows xs s b.0 (sym b.1 ∙ none)
+-- a step is among all events that come after it
+stays : (later : List Event) (s : Step) (past : List Event) → steps_among (later ++ StepBegun s ∷ past) ≡ [] → ⊥
+stays [] s past e = grows (steps_among past) s e
+stays (StepBegun t ∷ later) s past e = grows (steps_among (later ++ StepBegun s ∷ past)) t e
+stays (LineWritten name args ∷ later) s past e = stays later s past e
+stays (NativeRun native args ∷ later) s past e = stays later s past e
+
+begun_after : (a : Answer) (s : Step) (w : World) → Precedes (after_event (StepBegun s) w) (world_of a) → IsBegun a
+begun_after (Done v) s w p = tt
+begun_after (Stuck trap command place v) s w p =
+    λ none. stays p.past.0 s w.past (sym (ap steps_of p.1) ∙ none)
 
 module _ (table : Table) (h : HandlerData) (args : List Arg) (w : World) where
   abbrev at_first : Option Instr → ℕ → Answer
   at_first o left =
       fetched o left (λ trap. Stuck trap h.command 0 w) (λ instr rest.
-      let e = effect table h args w.core [] instr in
+      let e = effect table h args (core_of w) [] instr in
       follow (run table) h args rest outset (with_step instr rest e w) e)
 
   begun_by : (o : Option Instr) (left : ℕ) → is_ok (fetched_at o left) ≡ true → IsBegun (at_first o left)
   begun_by None left ok = absurd (true≢false (sym ok))
   begun_by (Some instr) zero ok = absurd (true≢false (sym ok))
   begun_by (Some instr) (suc left) ok =
-      let e = effect table h args w.core [] instr in
-      begun_after _ w.steps (record { instr = instr; left = left; effect = e })
-      (follow_keeps (run table) (run_keeps table) h args left outset (with_step instr left e w) e).steps
+      let e = effect table h args (core_of w) [] instr in
+      begun_after _ (record { instr = instr; left = left; effect = e }) w
+      (follow_keeps (run table) (run_keeps table) h args left outset (with_step instr left e w) e)
 
   -- a first instruction is begun
   pub first_begun : is_ok (fetched_at (slice_get h.code 0) h.signature.budget) ≡ true

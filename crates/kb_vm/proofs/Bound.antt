@@ -9,7 +9,7 @@ use Rattle.kb_vm.specs.declared.trap.Trap.TheVariants.{OutOfBudget, BadCode}
 use Rattle.kb_code.specs.Commands.{Callee, Plain, Coded, Table, declared_by}
 use Rattle.kb_code.specs.Blocks.{block_of, same_block}
 use Rattle.kb_vm.specs.Effect.{Effect, Stop, Leave, Next, Goto, Open, Turn, Enter, effect}
-use Rattle.kb_vm.specs.Meaning.{World, with_step, with_line, Answer, Done, Stuck, and_then, fetched}
+use Rattle.kb_vm.specs.Meaning.{World, core_of, with_step, with_line, Answer, Done, Stuck, and_then, fetched}
 use Rattle.kb_vm.specs.Meaning.{Runner, run_callee, resumed}
 use Rattle.kb_vm.specs.Meaning.{follow, step, go, run}
 use Rattle.kb_vm.specs.Position.{Position, outset, moved, passed, entered, turned}
@@ -77,15 +77,15 @@ module _ (f g : Runner) (limit : ℕ) (same : Agree f g limit) where
   fetched_same : (table : Table) (h : HandlerData) (args : List Arg) (at : Position) (w : World)
       (o : Option Instr) (left : ℕ) → left ≤ limit
       → fetched o left (λ trap. Stuck trap h.command at.place w) (λ instr rest.
-      let e = effect table h args w.core at.operands instr in
+      let e = effect table h args (core_of w) at.operands instr in
       follow f h args rest at (with_step instr rest e w) e)
       ≡ fetched o left (λ trap. Stuck trap h.command at.place w) (λ instr rest.
-      let e = effect table h args w.core at.operands instr in
+      let e = effect table h args (core_of w) at.operands instr in
       follow g h args rest at (with_step instr rest e w) e)
   fetched_same table h args at w None left le = refl
   fetched_same table h args at w (Some instr) zero le = refl
   fetched_same table h args at w (Some instr) (suc left) le =
-      let e = effect table h args w.core at.operands instr in
+      let e = effect table h args (core_of w) at.operands instr in
       follow_same h args left at (with_step instr left e w) e (omega arith)
 
 -- any two bounds above the remaining budget give the same run

@@ -3,7 +3,6 @@ use Rattle.std.proofs.Common.{◌≡◌, ℕ, zero, suc, ◌-◌, Bool, true, fa
 use Rattle.std.proofs.Common.{Some, None}
 use Rattle.std.proofs.Common.{nat_le, refl, sym, ap, ◌∙◌, if◌then◌else◌, append_assoc}
 use Rattle.std.specs.Prelude.{slice_get, nat_lt, ◌&&◌, length}
-use Rattle.std.proofs.lemmas.List.{append-nil}
 use Rattle.kb_core.specs.declared.arg.Arg.{Arg}
 use Rattle.kb_core.specs.declared.native.Native.{Native}
 use Rattle.kb_code.specs.declared.instr.Instr.{Instr}
@@ -15,11 +14,11 @@ use Rattle.kb_vm.specs.declared.trap.Trap.TheVariants.{OutOfBudget, BadCode}
 use Rattle.kb_code.specs.Commands.{Callee, Plain, Coded, Table, declared_by}
 use Rattle.kb_code.specs.Blocks.{block_of, same_block}
 use Rattle.kb_vm.specs.Effect.{Effect, Stop, Leave, Next, Goto, Open, Turn, Enter, effect}
-use Rattle.kb_vm.specs.CallLine.{call_line}
-use Rattle.kb_vm.specs.Meaning.{World, with_step, with_line, native_called, Answer, Done, Stuck}
+use Rattle.kb_vm.specs.Meaning.{Event, StepBegun, LineWritten, NativeRun, World, core_of, after_event}
+use Rattle.kb_vm.specs.Meaning.{with_step, with_line, native_called, Answer, Done, Stuck}
 use Rattle.kb_vm.specs.Meaning.{and_then, fetched}
 use Rattle.kb_vm.specs.Meaning.{Runner, run_callee, resumed, follow, go, run}
-use Rattle.kb_vm.specs.Outcome.{world_of, BeginsWith, Precedes}
+use Rattle.kb_vm.specs.Outcome.{world_of, Precedes}
 use Rattle.kb_vm.specs.Position.{Position, outset, moved, passed, entered, turned}
 use Rattle.kb_vm.specs.State.{resume, finish, position_of, rest, rest_of, after_native, after_coded}
 
@@ -34,47 +33,30 @@ finish_stuck table [] trap command place w = refl
 finish_stuck table (g ∷ fs) trap command place w =
     ap (λ b. and_then b (resume table g)) (finish_stuck table fs trap command place w)
 
--- a list begins with itself, and a longer list with it
-begins_same : {X : Type 0} (xs : List X) → BeginsWith xs xs
-begins_same xs = ([], sym (append-nil xs))
-
-begins_on : {X : Type 0} (xs ys zs : List X) → BeginsWith xs ys → BeginsWith ys zs → BeginsWith xs zs
-begins_on xs ys zs a b = (b.0 ++ a.0, a.1 ∙ ap (λ l. l ++ a.0) b.1 ∙ append_assoc zs b.0 a.0)
-
 pub precedes_same : (w : World) → Precedes w w
-precedes_same w = record {
-  lines = begins_same w.lines;
-  steps = begins_same w.steps;
-  natives = begins_same w.natives;
-}
+precedes_same w = record { first = refl; past = ([], refl) }
 
 precedes_on : (u v w : World) → Precedes u v → Precedes v w → Precedes u w
 precedes_on u v w p q = record {
-  lines = begins_on w.lines v.lines u.lines q.lines p.lines;
-  steps = begins_on w.steps v.steps u.steps q.steps p.steps;
-  natives = begins_on w.natives v.natives u.natives q.natives p.natives;
+  first = q.first ∙ p.first;
+  past = (
+    q.past.0 ++ p.past.0,
+    q.past.1 ∙ ap (λ past. q.past.0 ++ past) p.past.1 ∙ sym (append_assoc q.past.0 p.past.0 u.past),
+  );
 }
+
+-- a world precedes each one after a further event
+precedes_event : (event : Event) (w : World) → Precedes w (after_event event w)
+precedes_event event w = record { first = refl; past = (event ∷ [], refl) }
 
 precedes_line : (name : List ℕ) (args : List Arg) (w : World) → Precedes w (with_line name args w)
-precedes_line name args w = record {
-  lines = (call_line name args ∷ [], refl);
-  steps = begins_same w.steps;
-  natives = begins_same w.natives;
-}
+precedes_line name args w = precedes_event (LineWritten name args) w
 
 precedes_step : (instr : Instr) (left : ℕ) (e : Effect) (w : World) → Precedes w (with_step instr left e w)
-precedes_step instr left e w = record {
-  lines = begins_same w.lines;
-  steps = (record { instr = instr; left = left; effect = e } ∷ [], refl);
-  natives = begins_same w.natives;
-}
+precedes_step instr left e w = precedes_event (StepBegun (record { instr = instr; left = left; effect = e })) w
 
 pub precedes_native : (n : Native) (args : List Arg) (w : World) → Precedes w (native_called n args w)
-precedes_native n args w = record {
-  lines = begins_same w.lines;
-  steps = begins_same w.steps;
-  natives = (n ∷ [], refl);
-}
+precedes_native n args w = precedes_event (NativeRun n args) w
 
 -- a runner keeps what happened before
 abbrev Keeps : Runner → Type 0
@@ -132,12 +114,12 @@ module _ (f : Runner) (keeps : Keeps f) where
   fetched_keeps : (table : Table) (h : HandlerData) (args : List Arg) (at : Position) (w : World)
       (o : Option Instr) (left : ℕ)
       → Precedes w (world_of (fetched o left (λ trap. Stuck trap h.command at.place w) (λ instr rest.
-      let e = effect table h args w.core at.operands instr in
+      let e = effect table h args (core_of w) at.operands instr in
       follow f h args rest at (with_step instr rest e w) e)))
   fetched_keeps table h args at w None left = precedes_same w
   fetched_keeps table h args at w (Some instr) zero = precedes_same w
   fetched_keeps table h args at w (Some instr) (suc left) =
-      let e = effect table h args w.core at.operands instr in
+      let e = effect table h args (core_of w) at.operands instr in
       precedes_on w (with_step instr left e w) _ (precedes_step instr left e w)
       (follow_keeps h args left at (with_step instr left e w) e)
 

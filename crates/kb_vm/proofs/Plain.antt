@@ -10,7 +10,7 @@ use Rattle.kb_code.specs.Plain.{IsPlain}
 use Rattle.kb_code.proofs.PlainLemmas.{plain_has_no_blocks}
 use Rattle.kb_vm.specs.declared.trap.Trap.TheVariants.{BadCode}
 use Rattle.kb_vm.specs.Effect.{Effect, Goto, effect}
-use Rattle.kb_vm.specs.Meaning.{Runner, World, Answer, Stuck, with_step, fetched, follow}
+use Rattle.kb_vm.specs.Meaning.{Runner, World, core_of, Answer, Stuck, with_step, fetched, follow}
 use Rattle.kb_vm.specs.Plain.{plain_follow, PlainSteps}
 use Rattle.kb_vm.specs.Position.{Position, moved}
 
@@ -27,15 +27,15 @@ module _ (run : Runner) (h : HandlerData) (plain : IsPlain h.code) (args : List 
 
   fetched_plain : (table : Table) (w : World) (o : Option Instr) (left : ℕ)
       → fetched o left (λ trap. Stuck trap h.command at.place w) (λ instr rest.
-      let e = effect table h args w.core at.operands instr in
+      let e = effect table h args (core_of w) at.operands instr in
       follow run h args rest at (with_step instr rest e w) e)
       ≡ fetched o left (λ trap. Stuck trap h.command at.place w) (λ instr rest.
-      let e = effect table h args w.core at.operands instr in
+      let e = effect table h args (core_of w) at.operands instr in
       plain_follow run h args rest at (with_step instr rest e w) e)
   fetched_plain table w None left = refl
   fetched_plain table w (Some instr) zero = refl
   fetched_plain table w (Some instr) (suc left) =
-      let e = effect table h args w.core at.operands instr in
+      let e = effect table h args (core_of w) at.operands instr in
       follow_plain left (with_step instr left e w) e
 
 pub plain_steps : PlainSteps

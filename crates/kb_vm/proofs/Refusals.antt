@@ -124,7 +124,7 @@ goes_by left (Enter name callee args operands) stays calm = absurd (true≢false
 refused_last : (instr : Instr) (left : ℕ) (e : Effect) (w : World) → asks_memory instr ≡ true
     → goes_on left e ≡ true → RefusedLast (with_step instr left e w)
 refused_last instr left e w asks goes =
-    (w.steps, record { instr = instr; left = left; effect = e }, refl, record { asks = asks; goes = goes })
+    (steps_of w, record { instr = instr; left = left; effect = e }, refl, record { asks = asks; goes = goes })
 
 module _ (table : Table) (h : HandlerData) (args : List Arg) (core : Core) (operands : List Arg) (instr : Instr)
     (left : ℕ) (w : World) where

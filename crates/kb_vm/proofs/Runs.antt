@@ -20,7 +20,7 @@ use Rattle.kb_vm.specs.declared.trap.Trap.{Trap}
 use Rattle.kb_vm.specs.declared.trap.Trap.TheVariants.{BadCode}
 use Rattle.kb_vm.specs.Action.{Does, MayLackMemory}
 use Rattle.kb_vm.specs.Effect.{Effect, effect}
-use Rattle.kb_vm.specs.Meaning.{Step, World, Answer, Done, Stuck, fetched, follow, resumed, run, with_step}
+use Rattle.kb_vm.specs.Meaning.{Step, World, core_of, steps_of, Answer, Done, Stuck, fetched, follow, resumed, run, with_step}
 use Rattle.kb_vm.specs.Outcome.{Precedes, world_of}
 use Rattle.kb_vm.specs.Position.{Position, standing, turned}
 use Rattle.kb_vm.specs.State.{Begun, PausedFrom, Pauses, IsPaid, fetched_at, next_of}
@@ -46,7 +46,7 @@ some_fetched (Some i) (suc left) instr e = (ap Some (sym (ap (instr_in instr) e)
 module _ (table : Table) (h : HandlerData) (args : List Arg) (at : Position) (w : World) where
   -- the answer, by the instruction at the place and the remaining budget
   at_place : Option Instr → ℕ → Answer
-  at_place o left = fetched o left (λ trap. Stuck trap h.command at.place w) (λ instr rest. let e = effect table h args w.core at.operands instr in follow (run table) h args rest at (with_step instr rest e w) e)
+  at_place o left = fetched o left (λ trap. Stuck trap h.command at.place w) (λ instr rest. let e = effect table h args (core_of w) at.operands instr in follow (run table) h args rest at (with_step instr rest e w) e)
 
   run_at : (left : ℕ) → run table h args left at w ≡ at_place (slice_get h.code at.place) left
   unfolding at_place
@@ -55,8 +55,8 @@ module _ (table : Table) (h : HandlerData) (args : List Arg) (at : Position) (w 
   begun_run : (left : ℕ) (instr : Instr) → Ok instr ≡ fetched_at (slice_get h.code at.place) left
       → run table h args left at w
       ≡ follow (run table) h args (left - 1) at
-      (with_step instr (left - 1) (effect table h args w.core at.operands instr) w)
-      (effect table h args w.core at.operands instr)
+      (with_step instr (left - 1) (effect table h args (core_of w) at.operands instr) w)
+      (effect table h args (core_of w) at.operands instr)
   unfolding at_place
   begun_run left instr is =
       let found = some_fetched _ left instr is in
@@ -82,7 +82,7 @@ begun_more n m w u instr left e b is =
       core = b.core;
       lines = b.lines;
       natives = b.natives;
-      steps = omega (arith, length-append u.steps (s ∷ []), b.steps, is);
+      steps = omega (arith, length-append (steps_of u) (s ∷ []), b.steps, is);
     }
 
 module _ (table : Table) (h : HandlerData) (args : List Arg) (left place : ℕ) (v : World) where
@@ -163,7 +163,7 @@ module _ (h : HandlerData) (args : List Arg) (core : Core) (first : Position) (b
   -- the rest of a frame's run, from a place with a remaining budget, open blocks and operands
   abbrev pub Far : ℕ → ℕ → List ℕ → List Arg → Type 0
   Far place left turns operands =
-      (table : Table) (w : World) → w.core ≡ core → (v : World) × Begun (before - left) w v
+      (table : Table) (w : World) → core_of w ≡ core → (v : World) × Begun (before - left) w v
       × (run table h args before first w ≡ run table h args left (standing place turns operands) v)
 
   pub far_first : Far first.place before first.turns first.operands
@@ -190,7 +190,7 @@ module _ (h : HandlerData) (args : List Arg) (core : Core) (first : Position) (b
     its table = effect table h args core operands instr
 
     -- one more instruction is begun
-    more : (table : Table) (w : World) → w.core ≡ core → (u : World)
+    more : (table : Table) (w : World) → core_of w ≡ core → (u : World)
         × Begun (before - (left - 1)) w (with_step instr (left - 1) (its table) u)
         × (run table h args before first w
         ≡ follow (run table) h args (left - 1) (standing place turns operands) (with_step instr (left - 1) (its table) u) (its table))
@@ -198,7 +198,7 @@ module _ (h : HandlerData) (args : List Arg) (core : Core) (first : Position) (b
         let f = far table w known in
         let u = f.0 in
         let found = some_fetched _ left instr is in
-        let kept : u.core ≡ core = f.1.core ∙ known in (
+        let kept : core_of u ≡ core = f.1.core ∙ known in (
           u,
           begun_more (before - left) (before - (left - 1)) w u instr (left - 1) (its table) f.1
               (omega (arith, found.1, le)),

@@ -12,7 +12,7 @@ use Rattle.kb_vm.specs.CallLine.{call_line}
 use Rattle.kb_code.specs.Commands.{Callee, Plain, Coded, Table, declared_by}
 use Rattle.kb_vm.specs.Effect.{Enter}
 use Rattle.kb_vm.specs.Meaning.{World, with_line, Answer, Done, Stuck, and_then, run_callee, run}
-use Rattle.kb_vm.specs.Meaning.{native_called, first_world}
+use Rattle.kb_vm.specs.Meaning.{native_called, natives_of, first_world}
 use Rattle.kb_vm.specs.Outcome.{Shows}
 use Rattle.kb_vm.specs.Position.{outset, moved, passed}
 use Rattle.kb_vm.specs.State.{finish, position_of, rest, rest_of, TurnedFrom, Pays, PaysFrom, credit}
@@ -92,7 +92,7 @@ pub native_shows : (w : World) (n : Native) (args : List Arg) (core next : Core)
     (spent cost more : ℕ) → Shows w core lines spent → next ≡ core_after n args core → cost ≤ budget_of n
     → more ≡ cost → Shows (native_called n args w) next lines (spent + more)
 native_shows w n args core next lines spent cost more s is le e =
-    let sum = sum_by-append budget_of w.natives (n ∷ []) in
+    let sum = sum_by-append budget_of (natives_of w) (n ∷ []) in
     record {
       core_is = ap (core_after n args) s.core_is ∙ sym is;
       lines_are = s.lines_are;

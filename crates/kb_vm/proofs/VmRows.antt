@@ -17,7 +17,8 @@ use Rattle.kb_vm.specs.declared.trap.Trap.TheVariants.{OutOfBudget}
 use Rattle.kb_vm.specs.declared.trap.Trap.TheVariants.{TooDeep, BadCode}
 use Rattle.kb_vm.specs.CallLine.{list_text}
 use Rattle.kb_code.specs.Commands.{Plain, Coded, Table}
-use Rattle.kb_vm.specs.Meaning.{World, Answer, Done, Stuck, run, start_of}
+use Rattle.kb_vm.specs.Meaning.{World, core_of, lines_of, steps_of, natives_of}
+use Rattle.kb_vm.specs.Meaning.{Answer, Done, Stuck, run, start_of}
 
 -- a handler x.hi with this code, which may call itself and `type`; the native `type` is live too
 handler : ℕ → List Instr → HandlerData
@@ -47,7 +48,7 @@ record Row : Type 0 where
   natives : List Native
 
 row_in : Option (Trap × ℕ) → World → Row
-row_in trap w = record { trap = trap; core = w.core; lines = w.lines; count = length w.steps; natives = w.natives }
+row_in trap w = record { trap = trap; core = core_of w; lines = lines_of w; count = length (steps_of w); natives = natives_of w }
 
 row_of : Answer → Row
 row_of (Done w) = row_in None w

@@ -23,30 +23,74 @@ pub record Step : Type 0 where
   pub left : ℕ
   pub effect : Effect
 
--- the core, and what happened so far: trace lines, begun instructions, and called natives
+-- what happens in a run: an instruction is begun, the line of a call is written, or a native command runs
+pub data Event : Type 0 where
+  StepBegun : (step : Step) → Event
+  LineWritten : (name : List ℕ) (args : List Arg) → Event
+  NativeRun : (native : Native) (args : List Arg) → Event
+
+-- a moment of a run: the core before the run, and what happened until this moment, the latest event first
 pub record World : Type 0 where
-  pub core : Core
-  pub lines : List (List ℕ)
-  pub steps : List Step
-  pub natives : List Native
+  pub first : Core
+  pub past : List Event
+
+-- the core after what happened
+abbrev pub core_after_all : Core → List Event → Core
+core_after_all first [] = first
+core_after_all first (NativeRun native args ∷ past) = core_after native args (core_after_all first past)
+core_after_all first (StepBegun step ∷ past) = core_after_all first past
+core_after_all first (LineWritten name args ∷ past) = core_after_all first past
+
+abbrev pub core_of : World → Core
+core_of w = core_after_all w.first w.past
+
+-- the trace lines, the begun instructions and the native commands among what happened, in their order
+abbrev pub lines_among : List Event → List (List ℕ)
+lines_among [] = []
+lines_among (LineWritten name args ∷ past) = lines_among past ++ call_line name args ∷ []
+lines_among (StepBegun step ∷ past) = lines_among past
+lines_among (NativeRun native args ∷ past) = lines_among past
+
+abbrev pub steps_among : List Event → List Step
+steps_among [] = []
+steps_among (StepBegun step ∷ past) = steps_among past ++ step ∷ []
+steps_among (LineWritten name args ∷ past) = steps_among past
+steps_among (NativeRun native args ∷ past) = steps_among past
+
+abbrev pub natives_among : List Event → List Native
+natives_among [] = []
+natives_among (NativeRun native args ∷ past) = natives_among past ++ native ∷ []
+natives_among (StepBegun step ∷ past) = natives_among past
+natives_among (LineWritten name args ∷ past) = natives_among past
+
+abbrev pub lines_of : World → List (List ℕ)
+lines_of w = lines_among w.past
+
+abbrev pub steps_of : World → List Step
+steps_of w = steps_among w.past
+
+abbrev pub natives_of : World → List Native
+natives_of w = natives_among w.past
 
 -- the world before a run
 abbrev pub first_world : Core → World
-first_world core = record { core = core; lines = []; steps = []; natives = [] }
+first_world core = record { first = core; past = [] }
+
+-- the world after one more event
+abbrev pub after_event : Event → World → World
+after_event event w = record { first = w.first; past = event ∷ w.past }
 
 -- the world after one more instruction was begun
 abbrev pub with_step : Instr → ℕ → Effect → World → World
-with_step instr left e w =
-    record w { steps = w.steps ++ record { instr = instr; left = left; effect = e } ∷ [] }
+with_step instr left e w = after_event (StepBegun (record { instr = instr; left = left; effect = e })) w
 
 -- the world with the line of a call, which is written before the callee runs
 abbrev pub with_line : List ℕ → List Arg → World → World
-with_line name args w = record w { lines = w.lines ++ call_line name args ∷ [] }
+with_line name args w = after_event (LineWritten name args) w
 
 -- the world after a native was called
 abbrev pub native_called : Native → List Arg → World → World
-native_called native args w =
-    record w { core = core_after native args w.core; natives = w.natives ++ native ∷ [] }
+native_called native args w = after_event (NativeRun native args) w
 
 -- the command completed, or a handler trapped: the reason, its command, and the place of its
 -- instruction
@@ -103,7 +147,7 @@ follow run h args left at w (Enter name callee given operands) =
 abbrev pub step : Table → Runner → Runner
 step table run h args left at w =
     fetched (slice_get h.code at.place) left (λ trap. Stuck trap h.command at.place w) (λ instr rest.
-    let e = effect table h args w.core at.operands instr in
+    let e = effect table h args (core_of w) at.operands instr in
     follow run h args rest at (with_step instr rest e w) e)
 
 -- Runs a handler from a position. Each step takes at least 1 from the remaining budget, and the budget

@@ -5,7 +5,7 @@ use Rattle.kb_code.specs.declared.instr.Instr.{Instr}
 use Rattle.kb_code.specs.declared.instr.Instr.TheVariants as i
 use Rattle.kb_code.specs.Commands.{declared_by}
 use Rattle.kb_vm.specs.Effect.{Effect, Stop, Enter}
-use Rattle.kb_vm.specs.Meaning.{Step, World, Answer, Done, Stuck, first_world}
+use Rattle.kb_vm.specs.Meaning.{Step, World, steps_of, Answer, Done, Stuck, first_world}
 
 -- whether an instruction creates a text
 abbrev pub makes_text : Instr → Bool
@@ -35,12 +35,12 @@ pub record MayBeRefused (s : Step) : Type 0 where
 
 -- memory may be refused at the last step
 abbrev pub RefusedLast : World → Type 0
-RefusedLast v = (before : List Step) × (s : Step) × (v.steps ≡ before ++ s ∷ []) × MayBeRefused s
+RefusedLast v = (before : List Step) × (s : Step) × (steps_of v ≡ before ++ s ∷ []) × MayBeRefused s
 
 -- a trap comes only after an instruction was begun
 abbrev pub IsBegun : Answer → Type 0
 IsBegun (Done w) = Unit {0}
-IsBegun (Stuck trap command place w) = w.steps ≡ [] → ⊥
+IsBegun (Stuck trap command place w) = steps_of w ≡ [] → ⊥
 
 -- memory may be refused in this world on the way to an answer: before anything is done, or at the last
 -- step, and never in place of a trap

@@ -5,7 +5,8 @@ use Rattle.kb_core.specs.Native.{budget_of}
 use Rattle.kb_vm.specs.declared.machine.Outcome.{Outcome}
 use Rattle.kb_vm.specs.declared.machine.End.{End}
 use Rattle.kb_vm.specs.declared.machine.End.TheVariants as end
-use Rattle.kb_vm.specs.Meaning.{World, Answer, Done, Stuck}
+use Rattle.kb_vm.specs.Meaning.{Event, World, core_of, lines_of, steps_of, natives_of}
+use Rattle.kb_vm.specs.Meaning.{Answer, Done, Stuck}
 use Rattle.kb_vm.specs.Memory.{MayLackAt}
 
 -- the world of an answer
@@ -13,24 +14,19 @@ abbrev pub world_of : Answer → World
 world_of (Done w) = w
 world_of (Stuck trap command place w) = w
 
--- the first list begins with the second
-abbrev pub BeginsWith : {X : Type 0} → List X → List X → Type 0
-BeginsWith {X} xs ys = (zs : List X) × (xs ≡ ys ++ zs)
-
--- v is a world on the way to w: what happened in v is the beginning of what happened in w
+-- v is a moment of the run that ended in w: both began with one core, and w is v after some later events
 pub record Precedes (v w : World) : Type 0 where
-  pub lines : BeginsWith w.lines v.lines
-  pub steps : BeginsWith w.steps v.steps
-  pub natives : BeginsWith w.natives v.natives
+  pub first : w.first ≡ v.first
+  pub past : (later : List Event) × (w.past ≡ later ++ v.past)
 
--- the parts of a world that the machine holds; each native costs between 0 and its budget
+-- the parts of a moment that the machine holds; each native costs between 0 and its budget
 pub record Shows (w : World) (core : Core) (lines : List (List ℕ)) (spent : ℕ) : Type 0 where
-  pub core_is : w.core ≡ core
-  pub lines_are : w.lines ≡ lines
-  pub at_least : length w.steps ≤ spent
-  pub at_most : spent ≤ length w.steps + sum_by budget_of w.natives
+  pub core_is : core_of w ≡ core
+  pub lines_are : lines_of w ≡ lines
+  pub at_least : length (steps_of w) ≤ spent
+  pub at_most : spent ≤ length (steps_of w) + sum_by budget_of (natives_of w)
 
--- an outcome is the answer, or, if memory was refused, a state on the way to it
+-- an outcome is the answer, or, if memory was refused, a moment of the run
 abbrev pub Ends : Core → Answer → Outcome → End → Type 0
 Ends at_first a o end.Done = (v : World) × Shows v o.core o.lines o.spent × (a ≡ Done v)
 Ends at_first a o (end.Trap trap command place) =

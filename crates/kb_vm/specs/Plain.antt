@@ -6,7 +6,7 @@ use Rattle.kb_code.specs.Handler.{HandlerData}
 use Rattle.kb_code.specs.Plain.{IsPlain}
 use Rattle.kb_vm.specs.declared.trap.Trap.TheVariants.{BadCode}
 use Rattle.kb_vm.specs.Effect.{Effect, Goto, effect}
-use Rattle.kb_vm.specs.Meaning.{Runner, World, Answer, Stuck, with_step, fetched, follow, step}
+use Rattle.kb_vm.specs.Meaning.{Runner, World, core_of, Answer, Stuck, with_step, fetched, follow, step}
 use Rattle.kb_vm.specs.Position.{Position, moved}
 
 -- what follows from an effect where a jump may go to each later place
@@ -18,7 +18,7 @@ plain_follow run h args left at w e = follow run h args left at w e
 abbrev pub plain_step : Table → Runner → Runner
 plain_step table run h args left at w =
     fetched (slice_get h.code at.place) left (λ trap. Stuck trap h.command at.place w) (λ instr rest.
-    let e = effect table h args w.core at.operands instr in
+    let e = effect table h args (core_of w) at.operands instr in
     plain_follow run h args rest at (with_step instr rest e w) e)
 
 -- code without `Repeat` and `End` runs as in version 1, whatever runs the rest

@@ -29,8 +29,8 @@ passed at operands = moved at (at.place + 1) operands
 abbrev pub entered : Position → ℕ → List Arg → Position
 entered at n operands = standing (at.place + 1) (n ∷ at.turns) operands
 
--- the position after the `End` at a place, of the block of a `Repeat`: in its next iteration if more than one is left, or
--- else after the block
+-- the position after the `End` at a place, of the block of a `Repeat`: in its next iteration if more than
+-- one is left, or else after the block
 abbrev pub turned : ℕ → List Arg → Option ℕ → List ℕ → Option Position
 turned place operands (Some q) (suc (suc n) ∷ turns) = Some (standing (q + 1) (suc n ∷ turns) operands)
 turned place operands (Some q) (n ∷ turns) = Some (standing (place + 1) turns operands)

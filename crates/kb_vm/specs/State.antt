@@ -23,7 +23,8 @@ use Rattle.kb_vm.specs.declared.machine.Turn.{Turn}
 use Rattle.kb_vm.specs.declared.machine.Turn.TheVariants as turn
 use Rattle.kb_code.specs.Commands.{Callee, Table, declared_by}
 use Rattle.kb_vm.specs.Effect.{Effect, Enter, called, topmost}
-use Rattle.kb_vm.specs.Meaning.{World, Answer, Done, Stuck, and_then, run, follow, native_called}
+use Rattle.kb_vm.specs.Meaning.{World, core_of, lines_of, steps_of, natives_of}
+use Rattle.kb_vm.specs.Meaning.{Answer, Done, Stuck, and_then, run, follow, native_called}
 use Rattle.kb_vm.specs.Memory.{RefusedLast, goes_on}
 use Rattle.kb_vm.specs.Outcome.{Shows, Precedes, world_of}
 use Rattle.kb_vm.specs.Position.{Position, standing, outset, moved, passed, entered, turned}
@@ -128,10 +129,10 @@ called_by table m index =
 
 -- exactly n instructions are begun between the worlds, and nothing else happens
 pub record Begun (n : ℕ) (w v : World) : Type 0 where
-  pub core : v.core ≡ w.core
-  pub lines : v.lines ≡ w.lines
-  pub natives : v.natives ≡ w.natives
-  pub steps : length v.steps ≡ length w.steps + n
+  pub core : core_of v ≡ core_of w
+  pub lines : lines_of v ≡ lines_of w
+  pub natives : natives_of v ≡ natives_of w
+  pub steps : length (steps_of v) ≡ length (steps_of w) + n
 
 -- a pause of a frame preserves the answer of the run
 abbrev pub PausedFrom : Table → HandlerData → List Arg → Position → Answer → World → ℕ → Pause → Type 0
@@ -146,7 +147,7 @@ PausedFrom table h args at a v left pause.NoMemory = Precedes v (world_of a) × 
 -- of live commands
 abbrev pub Pauses : HandlerData → List Arg → Core → Position → ℕ → List ℕ → List Arg → Paused → Type 0
 Pauses h args core at left turns operands p =
-    (table : Table) (w : World) → w.core ≡ core → (v : World) × Begun (left - p.left) w v
+    (table : Table) (w : World) → core_of w ≡ core → (v : World) × Begun (left - p.left) w v
     × PausedFrom table h args (standing p.place turns operands) (run table h args left at w) v p.left p.why
 
 -- the position after an action in code, by the position with the operands after it, or the reason for a pause

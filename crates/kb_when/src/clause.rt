@@ -58,7 +58,8 @@ impl Clause {
     ghost use Rattle.kb_context.specs.Scopes.{context};
     ghost use Rattle.kb_when.specs.Tokenizer.{CountSuffices};
     ghost use Rattle.kb_when.specs.ClauseText.{StandsFor, ReadsByGrammar};
-    ghost use Rattle.kb_when.specs.Marks.{HasReadPattern, when_holds, WhenHasReadPattern};
+    ghost use Rattle.kb_when.specs.Marks.{HasReadPattern, when_holds, WhenHasReadPattern, beside};
+    ghost use Rattle.kb_when.specs.Tree.{marked_of};
     ghost use Rattle.kb_when.specs.Value.{value};
     ghost use Rattle.kb_when.specs.Clause.{never, patterns_of};
     ghost use Rattle.kb_pattern.specs.Pattern.{AreRight};
@@ -105,6 +106,13 @@ impl Clause {
             unread: Seq::new(alloc),
             alloc,
         }
+    }
+
+    /// The tree, with the marks of its patterns inside.
+    pub fn tree(&self) -> &Tree
+        ensures { beside (marked_of result.now) ≡ self.now }
+    {
+        &self.tree
     }
 
     /// The patterns that `regex` rejects, in the order of the text.

@@ -8,7 +8,7 @@ use kb_pattern::Pattern;
 
 /// An atom with its own texts. The tree and the flat form of a clause share it.
 #[derive(Debug, Drop)]
-pub(crate) enum Leaf {
+pub enum Leaf {
     /// A key alone.
     Key(Text),
     /// A key and the text that its value must equal.
@@ -85,7 +85,7 @@ impl Leaf {
     }
 
     /// Whether both leaves are the same atom. The marks of patterns are not compared.
-    pub(crate) fn same(&self, other: &Leaf) -> bool
+    pub fn same(&self, other: &Leaf) -> bool
         ensures { result ≡ same (clause_of_leaf self.now) (clause_of_leaf other.now) }
     {
         match self {

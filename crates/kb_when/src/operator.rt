@@ -3,7 +3,7 @@ ghost use Rattle.std.specs.Prelude.{◌≡◌};
 
 /// A comparison of two numbers.
 #[derive(Clone, Copy, Debug)]
-pub(crate) enum Operator {
+pub enum Operator {
     /// `<`.
     Below,
     /// `<=`.

@@ -8,7 +8,7 @@ use std::rc::Rc;
 
 /// The tree of a clause. Parentheses have no node of their own.
 #[derive(Debug, Drop)]
-pub(crate) enum Tree {
+pub enum Tree {
     /// `true`.
     True,
     /// `false`.

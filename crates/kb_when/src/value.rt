@@ -149,7 +149,7 @@ impl Leaf {
 
     /// Whether the atom holds for the keys that are visible from the focus. Error: `NoMemory`, only if it has
     /// a pattern that is not marked as unread.
-    pub(crate) fn holds(&self, alloc: Global, scopes: &Scopes) -> Result<bool, NoMemory>
+    pub fn holds(&self, alloc: Global, scopes: &Scopes) -> Result<bool, NoMemory>
         ensures value { IfOk result (λ holds.
             holds ≡ marked_value (context scopes.now.seen) (marked_of_leaf self.now)) }
         ensures memory { IfErr result (λ _. list_any not (marks_of (marked_of_leaf self.now)) ≡ true) }

@@ -14,8 +14,8 @@ use kb_trace::Event;
 use std::alloc::Global;
 
 impl Engine {
-    /// Presses a key, by its text as in `key` lines of a script. The outcomes are those of `tell`, and `NoKey`
-    /// for a text that is no key.
+    /// Presses a key, by its text as in `key` lines of a script. The outcomes are those of `tell`, and
+    /// `NoKey` for a text that is no key.
     pub fn press(&mut self, key: &[u8]) -> Outcome
         ensures told { TellsIf outcome.NoKey (key_told key.now) self.old result self.new }
         ensures taken { IfSome (key_told key.now)
@@ -27,7 +27,8 @@ impl Engine {
         }
     }
 
-    /// Gives the focus to a scope. The outcomes are those of `tell`, and `NoText` for bytes that aren't UTF-8.
+    /// Gives the focus to a scope. The outcomes are those of `tell`, and `NoText` for bytes that aren't
+    /// UTF-8.
     #[tactic(auto, using(crate::proofs::EngineLemmas::halting))]
     pub fn focus(&mut self, scope: &[u8]) -> Outcome
         ensures { TellsIf outcome.NoText (when_text scope.now (Some (event.Focus scope.now)))
@@ -42,8 +43,8 @@ impl Engine {
         }
     }
 
-    /// Sets a context key of a scope to a truth value. The outcomes are those of `tell`, and `NoText` for bytes
-    /// that aren't UTF-8.
+    /// Sets a context key of a scope to a truth value. The outcomes are those of `tell`, and `NoText` for
+    /// bytes that aren't UTF-8.
     pub fn set_truth(&mut self, scope: &[u8], key: &[u8], truth: bool) -> Outcome
         ensures { TellsIf outcome.NoText (when_text scope.now (when_text key.now
             (Some (event.SetKey scope.now key.now (value.Truth truth))))) self.old result self.new }
@@ -51,8 +52,8 @@ impl Engine {
         self.set_value(scope, key, ContextValue::Truth(truth))
     }
 
-    /// Sets a context key of a scope to a number. The outcomes are those of `tell`, and `NoText` for bytes that
-    /// aren't UTF-8.
+    /// Sets a context key of a scope to a number. The outcomes are those of `tell`, and `NoText` for bytes
+    /// that aren't UTF-8.
     pub fn set_number(&mut self, scope: &[u8], key: &[u8], number: i64) -> Outcome
         ensures { TellsIf outcome.NoText (when_text scope.now (when_text key.now
             (Some (event.SetKey scope.now key.now (value.Number number))))) self.old result self.new }
@@ -100,8 +101,8 @@ impl Engine {
         }
     }
 
-    /// Removes a context key from a scope. The outcomes are those of `tell`, and `NoText` for bytes that aren't
-    /// UTF-8.
+    /// Removes a context key from a scope. The outcomes are those of `tell`, and `NoText` for bytes that
+    /// aren't UTF-8.
     #[tactic(auto, using(crate::proofs::EngineLemmas::halting))]
     pub fn unset(&mut self, scope: &[u8], key: &[u8]) -> Outcome
         ensures { TellsIf outcome.NoText (when_text scope.now (when_text key.now
@@ -119,8 +120,8 @@ impl Engine {
         }
     }
 
-    /// Lists the commands of the palette that a query finds. The outcomes are those of `tell`, and `NoText` for
-    /// bytes that aren't UTF-8.
+    /// Lists the commands of the palette that a query finds. The outcomes are those of `tell`, and `NoText`
+    /// for bytes that aren't UTF-8.
     #[tactic(auto, using(crate::proofs::EngineLemmas::halting))]
     pub fn palette(&mut self, query: &[u8]) -> Outcome
         ensures { TellsIf outcome.NoText (when_text query.now (Some (event.Palette query.now)))

@@ -5,6 +5,7 @@ ghost use Rattle.kb_session.specs.Inspect.{found_by};
 
 use crate::session::Session;
 use kb_base::NoMemory;
+use kb_bindings::Bindings;
 use kb_core::Core;
 use kb_keys::Keystroke;
 use kb_registry::HostCommand;
@@ -19,6 +20,13 @@ impl<C: HostCommand> Session<C> {
         self.core.core()
     }
 
+    /// What binds keys: the rules, the extensions, and the search among them.
+    pub fn bindings(&self) -> &Bindings
+        ensures { result.now ≡ self.now.state.sources }
+    {
+        &self.bindings
+    }
+
     /// The keystrokes of the open chord, in order, or none if no chord is open.
     pub fn pressed(&self) -> &[Keystroke]
         ensures { result.now ≡ self.now.state.pressed }
@@ -26,8 +34,9 @@ impl<C: HostCommand> Session<C> {
         self.chord.pressed()
     }
 
-    /// What a press of the key would find now, behind the keystrokes of the open chord: the rule whose command
-    /// it would start, that a chord would be open, or nothing. Nothing is pressed. `NoMemory` changes nothing.
+    /// What a press of the key would find now, behind the keystrokes of the open chord: the rule whose
+    /// command it would start, that a chord would be open, or nothing. Nothing is pressed. `NoMemory`
+    /// changes nothing.
     pub fn look_up(&self, key: Keystroke) -> Result<Resolved<'_>, NoMemory>
         ensures { IfOk result (λ found. resolution_of found ≡ found_by key self.now.state) }
     {

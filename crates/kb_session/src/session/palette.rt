@@ -18,8 +18,8 @@ use kb_trace::{Answer, lines};
 use std::alloc::Global;
 
 impl<C: HostCommand> Session<C> {
-    /// The entries of the last palette, in the order of their numbers from 1, until one of them is chosen. `None`
-    /// before any palette and behind a choice.
+    /// The entries of the last palette, in the order of their numbers from 1, until one of them is chosen.
+    /// `None` before any palette and behind a choice.
     pub fn listed(&self) -> Option<&[Entry]>
         ensures { option_map (λ entries. entries.now) result ≡ self.now.state.listed }
     {
@@ -45,8 +45,8 @@ impl<C: HostCommand> Session<C> {
         Ok(Answer::Did)
     }
 
-    /// Chooses an entry of the last palette: its command starts without arguments, is noted in the history, and
-    /// the list is closed. Without such an entry the choice is refused (96). An open chord stays open.
+    /// Chooses an entry of the last palette: its command starts without arguments, is noted in the history,
+    /// and the list is closed. Without such an entry the choice is refused (96). An open chord stays open.
     #[tactic(auto, using(kb_stream::proofs::Undoing::undoing))]
     pub(super) fn choose(&mut self, number: u32) -> Result<Handled, NoMemory>
         requires running { self.old.state.stopped ≡ false }
@@ -88,8 +88,8 @@ fn entry_at(listed: &Option<Seq<Entry>>, number: u32) -> Option<&Entry>
     entries.as_slice().get(place as usize)
 }
 
-/// Starts the command of an entry without arguments, and adds its trace lines. On `NoMemory` the old lines are
-/// still there, before any new ones.
+/// Starts the command of an entry without arguments, and adds its trace lines. On `NoMemory` the old lines
+/// are still there, before any new ones.
 #[tactic(auto, using(kb_stream::proofs::Undoing::undoing_behind))]
 fn start_choice<C: HostCommand>(
     alloc: Global,
