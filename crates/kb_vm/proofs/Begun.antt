@@ -9,7 +9,7 @@ use Rattle.kb_code.specs.Handler.{HandlerData}
 use Rattle.kb_code.specs.Commands.{Table}
 use Rattle.kb_vm.specs.declared.trap.Trap.{Trap}
 use Rattle.kb_vm.specs.Effect.{effect}
-use Rattle.kb_vm.specs.Meaning.{Event, StepBegun, LineWritten, NativeRun, Step, World, core_of, steps_among, steps_of}
+use Rattle.kb_vm.specs.Meaning.{Event, StepBegun, LineWritten, NativeRun, Step, World, core_of, steps_among}
 use Rattle.kb_vm.specs.Meaning.{after_event, Answer, Done, Stuck, fetched, follow, with_step, run}
 use Rattle.kb_vm.specs.Memory.{IsBegun}
 use Rattle.kb_vm.specs.Outcome.{Precedes, world_of}
@@ -33,7 +33,7 @@ stays (NativeRun native args ∷ later) s past e = stays later s past e
 begun_after : (a : Answer) (s : Step) (w : World) → Precedes (after_event (StepBegun s) w) (world_of a) → IsBegun a
 begun_after (Done v) s w p = tt
 begun_after (Stuck trap command place v) s w p =
-    λ none. stays p.past.0 s w.past (sym (ap steps_of p.1) ∙ none)
+    λ none. stays p.past.0 s w.past (sym (ap steps_among p.past.1) ∙ none)
 
 module _ (table : Table) (h : HandlerData) (args : List Arg) (w : World) where
   abbrev at_first : Option Instr → ℕ → Answer

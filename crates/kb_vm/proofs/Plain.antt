@@ -1,5 +1,5 @@
 -- Runs of code without blocks.
-use Rattle.std.proofs.Common.{◌≡◌, ℕ, zero, suc, Bool, true, false, List, Option, Some, None, refl, ap, ◌∙◌, if◌then◌else◌}
+use Rattle.std.proofs.Common.{◌≡◌, ℕ, zero, suc, Bool, true, false, List, Option, Some, None, refl, ap, if◌then◌else◌}
 use Rattle.std.specs.Prelude.{nat_lt, ◌&&◌, slice_get}
 use Rattle.kb_core.specs.declared.arg.Arg.{Arg}
 use Rattle.kb_code.specs.declared.instr.Instr.{Instr}
@@ -10,7 +10,7 @@ use Rattle.kb_code.specs.Plain.{IsPlain}
 use Rattle.kb_code.proofs.PlainLemmas.{plain_has_no_blocks}
 use Rattle.kb_vm.specs.declared.trap.Trap.TheVariants.{BadCode}
 use Rattle.kb_vm.specs.Effect.{Effect, Goto, effect}
-use Rattle.kb_vm.specs.Meaning.{Runner, World, core_of, Answer, Stuck, with_step, fetched, follow}
+use Rattle.kb_vm.specs.Meaning.{Runner, World, core_of, Stuck, with_step, fetched, follow}
 use Rattle.kb_vm.specs.Plain.{plain_follow, PlainSteps}
 use Rattle.kb_vm.specs.Position.{Position, moved}
 

@@ -19,7 +19,7 @@ use Rattle.kb_vm.specs.Action.{is_stop}
 use Rattle.kb_vm.specs.Effect.{Effect, Stop, Leave, Next, Goto, Open, Turn, Enter, effect, pushed, pushed_at}
 use Rattle.kb_vm.specs.Effect.{pushed_context}
 use Rattle.kb_vm.specs.Effect.{dropped, doubled, swapped, made, with_one, with_two, branched}
-use Rattle.kb_vm.specs.Meaning.{World, with_step}
+use Rattle.kb_vm.specs.Meaning.{World, steps_of, with_step}
 use Rattle.kb_vm.specs.Memory.{makes_text, is_call, asks_memory, goes_on, RefusedLast}
 use Rattle.kb_vm.specs.State.{is_enter}
 use Rattle.kb_vm.specs.Values.{one_of, two_of, size_of}

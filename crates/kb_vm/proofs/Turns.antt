@@ -14,7 +14,7 @@ use Rattle.kb_vm.specs.Effect.{Enter}
 use Rattle.kb_vm.specs.Meaning.{World, with_line, Answer, Done, Stuck, and_then, run_callee, run}
 use Rattle.kb_vm.specs.Meaning.{native_called, natives_of, first_world}
 use Rattle.kb_vm.specs.Outcome.{Shows}
-use Rattle.kb_vm.specs.Position.{outset, moved, passed}
+use Rattle.kb_vm.specs.Position.{outset, passed}
 use Rattle.kb_vm.specs.State.{finish, position_of, rest, rest_of, TurnedFrom, Pays, PaysFrom, credit}
 use Rattle.kb_vm.specs.State.{Begins, Begun}
 use Rattle.kb_vm.specs.Action.{IsCallable}
