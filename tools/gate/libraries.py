@@ -17,7 +17,8 @@ class NotProved(Exception):
 def over_proved_libraries(crate, room):
     """A copy of the crate over its libraries as rt ci keeps them. They get a folder each in this room.
 
-    A library that isn't kept is taken from its crate's out/, where this run of rt ci made it.
+    The room has to be empty: where rt can't write a file of a library, it takes what it keeps for damaged and
+    removes it. A library that isn't kept is taken from its crate's out/, where this run of rt ci made it.
     """
     kept, copies = rt.Kept(crate.below()), {}
     for library in [*crate.below(), crate]:
