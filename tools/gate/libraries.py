@@ -1,7 +1,7 @@
 """The libraries below a crate as rt ci proved them from these sources.
 
-rt ci keeps each library on the machine, by a sum of all that its proof read. What is in crates/*/out behind a run
-may be of other sources: rt puts back what was there before.
+rt ci keeps each library on the machine, by a sum of all that its proof read. What is in crates/*/out behind a
+run may be of other sources: rt puts back what was there before.
 """
 
 import copy
