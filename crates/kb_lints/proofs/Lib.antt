@@ -1,0 +1,4 @@
+pub mod ListLemmas
+pub mod ShadowLemmas
+pub mod CutOffLemmas
+pub mod TakingLemmas

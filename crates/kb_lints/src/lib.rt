@@ -1,0 +1,20 @@
+//! Lints on key rules: rules that can never start, removals that take nothing, names next to known ones.
+//!
+//! They are about the rules in force as the engine's own search sees them. Where a lint says that a rule can never
+//! start, its contract says so of every context.
+#![tactic(auto)]
+
+pub mod chords;
+pub mod condition;
+pub mod idle_removal;
+pub mod laws;
+pub mod near;
+pub mod shadow;
+pub mod spelling;
+
+pub use chords::{CutOff, cut_off};
+pub use condition::{covers, is_unconditional};
+pub use idle_removal::{RuleTargets, Taking};
+pub use near::{alias_of, is_near};
+pub use shadow::{Shadowed, never_start};
+pub use spelling::{Operands, write_clause};

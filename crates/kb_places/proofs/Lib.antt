@@ -1,0 +1,4 @@
+mod DepthLemmas
+mod OpenLemmas
+mod PlaceLemmas
+mod PositionLemmas

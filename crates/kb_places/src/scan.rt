@@ -1,0 +1,80 @@
+//! Where values of a JSON text end. The text is taken to be JSON: of any other text the answers are some index.
+ghost use Rattle.std.specs.Prelude.{◌≤◌};
+
+use kb_base::is_blank;
+
+/// The index behind the string whose first byte behind the quote is at `from`.
+pub(crate) fn string_end(text: &[u8], from: usize) -> usize
+    ensures { from ≤ result }
+{
+    let mut at = from;
+    while at < text.len() {
+        match text[at] {
+            b'"' => return at + 1,
+            b'\\' => at = at.saturating_add(2),
+            _ => at += 1,
+        }
+    }
+    at
+}
+
+/// Whether a byte ends a number or a word.
+fn ends_word(byte: u8) -> bool {
+    is_blank(byte) || matches!(byte, b',' | b':' | b']' | b'}' | b'[' | b'{' | b'"')
+}
+
+/// The index behind the number or the word that begins at `from`.
+fn word_end(text: &[u8], from: usize) -> usize {
+    let mut at = from;
+    while at < text.len() && !ends_word(text[at]) {
+        at += 1;
+    }
+    at
+}
+
+/// The index behind the list or the object that begins at `from`.
+fn bracket_end(text: &[u8], from: usize) -> usize {
+    let mut depth = 0usize;
+    let mut at = from;
+    while at < text.len() {
+        match text[at] {
+            b'"' => at = string_end(text, at + 1),
+            b'[' | b'{' => {
+                depth = depth.saturating_add(1);
+                at += 1;
+            }
+            b']' | b'}' => {
+                at += 1;
+                if depth <= 1 {
+                    return at;
+                }
+                depth -= 1;
+            }
+            _ => at += 1,
+        }
+    }
+    text.len()
+}
+
+/// The index behind the value that begins at `from`.
+pub(crate) fn value_end(text: &[u8], from: usize) -> usize {
+    if from >= text.len() {
+        return text.len();
+    }
+    match text[from] {
+        b'"' => string_end(text, from + 1),
+        b'[' | b'{' => bracket_end(text, from),
+        _ => word_end(text, from),
+    }
+}
+
+/// The index of the first byte from `from` on that is neither blank nor this sign.
+pub(crate) fn skip(text: &[u8], from: usize, sign: u8) -> usize
+    ensures { from ≤ result }
+{
+    let mut at = from;
+    while at < text.len() && (is_blank(text[at]) || text[at] == sign) {
+        at += 1;
+    }
+    at
+}
