@@ -1,0 +1,71 @@
+"""The libraries below a static library as rt ci proved them from these sources, and its archive as it was built.
+
+rt ci keeps each library on the machine, by a sum of all that its proof read. What is in crates/*/out behind a
+run may be of other sources: rt puts back what was there before.
+"""
+
+import contextlib
+import copy
+import os
+import shutil
+import tempfile
+
+from gate import kept
+from gate.kit import built_from_nothing, rt
+
+
+class NotProved(Exception):
+    """rt ci has not proved the library of this name on this machine, from the sources as they are."""
+
+
+def over_proved_libraries(crate, room):
+    """A copy of the crate over its libraries as rt ci keeps them. They get a folder each in this room.
+
+    The room has to be empty: where rt can't write a file of a library, it takes what it keeps for damaged and
+    removes it. A library that isn't kept is taken from its crate's out/, where this run of rt ci made it.
+    """
+    proved, copies = rt.Kept(crate.below()), {}
+    for library in [*crate.below(), crate]:
+        own = copies[library.name] = copy.copy(library)
+        own.deps = [copies[it.name] for it in library.deps]
+        if library is crate:
+            return own
+        own.folder = os.path.join(room, library.name)
+        own.rlib = os.path.join(own.folder, "out/rlib", library.name + ".rlib")
+        if not proved.give(own, False, proved.key(library)):
+            if not built_from_nothing(library):
+                raise NotProved(library.name)
+            own.folder, own.rlib = library.folder, library.rlib
+        proved.is_built(own)
+
+
+class Archive:
+    """The archive of a static library that a run on this machine built, by a sum of the kit and of all sources."""
+
+    # An older one is removed.
+    MOST = 2
+
+    def __init__(self, crate):
+        self.at, self.name = kept.folder(), f"lib{crate.name}-"
+        self.own = f"{self.name}{kept.stamp_of(crate)}.a"
+
+    def give(self, to):
+        """Puts the archive there, and says whether it is kept."""
+        try:
+            shutil.copyfile(os.path.join(self.at or "", self.own), to)
+        except OSError:
+            return False
+        return True
+
+    def keep(self, archive):
+        """Keeps an archive that was built just now. It is written apart and then renamed."""
+        with contextlib.suppress(OSError):
+            if not self.at:
+                return
+            os.makedirs(self.at, mode=0o700, exist_ok=True)
+            with tempfile.NamedTemporaryFile(dir=self.at, delete=False) as file, open(archive, "rb") as built:
+                shutil.copyfileobj(built, file)
+            os.replace(file.name, os.path.join(self.at, self.own))
+            found = [os.path.join(self.at, it) for it in os.listdir(self.at) if it.startswith(self.name)]
+            for old in sorted(found, key=os.path.getmtime)[: -self.MOST]:
+                os.remove(old)
