@@ -1,7 +1,8 @@
 """The libraries below a static library as rt ci proved them from these sources, and its archive as it was built.
 
-rt ci keeps each library on the machine, by a sum of all that its proof read. What is in crates/*/out behind a
-run may be of other sources: rt puts back what was there before.
+A newer kit's rt ci keeps each library on the machine, by a sum of all that its proof read. What is in
+crates/*/out behind its run may be of other sources: rt puts back what was there before. With a kit that keeps
+nothing, it is what the last run proved, if no check kept anything there.
 """
 
 import contextlib
@@ -24,7 +25,7 @@ def over_proved_libraries(crate, room):
     The room has to be empty: where rt can't write a file of a library, it takes what it keeps for damaged and
     removes it. A library that isn't kept is taken from its crate's out/, where this run of rt ci made it.
     """
-    proved, copies = rt.Kept(crate.below()), {}
+    proved, copies = rt.Kept(crate.below()) if hasattr(rt, "Kept") else None, {}
     for library in [*crate.below(), crate]:
         own = copies[library.name] = copy.copy(library)
         own.deps = [copies[it.name] for it in library.deps]
@@ -32,11 +33,12 @@ def over_proved_libraries(crate, room):
             return own
         own.folder = os.path.join(room, library.name)
         own.rlib = os.path.join(own.folder, "out/rlib", library.name + ".rlib")
-        if not proved.give(own, False, proved.key(library)):
+        if proved is None or not proved.give(own, False, proved.key(library)):
             if not built_from_nothing(library):
                 raise NotProved(library.name)
             own.folder, own.rlib = library.folder, library.rlib
-        proved.is_built(own)
+        if proved is not None:
+            proved.is_built(own)
 
 
 class Archive:

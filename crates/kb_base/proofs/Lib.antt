@@ -1,2 +1,3 @@
+pub mod HashedMapLemmas
 pub mod TextLemmas
 pub mod TextMapLemmas

@@ -97,6 +97,12 @@ filled_step : {X : Type 0} (b : Bool) (o : Option ℕ) (v : X) (r : Option X) (w
 filled_step true o v r w h = ap (λ p. filled p true w) (sym (h refl))
 filled_step false o v r w h = refl
 
+filled_there : {X : Type 0} (b : Bool) (o : Option ℕ) (v : X) (r : Option X) (w : ℕ)
+    → (b ≡ true → is_some o ≡ true) → filled o (is_some r) w ≡ filled o (is_some (cond b (Some v) r)) w
+filled_there b (Some x) v r w h = refl
+filled_there true None v r w h = absurd (let no : false ≡ true = h refl in cc)
+filled_there false None v r w h = refl
+
 -- an entry whose key is new fills its key
 pub filled_more : {X : Type 0} (m n : FinMap (slice_cmp nat_cmp) ℕ) (k : String Global) (v : X)
     (rest : List (String Global × X)) (w : ℕ) → contains_key m (string_bytes k) ≡ false
@@ -112,6 +118,15 @@ filled_more m n k v rest w new is q =
     ∙ filled_step (bytes_eq q (string_bytes k)) (get m q) v
     (lookup (λ s. bytes_eq q (string_bytes s)) rest) w
     (λ e. ap (get m) ((bytes_eq-Decides q (string_bytes k)).0 e) ∙ no_value _ new)
+
+-- an entry whose key is there fills nothing
+pub filled_same : {X : Type 0} (m : FinMap (slice_cmp nat_cmp) ℕ) (k : String Global) (v : X)
+    (rest : List (String Global × X)) (w : ℕ) → contains_key m (string_bytes k) ≡ true → (q : List ℕ)
+    → filled (get m q) (is_some (lookup (λ s. bytes_eq q (string_bytes s)) rest)) w
+    ≡ filled (get m q) (is_some (lookup (λ s. bytes_eq q (string_bytes s)) ((k, v) ∷ rest))) w
+filled_same m k v rest w there q =
+    filled_there (bytes_eq q (string_bytes k)) (get m q) v (lookup (λ s. bytes_eq q (string_bytes s)) rest) w
+    (λ e. ap is_some (ap (get m) ((bytes_eq-Decides q (string_bytes k)).0 e)) ∙ there)
 
 -- ---- a table whose keys are lent
 

@@ -1,6 +1,8 @@
 pub mod Blank
 pub mod Failure
 pub mod Faults
+pub mod HashedMap
+pub mod HashedText
 pub mod Note
 pub mod Reading
 pub mod Refusal

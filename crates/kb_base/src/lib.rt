@@ -5,6 +5,8 @@
 
 pub mod blank;
 pub mod failure;
+pub mod hashed_map;
+pub mod hashed_text;
 pub mod memory;
 pub mod note;
 pub mod refusal;
@@ -14,6 +16,8 @@ pub mod text_map;
 
 pub use blank::{is_blank, is_blank_text};
 pub use failure::Failure;
+pub use hashed_map::HashedMap;
+pub use hashed_text::HashedText;
 pub use memory::NoMemory;
 pub use note::{Origin, Part, UnreadPattern, Warning};
 pub use refusal::{Refusal, fault_name};

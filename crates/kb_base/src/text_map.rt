@@ -6,17 +6,18 @@ ghost use Rattle.std.specs.List.{list_any};
 ghost use Rattle.std.specs.Str.{bytes_eq};
 ghost use Rattle.kb_base.specs.TextMap.{filled};
 
+use crate::hashed_map::HashedMap;
 use crate::memory::NoMemory;
 use crate::text::Text;
+use indexmap::IndexMap;
 use std::alloc::Global;
-use std::collections::HashMap;
 use std::marker::Model;
 
-/// A hash map with texts as keys. Contracts see a finite map from the bytes of the keys: neither order nor
+/// A map with texts as keys. Contracts see a finite map from the bytes of the keys: neither order nor
 /// capacity.
 #[derive(Debug, Drop)]
 pub struct TextMap<V> {
-    table: HashMap<String, V>,
+    table: IndexMap<String, V>,
 }
 
 impl<V> Model for TextMap<V> {
@@ -40,7 +41,7 @@ impl<V: Drop> TextMap<V> {
         ensures { result ≡ map.empty }
     {
         TextMap {
-            table: HashMap::new(alloc),
+            table: IndexMap::new(alloc),
         }
     }
 
@@ -64,6 +65,25 @@ impl<V: Drop> TextMap<V> {
         ensures { option_copied result ≡ map.get self.now key.now }
     {
         self.table.get(key)
+    }
+
+    /// The value of a key, as `get` has it. It is looked for at an index first: if the key is there, which
+    /// [`TextMap::index_of`] told before, its text isn't hashed.
+    pub fn get_near(&self, index: usize, key: &str) -> Option<&V>
+        ensures { option_copied result ≡ map.get self.now key.now }
+    {
+        if let Some((found, value)) = self.table.get_index(index) {
+            if found.as_str() == key {
+                return Some(value);
+            }
+        }
+        self.table.get(key)
+    }
+
+    /// The index at which the map has the key now, for [`TextMap::get_near`]. A removal of a key may move
+    /// another one.
+    pub fn index_of(&self, key: &str) -> Option<usize> {
+        self.table.get_index_of(key)
     }
 
     /// Whether the map has the key.
@@ -102,8 +122,9 @@ impl<V: Drop> TextMap<V> {
     pub fn remove(&mut self, key: &str)
         ensures { self.new ≡ map.remove self.old key.now }
     {
-        self.table.remove(key);
+        self.table.swap_remove(key);
     }
+
     /// Removes all keys. The memory of the map is kept for further keys.
     pub fn clear(&mut self)
         ensures { self.new ≡ map.empty }
@@ -123,21 +144,23 @@ impl<V: Drop> TextMap<V> {
         Ok(keys)
     }
 
-    /// Gives each key of this map that the other map lacks the number there. Error: `NoMemory`; the other
-    /// map then has some of these keys.
+    /// Gives each key of this map that the other map lacks the number there, with its index here as its note.
+    /// Error: `NoMemory`; the other map then has some of these keys.
     pub fn fill(
         &self,
         alloc: Global,
-        other: &mut TextMap<usize>,
+        other: &mut HashedMap<usize>,
         number: usize,
     ) -> Result<(), NoMemory>
         ensures { OnOk result ((key : List ℕ)
             → map.get other.new key ≡ filled (map.get other.old key) (map.contains_key self.now key) number) }
     {
+        let mut index = 0usize;
         for (key, _) in &self.table {
             if !other.contains_key(key.as_str()) {
-                other.insert(Text::from_str(alloc, key.as_str())?, number)?;
+                other.set(alloc, key.as_str(), number, index)?;
             }
+            index = index.saturating_add(1);
         }
         Ok(())
     }

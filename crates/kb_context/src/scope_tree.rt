@@ -1,6 +1,6 @@
 //! Nested scopes of context keys, and the search from the focus outward.
 ghost use Rattle.std.specs.Prelude.{◌≡◌, ◌<◌, ℕ, List, None, Some, length, option_copied, option_and_then};
-ghost use Rattle.std.specs.Prelude.{slice_get};
+ghost use Rattle.std.specs.Prelude.{slice_get, option_map};
 ghost use Rattle.std.specs.Prelude.{IfOk, IfErr, IsSome, OnOk, OnErr, IsTrue};
 ghost use Rattle.std.specs.FinMap as map;
 ghost use Rattle.kb_context.specs.Scopes.{IsRooted, seen_from, seat_from};
@@ -9,7 +9,7 @@ use crate::draft::Draft;
 use crate::fault::{ScopeFault, UnknownScope};
 use crate::layout::{Layout, SCOPE_LIMIT, count_keys};
 use crate::value::ContextValue;
-use kb_base::{Failure, NoMemory, Text, TextMap};
+use kb_base::{Failure, HashedMap, NoMemory, Text, TextMap};
 use std::alloc::Global;
 use std::marker::Model;
 
@@ -47,14 +47,28 @@ fn look<'a>(scopes: &'a [Scope], from: usize, key: &str) -> Option<&'a ContextVa
     }
 }
 
-/// The value of a key in the scope at index `at`, if there is one.
-fn value_in_scope<'a>(scopes: &'a [Scope], at: usize, key: &str) -> Option<&'a ContextValue>
+/// The value of a key in the scope at index `at`, if there is one. It is looked for at index `near` of the
+/// scope's keys first.
+fn value_in_scope<'a>(
+    scopes: &'a [Scope],
+    at: usize,
+    near: usize,
+    key: &str,
+) -> Option<&'a ContextValue>
     ensures { option_copied result
         ≡ option_and_then (λ scope. map.get scope.keys key.now) (slice_get scopes.now at) }
 {
     match scopes.get(at) {
-        Some(scope) => scope.keys.get(key),
+        Some(scope) => scope.keys.get_near(near, key),
         None => None,
+    }
+}
+
+/// The index that a key has among those of the scope at index `at`, or 0 if the scope lacks it.
+fn index_in_scope(scopes: &[Scope], at: usize, key: &str) -> usize {
+    match scopes.get(at) {
+        Some(scope) => scope.keys.index_of(key).unwrap_or(0),
+        None => 0,
     }
 }
 
@@ -78,12 +92,12 @@ fn find_seat(scopes: &[Scope], from: usize, key: &str) -> Option<usize>
 }
 
 /// Gives each key that a scope has, from the one at index `from` outward, the index of the innermost one, in
-/// an empty map. Error: `NoMemory`.
+/// an empty map. The key's note there is its index among the keys of that scope. Error: `NoMemory`.
 fn mark(
     alloc: Global,
     scopes: &[Scope],
     from: usize,
-    flat: &mut TextMap<usize>,
+    flat: &mut HashedMap<usize>,
 ) -> Result<(), NoMemory>
     requires inside { from < length scopes.now }
     requires rooted { IsRooted scopes.now }
@@ -196,22 +210,32 @@ impl ScopeTree {
         find_seat(&self.scopes, self.focus, key)
     }
 
-    /// The value of a key in the scope at an index, if there is one.
-    pub(crate) fn value_in_seat(&self, seat: Option<&usize>, key: &str) -> Option<&ContextValue>
+    /// The value of a key in the scope at an index, if there is one. The number beside it is the index among
+    /// the keys of that scope at which the key is looked for first.
+    pub(crate) fn value_in_seat(
+        &self,
+        seat: Option<(&usize, usize)>,
+        key: &str,
+    ) -> Option<&ContextValue>
         ensures value { option_copied result
-            ≡ option_and_then (λ at. value_at self.now at key.now) (option_copied seat.entry) }
+            ≡ option_and_then (λ at. value_at self.now at key.now) (option_map (λ s. s.0.now) seat.entry) }
         ensures whole { ReachesRoot self.now }
     {
         let scopes = &self.scopes;
         match seat {
-            Some(&at) => value_in_scope(scopes, at, key),
+            Some((at, near)) => value_in_scope(scopes, *at, near, key),
             None => None,
         }
     }
 
+    /// The index that a key has among those of the scope at an index, or 0 if the scope lacks it.
+    pub(crate) fn index_in_seat(&self, seat: usize, key: &str) -> usize {
+        index_in_scope(&self.scopes, seat, key)
+    }
+
     /// Fills an empty map with the index of the innermost scope of each key that the focus sees. Error:
     /// `NoMemory`.
-    pub(crate) fn flatten(&self, flat: &mut TextMap<usize>) -> Result<(), NoMemory>
+    pub(crate) fn flatten(&self, flat: &mut HashedMap<usize>) -> Result<(), NoMemory>
         requires { flat.old ≡ map.empty }
         ensures { OnOk result (IsFlat self.now flat.new) }
     {

@@ -7,7 +7,7 @@ use crate::fault::{ScopeFault, UnknownScope};
 use crate::layout::Layout;
 use crate::scope_tree::{Scope, ScopeTree};
 use crate::value::ContextValue;
-use kb_base::{Failure, NoMemory, TextMap};
+use kb_base::{Failure, HashedMap, HashedText, NoMemory};
 use std::alloc::Global;
 use std::marker::Model;
 
@@ -17,12 +17,12 @@ use std::marker::Model;
 /// limits and the refusals are our decision. A refused call changes nothing.
 ///
 /// Contracts see the scopes and the number of changes. A flat map that they don't see has the index of the
-/// innermost scope of each key that the focus sees, as of the revision `made_at`. Both stand apart, since
-/// commands move the scopes with the core.
+/// innermost scope of each key that the focus sees, as of the revision `made_at`, and notes the index of the
+/// key there. Both stand apart, since commands move the scopes with the core.
 #[derive(Debug, Drop)]
 pub struct Scopes {
     tree: Box<ScopeTree>,
-    flat: Box<TextMap<usize>>,
+    flat: Box<HashedMap<usize>>,
     made_at: Option<u64>,
     revision: u64,
 }
@@ -45,7 +45,7 @@ impl Model for Scopes {
 /// revision, or if it is refused memory.
 fn follow(
     tree: &ScopeTree,
-    flat: &mut TextMap<usize>,
+    flat: &mut HashedMap<usize>,
     made_at: Option<u64>,
     revision: u64,
     key: &str,
@@ -57,7 +57,7 @@ fn follow(
         return None;
     }
     match tree.seat(key) {
-        Some(at) => match flat.set(tree.allocator(), key, at) {
+        Some(at) => match flat.set(tree.allocator(), key, at, tree.index_in_seat(at, key)) {
             Ok(()) => Some(revision + 1),
             Err(_) => None,
         },
@@ -88,7 +88,7 @@ impl Scopes {
     {
         Ok(Scopes {
             tree: Box::new(alloc, ScopeTree::new(alloc, layout)?)?,
-            flat: Box::new(alloc, TextMap::new(alloc))?,
+            flat: Box::new(alloc, HashedMap::new(alloc)?)?,
             made_at: None,
             revision: 0,
         })
@@ -116,7 +116,7 @@ impl Scopes {
         self.tree.focused()
     }
 
-    /// Makes the flat map for the present revision, so that `get` costs two lookups until the focus changes.
+    /// Makes the flat map for the present revision, so that `get` searches no scopes until the focus changes.
     /// It changes nothing else. At revision `u64::MAX` it does nothing. Error: `NoMemory`; `get` then
     /// searches the scopes.
     pub fn refresh(&mut self) -> Result<(), NoMemory>
@@ -144,7 +144,20 @@ impl Scopes {
         if self.made_at != Some(self.revision) {
             return self.tree.get(key);
         }
-        self.tree.value_in_seat(self.flat.get(key), key)
+        self.tree.value_in_seat(self.flat.get_text(key), key)
+    }
+
+    /// The value of a key that is visible from the focus, as `get` has it. If the flat map is up to date, it is
+    /// found by the hash that comes with the key.
+    pub fn get_hashed(&self, key: &HashedText) -> Option<&ContextValue>
+        ensures value { option_copied result ≡ map.get (context self.now.seen) key.now }
+        ensures whole { ReachesRoot self.now.seen }
+    {
+        let text = key.as_str();
+        if self.made_at != Some(self.revision) {
+            return self.tree.get(text);
+        }
+        self.tree.value_in_seat(self.flat.get(key), text)
     }
 
     /// Sets a key in the scope that is named `scope`.

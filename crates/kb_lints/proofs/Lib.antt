@@ -2,3 +2,4 @@ pub mod ListLemmas
 pub mod ShadowLemmas
 pub mod CutOffLemmas
 pub mod TakingLemmas
+pub mod ExtendedLemmas

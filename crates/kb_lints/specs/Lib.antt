@@ -1,3 +1,5 @@
 pub mod Condition
 pub mod Shadow
 pub mod CutOff
+pub mod Extended
+pub mod Taken

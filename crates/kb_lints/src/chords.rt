@@ -59,8 +59,12 @@ pub fn cut_off(
     Ok(found)
 }
 
-/// Writes the first keystrokes of a chord.
-fn beginning(alloc: Global, strokes: &[Keystroke], count: usize) -> Result<String, NoMemory> {
+/// The first keystrokes of a chord as a text.
+pub(crate) fn beginning(
+    alloc: Global,
+    strokes: &[Keystroke],
+    count: usize,
+) -> Result<String, NoMemory> {
     let mut text = String::new(alloc);
     write_strokes(&strokes[..count.min(strokes.len())], &mut text)?;
     Ok(text)
@@ -144,7 +148,7 @@ fn note_taking(
 }
 
 /// The rule at a position, if there is one.
-fn rule_at(rules: &[Rc<Rule>], position: usize) -> Option<&Rule>
+pub(crate) fn rule_at(rules: &[Rc<Rule>], position: usize) -> Option<&Rule>
     ensures { option_map (λ r. r.now) result ≡ slice_get (map (λ r. r.value) rules.now) position }
 {
     match rules.get(position) {
@@ -154,7 +158,7 @@ fn rule_at(rules: &[Rc<Rule>], position: usize) -> Option<&Rule>
 }
 
 /// Whether a rule has the keystrokes of another one and more.
-fn is_longer(rule: &Rule, other: &Rule) -> bool
+pub(crate) fn is_longer(rule: &Rule, other: &Rule) -> bool
     ensures { IsTrue result ↔ IsLonger other.now.chord rule.now }
 {
     rule.chord.len() > other.chord.len() && rule.chord.begins_with(other.chord.as_slice())

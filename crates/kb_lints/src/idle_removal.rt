@@ -1,7 +1,12 @@
 //! Removals that take nothing.
+ghost use Rattle.std.specs.Prelude.{◌≡◌, ℕ, IfOk, IfSome, IsTrue, map, option_map, slice_get};
+ghost use Rattle.kb_rules.specs.Removal.{fits_keys};
+ghost use Rattle.kb_lints.specs.Taken.{IsNamed, IsOf, IsSaid, TakesAt};
+
+use crate::chords::rule_at;
 use crate::spelling::{Operands, write_clause};
 use kb_base::NoMemory;
-use kb_keys::{Keystroke, write_strokes};
+use kb_keys::{Chord, Keystroke, write_strokes};
 use kb_rules::{Removal, Rule};
 use kb_when::Clause;
 use std::alloc::Global;
@@ -24,12 +29,16 @@ pub enum Taking {
 /// The places of rules by command and keystrokes, and by command alone.
 type Table = HashMap<String, Vec<usize>>;
 
+/// The first place of a rule by command, keystrokes and sorted clause, and by command and sorted clause.
+type Sorted = HashMap<String, usize>;
+
 /// The rules that removals may take, found by what removals name.
 #[derive(Drop)]
 pub struct RuleTargets {
     alloc: Global,
     rules: Vec<Rc<Rule>>,
     table: Table,
+    sorted: Sorted,
 }
 
 /// Writes a command and keystrokes as one text.
@@ -59,6 +68,44 @@ fn table_of(alloc: Global, rules: &[Rc<Rule>]) -> Result<Table, NoMemory> {
     Ok(table)
 }
 
+/// The table of rules with clauses.
+fn sorted_of(alloc: Global, rules: &[Rc<Rule>]) -> Result<Sorted, NoMemory> {
+    let mut sorted = HashMap::new(alloc);
+    for (place, rule) in rules.iter().enumerate() {
+        if let Some(clause) = &rule.when {
+            note_sorted(alloc, rule, clause, place, &mut sorted)?;
+        }
+    }
+    Ok(sorted)
+}
+
+/// Notes the place of a rule, unless an earlier one is noted.
+fn note_sorted(
+    alloc: Global,
+    rule: &Rule,
+    clause: &Clause,
+    place: usize,
+    sorted: &mut Sorted,
+) -> Result<(), NoMemory> {
+    let command = rule.command.as_str();
+    let clause = sorted_text(alloc, clause)?;
+    let target = target_text(alloc, command, Some(rule.chord.as_slice()))?;
+    let text = joined_text(target, clause.as_str())?;
+    sorted.entry(text)?.or_insert(place);
+    let target = target_text(alloc, command, None)?;
+    let text = joined_text(target, clause.as_str())?;
+    sorted.entry(text)?.or_insert(place);
+    Ok(())
+}
+
+/// What a removal names and a sorted clause as one text.
+fn joined_text(target: String, clause: &str) -> Result<String, NoMemory> {
+    let mut text = target;
+    text.push('\n')?;
+    text.push_str(clause)?;
+    Ok(text)
+}
+
 /// The text of what a removal names.
 fn text_of(alloc: Global, removal: &Removal) -> Result<String, NoMemory> {
     let command = removal.command.as_str();
@@ -71,61 +118,126 @@ fn text_of(alloc: Global, removal: &Removal) -> Result<String, NoMemory> {
 impl RuleTargets {
     /// These rules.
     pub fn new(alloc: Global, rules: Vec<Rc<Rule>>) -> Result<RuleTargets, NoMemory> {
-        match table_of(alloc, rules.as_slice()) {
-            Ok(table) => Ok(RuleTargets {
-                alloc,
-                rules,
-                table,
-            }),
-            Err(refused) => {
-                drop(rules);
-                Err(refused)
-            }
-        }
+        let table = table_of(alloc, rules.as_slice())?;
+        let sorted = sorted_of(alloc, rules.as_slice())?;
+        Ok(RuleTargets {
+            alloc,
+            rules,
+            table,
+            sorted,
+        })
     }
 
     /// The rule at a place.
-    pub fn at(&self, place: usize) -> Option<&Rc<Rule>> {
+    pub fn at(&self, place: usize) -> Option<&Rc<Rule>>
+        ensures { option_map (λ r. r.now.value) result ≡ slice_get (map (λ r. r.value) self.now.rules.items) place }
+    {
         self.rules.as_slice().get(place)
     }
 
-    /// The place of a rule of a command, if there is one.
-    fn rule_of(&self, command: &str) -> Option<usize> {
-        let places = self.table.get(command)?;
-        places.as_slice().first().copied()
+    /// What a removal takes of the rules.
+    pub fn taken_by(&self, removal: &Removal) -> Result<Taking, NoMemory>
+        ensures { IfOk result (IsSaid removal.now (map (λ r. r.value) self.now.rules.items)) }
+    {
+        let text = text_of(self.alloc, removal)?;
+        if self.takes_of(removal, text.as_str()) {
+            return Ok(Taking::Rules);
+        }
+        if let Some(place) = self.but_for_order(removal, text)? {
+            return Ok(Taking::ButForOrder(place));
+        }
+        match self.rule_of(removal.command.as_str()) {
+            Some(place) => Ok(Taking::OtherRule(place)),
+            None => Ok(Taking::NoRule),
+        }
     }
 
-    /// What a removal takes of the rules.
-    pub fn taken_by(&self, removal: &Removal) -> Result<Taking, NoMemory> {
-        let text = text_of(self.alloc, removal)?;
-        if let Some(places) = self.table.get(text.as_str()) {
-            if takes_one(removal, self.rules.as_slice(), places.as_slice()) {
-                return Ok(Taking::Rules);
-            }
-            let near = but_for_order(
-                self.alloc,
-                removal,
-                self.rules.as_slice(),
-                places.as_slice(),
-            )?;
-            if let Some(place) = near {
-                return Ok(Taking::ButForOrder(place));
-            }
+    /// The place of a rule of a command, if there is one.
+    fn rule_of(&self, command: &str) -> Option<usize>
+        ensures { IfSome result (IsOf command.now (map (λ r. r.value) self.now.rules.items)) }
+    {
+        let places = self.table.get(command)?;
+        let place = *places.as_slice().first()?;
+        if is_of(self.rules.as_slice(), place, command) {
+            return Some(place);
         }
-        Ok(match self.rule_of(removal.command.as_str()) {
-            Some(place) => Taking::OtherRule(place),
-            None => Taking::NoRule,
-        })
+        None
+    }
+
+    /// Whether a removal takes one of the rules under the text of what it names.
+    fn takes_of(&self, removal: &Removal, text: &str) -> bool
+        ensures { IsTrue result → (place : ℕ) × TakesAt removal.now (map (λ r. r.value) self.now.rules.items) place }
+    {
+        match self.table.get(text) {
+            Some(places) => takes_one(removal, self.rules.as_slice(), places.as_slice()),
+            None => false,
+        }
+    }
+
+    /// The first place of a rule of what a removal names that has its clause but for the order of operands.
+    fn but_for_order(&self, removal: &Removal, target: String) -> Result<Option<usize>, NoMemory>
+        ensures { IfOk result (λ near. IfSome near (IsNamed removal.now
+            (map (λ r. r.value) self.now.rules.items))) }
+    {
+        let Some(clause) = &removal.when else {
+            return Ok(None);
+        };
+        let clause = sorted_text(self.alloc, clause)?;
+        let text = joined_text(target, clause.as_str())?;
+        let near = self.sorted.get(text.as_str()).copied();
+        Ok(named_at(self.rules.as_slice(), removal, near))
+    }
+}
+
+/// Whether the rule at a place has a command.
+fn is_of(rules: &[Rc<Rule>], place: usize, command: &str) -> bool
+    ensures { IsTrue result → IsOf command.now (map (λ r. r.value) rules.now) place }
+{
+    match rule_at(rules, place) {
+        Some(rule) => command == rule.command.as_str(),
+        None => false,
+    }
+}
+
+/// Whether keystrokes, or none, are those of a chord.
+fn fits_keys(keys: &Option<Chord>, chord: &Chord) -> bool
+    ensures { result ≡ fits_keys keys.now chord.now }
+{
+    match keys {
+        Some(keys) => keys.same_keys(chord),
+        None => true,
+    }
+}
+
+/// A place, if its rule has the command of a removal, and the keystrokes that it has.
+fn named_at(rules: &[Rc<Rule>], removal: &Removal, place: Option<usize>) -> Option<usize>
+    ensures { IfSome result (IsNamed removal.now (map (λ r. r.value) rules.now)) }
+{
+    let place = place?;
+    let rule = rule_at(rules, place)?;
+    if removal.command.as_str() == rule.command.as_str() && fits_keys(&removal.chord, &rule.chord) {
+        return Some(place);
+    }
+    None
+}
+
+/// Whether a removal takes the rule at a place.
+fn takes_at(removal: &Removal, rules: &[Rc<Rule>], place: usize) -> bool
+    ensures { IsTrue result → TakesAt removal.now (map (λ r. r.value) rules.now) place }
+{
+    match rule_at(rules, place) {
+        Some(rule) => removal.takes(rule),
+        None => false,
     }
 }
 
 /// Whether a removal takes the rule at one of these places.
-fn takes_one(removal: &Removal, rules: &[Rc<Rule>], places: &[usize]) -> bool {
+fn takes_one(removal: &Removal, rules: &[Rc<Rule>], places: &[usize]) -> bool
+    ensures { IsTrue result → (place : ℕ) × TakesAt removal.now (map (λ r. r.value) rules.now) place }
+{
     for place in places {
-        if let Some(rule) = rules.get(*place) {
-            if removal.takes(rule) {
-                return true;
-            }
+        if takes_at(removal, rules, *place) {
+            return true;
         }
     }
     false
@@ -136,34 +248,4 @@ fn sorted_text(alloc: Global, clause: &Clause) -> Result<String, NoMemory> {
     let mut text = String::new(alloc);
     write_clause(alloc, clause, Operands::Sorted, &mut text)?;
     Ok(text)
-}
-
-/// The first of these places whose rule has the removal's clause but for the order of operands.
-fn but_for_order(
-    alloc: Global,
-    removal: &Removal,
-    rules: &[Rc<Rule>],
-    places: &[usize],
-) -> Result<Option<usize>, NoMemory> {
-    let Some(clause) = &removal.when else {
-        return Ok(None);
-    };
-    let own = sorted_text(alloc, clause)?;
-    for place in places {
-        if let Some(rule) = rules.get(*place) {
-            if is_spelled(alloc, rule, own.as_str())? {
-                return Ok(Some(*place));
-            }
-        }
-    }
-    Ok(None)
-}
-
-/// Whether the sorted spelling of a rule's clause is this one.
-fn is_spelled(alloc: Global, rule: &Rule, own: &str) -> Result<bool, NoMemory> {
-    let Some(clause) = &rule.when else {
-        return Ok(false);
-    };
-    let text = sorted_text(alloc, clause)?;
-    Ok(text.as_str() == own)
 }

@@ -8,13 +8,16 @@ pub mod chords;
 pub mod condition;
 pub mod idle_removal;
 pub mod laws;
+pub mod longer;
 pub mod near;
+mod seen;
 pub mod shadow;
 pub mod spelling;
 
 pub use chords::{CutOff, cut_off};
 pub use condition::{covers, is_unconditional};
 pub use idle_removal::{RuleTargets, Taking};
+pub use longer::{Extended, extended_rules};
 pub use near::{alias_of, is_near};
 pub use shadow::{Shadowed, never_start};
 pub use spelling::{Operands, write_clause};

@@ -3,13 +3,12 @@ ghost use Rattle.std.specs.Prelude.{◌≡◌, All, IfOk, IfSome, map};
 ghost use Rattle.kb_resolve.specs.Enablements.{enablement_in};
 ghost use Rattle.kb_lints.specs.Shadow.{IsShadowed};
 
-use crate::condition::{covers, is_unconditional};
-use crate::spelling::{Operands, write_clause};
+use crate::condition::covers;
+use crate::seen::{Conditions, Seen};
 use kb_base::NoMemory;
 use kb_resolve::Enablements;
 use kb_rules::Rule;
 use std::alloc::Global;
-use std::collections::HashMap;
 use std::rc::Rc;
 
 /// A rule that can never start, and one that takes its keystrokes, by their positions among the rules in force.
@@ -20,9 +19,6 @@ pub struct Shadowed {
     /// The position of the lower rule.
     pub by: usize,
 }
-
-/// The lowest rules that were seen of each keystrokes, by what is written of the rules.
-type Seen = HashMap<String, usize>;
 
 /// The rules that can never start, from the bottom to the top: each has a lower rule with the same keystrokes that
 /// may start whenever it may. Of several of them the lowest without a clause is named, or else the lowest with the
@@ -35,7 +31,7 @@ pub fn never_start(
     ensures { IfOk result (λ found. All (λ s. IsShadowed (enablement_in enablements.now)
         (map (λ r. r.value) rules.now) s.position s.by) found.items) }
 {
-    let mut seen = HashMap::new(alloc);
+    let mut seen = Seen::new(alloc);
     let mut found = Vec::new(alloc);
     for position in (0..rules.len()).rev() {
         if let Some(by) = note(alloc, rules, position, enablements, &mut seen)? {
@@ -60,32 +56,17 @@ fn note(
         return Ok(None);
     };
     let keys = rule.chord.text(alloc)?;
+    let conditions = Conditions::of(rule, enablements);
     let place = Place {
         rules,
         position,
         enablements,
     };
-    if let Some(by) = place.taken_by(seen.get(keys.as_str())) {
+    if let Some(by) = place.taken_by(seen.covering(keys.as_str(), conditions)?) {
         return Ok(Some(by));
     }
-    let whole = whole_text(alloc, keys.as_str(), rule)?;
-    if let Some(by) = place.taken_by(seen.get(whole.as_str())) {
-        return Ok(Some(by));
-    }
-    if is_unconditional(rule, enablements) {
-        seen.insert(keys, position)?;
-    }
-    seen.insert(whole, position)?;
+    seen.note(keys.as_str(), conditions, position)?;
     Ok(None)
-}
-
-/// The keystrokes and the clause of a rule as one text, which is no text of keystrokes.
-fn whole_text(alloc: Global, keys: &str, rule: &Rule) -> Result<String, NoMemory> {
-    let mut text = format!(in alloc; "{keys}\n")?;
-    if let Some(clause) = &rule.when {
-        write_clause(alloc, clause, Operands::InOrder, &mut text)?;
-    }
-    Ok(text)
 }
 
 /// A rule by its position.
@@ -98,11 +79,11 @@ struct Place<'a> {
 
 impl<'a> Place<'a> {
     /// The position of a lower rule, if it has the same keystrokes and may start whenever this one may.
-    fn taken_by(&self, by: Option<&usize>) -> Option<usize>
+    fn taken_by(&self, by: Option<usize>) -> Option<usize>
         ensures { IfSome result (IsShadowed (enablement_in self.now.enablements.now)
             (map (λ r. r.value) self.now.rules.now) self.now.position) }
     {
-        let by = *by?;
+        let by = by?;
         let upper = self.rules.get(self.position)?;
         let lower = self.rules.get(by)?;
         if self.position < by

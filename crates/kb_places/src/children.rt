@@ -67,9 +67,22 @@ fn member_from(text: &[u8], from: usize) -> Member {
     }
 }
 
-/// Whether the part of a text is a string that reads as this one.
+/// Whether a text is this name in quotes.
+fn is_quoted(text: &[u8], name: &str) -> bool {
+    match text {
+        [b'"', inner @ .., b'"'] => inner == name.as_bytes(),
+        _ => false,
+    }
+}
+
+/// Whether the part of a text is a string that reads as this one. A string without escapes is compared by its
+/// bytes.
 fn is_named(alloc: Global, text: &[u8], part: Span, name: &str) -> Result<bool, NoMemory> {
-    let Ok(quoted) = str::from_utf8(part_of(text, part)) else {
+    let quoted = part_of(text, part);
+    if !quoted.contains(&b'\\') {
+        return Ok(is_quoted(quoted, name));
+    }
+    let Ok(quoted) = str::from_utf8(quoted) else {
         return Ok(false);
     };
     match Value::from_str(alloc, quoted) {

@@ -2,7 +2,7 @@
 ghost use Rattle.std.specs.Prelude.{◌≡◌, IfOk};
 
 use crate::scan::string_end;
-use kb_base::NoMemory;
+use kb_base::{NoMemory, is_blank};
 use kb_jsonc::{JsoncFault, plain};
 use serde_json::Value;
 use std::alloc::{AllocError, Global};
@@ -104,7 +104,36 @@ fn syntax_place(alloc: Global, text: &str) -> Result<usize, NoMemory> {
     match Value::from_str(alloc, text) {
         Ok(_) => Ok(0),
         Err(error) if error.is_memory() => Err(AllocError),
-        Err(error) => Ok(index_of(text.as_bytes(), error.line(), error.column())),
+        Err(error) => {
+            let at = index_of(text.as_bytes(), error.line(), error.column());
+            Ok(wrong_bracket(alloc, text, at)?.unwrap_or(at))
+        }
+    }
+}
+
+/// The index of the last byte before `at` that isn't blank, if there is one.
+fn last_before(text: &[u8], at: usize) -> Option<usize> {
+    text[..at.min(text.len())]
+        .iter()
+        .rposition(|byte| !is_blank(*byte))
+}
+
+/// The index of the closing bracket before `at`, if it is wrong: then the text up to it is no beginning of a JSON
+/// text. The reader names the place behind a bracket that closes nothing or closes too early.
+fn wrong_bracket(alloc: Global, text: &str, at: usize) -> Result<Option<usize>, NoMemory> {
+    let Some(last) = last_before(text.as_bytes(), at) else {
+        return Ok(None);
+    };
+    let Some(front) = text.get(..last.saturating_add(1)) else {
+        return Ok(None);
+    };
+    if !front.ends_with('}') && !front.ends_with(']') {
+        return Ok(None);
+    }
+    match Value::from_str(alloc, front) {
+        Ok(_) => Ok(None),
+        Err(error) if error.is_memory() => Err(AllocError),
+        Err(error) => Ok((!error.is_eof()).then_some(last)),
     }
 }
 

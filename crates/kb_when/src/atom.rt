@@ -16,7 +16,7 @@ use crate::operator::Operator;
 use crate::token::Token;
 use crate::tree::Tree;
 use crate::words::{is_reserved, is_word};
-use kb_base::{NoMemory, Text};
+use kb_base::{HashedText, NoMemory, Text};
 use kb_pattern::{Flags, Pattern};
 use std::alloc::Global;
 use std::rc::Rc;
@@ -255,19 +255,26 @@ fn leaf_tree(alloc: Global, leaf: Leaf) -> Result<Tree, NoMemory>
     Ok(Tree::atom(Rc::new(alloc, leaf)?))
 }
 
+/// A copy of a key, with its hash. Error: `NoMemory`.
+fn hashed(key: &Text) -> Result<HashedText, NoMemory>
+    ensures { IfOk result (λ made. made ≡ key.now) }
+{
+    Ok(HashedText::new(key.copied()?))
+}
+
 /// The tree of a key alone. Error: `NoMemory`.
 fn key_tree(alloc: Global, key: &Text) -> Result<Tree, NoMemory>
     ensures { IfOk result (λ t. clause_of t ≡ key_clause key.now) }
 {
-    leaf_tree(alloc, Leaf::Key(key.copied()?))
+    leaf_tree(alloc, Leaf::Key(hashed(key)?))
 }
 
-/// Copies of two texts. Error: `NoMemory`.
-fn both(first: &Text, second: &Text) -> Result<(Text, Text), NoMemory>
-    ensures { IfOk result (λ texts. texts ≡ (first.now, second.now)) }
+/// Copies of a key and of a text. Error: `NoMemory`.
+fn both(key: &Text, text: &Text) -> Result<(HashedText, Text), NoMemory>
+    ensures { IfOk result (λ texts. texts ≡ (key.now, text.now)) }
 {
-    let first = first.copied()?;
-    Ok((first, second.copied()?))
+    let key = hashed(key)?;
+    Ok((key, text.copied()?))
 }
 
 /// The tree of a key and the text that its value must equal. Error: `NoMemory`.
@@ -287,7 +294,7 @@ fn compare_tree(
 ) -> Result<Tree, NoMemory>
     ensures { IfOk result (λ t. clause_of t ≡ compare key.now operator number) }
 {
-    leaf_tree(alloc, Leaf::Compare(key.copied()?, operator, number))
+    leaf_tree(alloc, Leaf::Compare(hashed(key)?, operator, number))
 }
 
 /// The tree of a key and the pattern that its value must match. Error: `NoMemory`.
@@ -304,7 +311,7 @@ fn member_tree(alloc: Global, key: &Text, other: &Text) -> Result<Tree, NoMemory
     ensures { IfOk result (λ t. clause_of t ≡ member key.now other.now) }
 {
     let (key, other) = both(key, other)?;
-    leaf_tree(alloc, Leaf::Member(key, other))
+    leaf_tree(alloc, Leaf::Member(key, HashedText::new(other)))
 }
 
 impl Atom<'_> {

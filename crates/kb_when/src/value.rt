@@ -10,7 +10,7 @@ use crate::leaf::Leaf;
 use crate::number::{is_spelling, read_number};
 use crate::operator::Operator;
 use itoa::Buffer;
-use kb_base::{NoMemory, Seq, Text};
+use kb_base::{HashedText, NoMemory, Seq, Text};
 use kb_context::{ContextValue, Scopes};
 use kb_pattern::Pattern;
 use std::alloc::Global;
@@ -105,42 +105,47 @@ fn member_of(value: Option<&ContextValue>, other: Option<&ContextValue>) -> bool
 }
 
 /// Whether a key alone holds in these scopes.
-fn key_in(scopes: &Scopes, key: &Text) -> bool
+fn key_in(scopes: &Scopes, key: &HashedText) -> bool
     ensures { result ≡ key_holds (get (context scopes.now.seen) key.now) }
 {
-    key_of(scopes.get(key.as_str()))
+    key_of(scopes.get_hashed(key))
 }
 
 /// Whether a key's value in these scopes is this text, or a number whose decimal form is this text.
-fn equals_in(scopes: &Scopes, key: &Text, text: &Text) -> bool
+fn equals_in(scopes: &Scopes, key: &HashedText, text: &Text) -> bool
     ensures { result ≡ equals_holds (get (context scopes.now.seen) key.now) text.now }
 {
-    equals_of(scopes.get(key.as_str()), text.as_str())
+    equals_of(scopes.get_hashed(key), text.as_str())
 }
 
 /// Whether the comparison holds for a key's value in these scopes.
-fn compare_in(scopes: &Scopes, key: &Text, operator: Operator, number: i64) -> bool
+fn compare_in(scopes: &Scopes, key: &HashedText, operator: Operator, number: i64) -> bool
     ensures { result ≡ compare_holds (get (context scopes.now.seen) key.now) operator number }
 {
-    compare_of(scopes.get(key.as_str()), operator, number)
+    compare_of(scopes.get_hashed(key), operator, number)
 }
 
 /// Whether the pattern matches a key's value in these scopes. Error: `NoMemory`, only if the pattern is not
 /// marked as unread.
-fn match_in(alloc: Global, scopes: &Scopes, key: &Text, pattern: &Pattern) -> Result<bool, NoMemory>
+fn match_in(
+    alloc: Global,
+    scopes: &Scopes,
+    key: &HashedText,
+    pattern: &Pattern,
+) -> Result<bool, NoMemory>
     ensures value { IfOk result (λ holds.
         holds ≡ match_holds (get (context scopes.now.seen) key.now) pattern.now) }
     ensures memory { IfErr result (λ _. pattern.now.unread ≡ false) }
 {
-    match_of(alloc, scopes.get(key.as_str()), pattern)
+    match_of(alloc, scopes.get_hashed(key), pattern)
 }
 
 /// Whether the other key's value in these scopes contains this key's value.
-fn member_in(scopes: &Scopes, key: &Text, other: &Text) -> bool
+fn member_in(scopes: &Scopes, key: &HashedText, other: &HashedText) -> bool
     ensures { result ≡
         member_holds (get (context scopes.now.seen) key.now) (get (context scopes.now.seen) other.now) }
 {
-    member_of(scopes.get(key.as_str()), scopes.get(other.as_str()))
+    member_of(scopes.get_hashed(key), scopes.get_hashed(other))
 }
 
 impl Leaf {

@@ -9,7 +9,7 @@ returns-clause-value c =
     let fresh : c.self.inside.made_at ≡ Some c.self.inside.revision = search rules in
     c.value_in_seat.ensures.value
     ∙ ap (option_and_then (λ at. value_at c.deref-2.result.now at c.args.key.now))
-    (c.get-2.ensures
+    (c.get_text.ensures
     ∙ ap (λ (m : Places). map.get m c.args.key.now) c.deref-3.ensures
     ∙ c.self.invariant.same fresh c.args.key.now)
     ∙ ap (λ (s : ScopesData). option_and_then (λ at. value_at s at c.args.key.now)

@@ -1,0 +1,10 @@
+use Rattle.std.proofs.Common.{rules, ◌≡◌, ◌++◌, ◌∷◌, [], subst, sym}
+use Rattle.kb_check_report.specs.Starts.{AreSound}
+use Rattle.kb_check_report.proofs.StartLemmas.{sound_adds}
+use Rattle.kb_check_report.proofs.problems.add_lint.Goals as goal
+
+pub returns-clause-sound : goal.returns-clause-sound
+returns-clause-sound c = λ enablement in_force rest all before.
+    let items : c.push.new.self.items ≡ c.args.problems.now.items ++ c.args.lint ∷ [] = search rules in
+    subst (AreSound enablement in_force) (sym items)
+    (sound_adds enablement in_force c.args.problems.now.items c.args.lint rest all before)

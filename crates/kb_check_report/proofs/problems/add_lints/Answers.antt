@@ -1,0 +1,23 @@
+use Rattle.std.proofs.Common.{◌≡◌, ◌∙◌, ◌∷◌, subst}
+use Rattle.std.specs.Vec.Iter.{into_iter_items}
+use Rattle.kb_check_report.specs.Starts.{AreSound}
+use Rattle.kb_check_report.proofs.StartLemmas.{others_sound}
+use Rattle.kb_check_report.proofs.problems.add_lints.Goals as goal
+
+pub loop-lint-preserved : goal.loop-lint-preserved
+loop-lint-preserved c =
+    let kept = c.loop-lint.invariant in
+    let added = c.in_ok-add_lint.ensures in
+    let rest = into_iter_items c.next.new.self in
+    let steps : into_iter_items c.loop-lint.lint-iterator ≡ c.in-Some.lint ∷ rest = c.in-Some.ensures.steps.0 in
+    record {
+      warnings = added.warnings ∙ kept.warnings;
+      wanted = λ before. added.wanted (kept.wanted before);
+      left = λ enablement rules all.
+          others_sound enablement rules c.in-Some.lint rest
+          (subst (AreSound enablement rules) steps (kept.left enablement rules all));
+      sound = λ enablement rules all before.
+          added.sound enablement rules rest
+          (subst (AreSound enablement rules) steps (kept.left enablement rules all))
+          (kept.sound enablement rules all before);
+    }

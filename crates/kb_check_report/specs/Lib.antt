@@ -1,0 +1,4 @@
+pub mod Choices
+pub mod Cause
+pub mod Starts
+pub mod Problems

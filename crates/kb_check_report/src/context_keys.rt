@@ -1,0 +1,270 @@
+//! Context keys that no scope of the layout has at first.
+ghost use Rattle.std.specs.Prelude.{◌≡◌, OnOk};
+ghost use Rattle.kb_check_report.specs.Starts.{never_said};
+
+use crate::cause::Lint;
+use crate::faulty::clause_member;
+use crate::member_lints::linted;
+use crate::opened::{Opened, OpenedFiles};
+use crate::problem::{Problem, push_other};
+use kb_base::{NoMemory, Origin, Part};
+use kb_context::Scopes;
+use kb_files::Extension;
+use kb_manifest::{Command, CommandTable, PaletteItem};
+use kb_rules::Rule;
+use kb_when::{Clause, Leaf, SharedClause, Tree};
+use std::alloc::Global;
+use std::collections::HashMap;
+use std::rc::Rc;
+
+/// The keys that scopes have.
+type KnownKeys = HashMap<String, ()>;
+
+/// Adds the keys of a scope.
+fn add_keys(alloc: Global, keys: &[&str], all: &mut KnownKeys) -> Result<(), NoMemory> {
+    for key in keys {
+        all.insert(String::from_str(alloc, *key)?, ())?;
+    }
+    Ok(())
+}
+
+/// The keys that some scope has.
+fn keys_of(alloc: Global, scopes: &Scopes) -> Result<KnownKeys, NoMemory> {
+    let mut all = HashMap::new(alloc);
+    for scope in scopes.scopes() {
+        let keys = scope.keys.keys(alloc)?;
+        add_keys(alloc, keys.as_slice(), &mut all)?;
+    }
+    Ok(all)
+}
+
+/// The first key of an atom that no scope has.
+fn unknown_in<'t>(leaf: &'t Leaf, known: &KnownKeys) -> Option<&'t str> {
+    match leaf {
+        Leaf::Key(key) | Leaf::Equals(key, _) | Leaf::Compare(key, _, _) | Leaf::Matches(key, _) =>
+            unknown_key(key.as_str(), known),
+        Leaf::Member(key, list) => match unknown_key(key.as_str(), known) {
+            Some(key) => Some(key),
+            None => unknown_key(list.as_str(), known),
+        },
+    }
+}
+
+/// The first key of a tree that no scope has.
+#[cycle(keys)]
+fn first_unknown<'t>(tree: &'t Tree, known: &KnownKeys) -> Option<&'t str> {
+    match tree {
+        Tree::Atom(leaf) => unknown_in(leaf, known),
+        Tree::Not(tree) => first_unknown(tree, known),
+        Tree::And(trees) => first_unknown_among(trees.as_slice(), known),
+        Tree::Or(trees) => first_unknown_among(trees.as_slice(), known),
+        Tree::True | Tree::False => None,
+    }
+}
+
+/// The first key of some trees that no scope has.
+#[cycle(keys)]
+fn first_unknown_among<'t>(trees: &'t [Tree], known: &KnownKeys) -> Option<&'t str> {
+    for tree in trees {
+        if let Some(key) = first_unknown(tree, known) {
+            return Some(key);
+        }
+    }
+    None
+}
+
+/// A key, if no scope has it.
+fn unknown_key<'t>(key: &'t str, known: &KnownKeys) -> Option<&'t str> {
+    if known.contains_key(key) {
+        None
+    } else {
+        Some(key)
+    }
+}
+
+/// Adds the clauses with a key that no scope of the layout has at first, each with its first such key: those
+/// of these rules, and those of the commands and the items of the palette of all extensions.
+pub fn add_unknown_keys(
+    alloc: Global,
+    files: &OpenedFiles<'_>,
+    rules: &[Rc<Rule>],
+    extensions: &[Extension],
+    scopes: &Scopes,
+    problems: &mut Vec<Problem>,
+) -> Result<(), NoMemory>
+    ensures { OnOk result (never_said problems.new.items ≡ never_said problems.old.items) }
+{
+    let known = keys_of(alloc, scopes)?;
+    for rule in rules {
+        add_of_rule(alloc, files, rule, &known, problems)?;
+    }
+    add_of_extensions(alloc, files, extensions, &known, problems)?;
+    Ok(())
+}
+
+/// Adds the clause of a rule, if it has a key that isn't known.
+fn add_of_rule(
+    alloc: Global,
+    files: &OpenedFiles<'_>,
+    rule: &Rule,
+    known: &KnownKeys,
+    problems: &mut Vec<Problem>,
+) -> Result<(), NoMemory>
+    ensures { OnOk result (never_said problems.new.items ≡ never_said problems.old.items) }
+{
+    let Some(clause) = &rule.when else {
+        return Ok(());
+    };
+    let Some(opened) = files.of(rule.origin) else {
+        return Ok(());
+    };
+    add_clause(
+        alloc,
+        opened,
+        Part::Keybindings,
+        rule.place,
+        clause,
+        known,
+        problems,
+    )?;
+    Ok(())
+}
+
+/// Adds the clauses of the commands and of the items of the palette of extensions.
+fn add_of_extensions(
+    alloc: Global,
+    files: &OpenedFiles<'_>,
+    extensions: &[Extension],
+    known: &KnownKeys,
+    problems: &mut Vec<Problem>,
+) -> Result<(), NoMemory>
+    ensures { OnOk result (never_said problems.new.items ≡ never_said problems.old.items) }
+{
+    for extension in extensions {
+        let Some(opened) = files.of(Origin::Extension(extension.number)) else {
+            continue;
+        };
+        let manifest = &extension.manifest;
+        add_of_commands(alloc, opened, &manifest.commands, known, problems)?;
+        add_of_items(alloc, opened, manifest.palette.as_slice(), known, problems)?;
+    }
+    Ok(())
+}
+
+/// Adds the enablements of commands that have a key that isn't known.
+fn add_of_commands(
+    alloc: Global,
+    opened: &Opened<'_>,
+    commands: &CommandTable,
+    known: &KnownKeys,
+    problems: &mut Vec<Problem>,
+) -> Result<(), NoMemory>
+    ensures { OnOk result (never_said problems.new.items ≡ never_said problems.old.items) }
+{
+    for number in 0..commands.len() {
+        let Some((_, command)) = commands.at(number) else {
+            continue;
+        };
+        add_of_command(alloc, opened, command, known, problems)?;
+    }
+    Ok(())
+}
+
+/// Adds the enablement of a command, if it has a key that isn't known.
+fn add_of_command(
+    alloc: Global,
+    opened: &Opened<'_>,
+    command: &Command,
+    known: &KnownKeys,
+    problems: &mut Vec<Problem>,
+) -> Result<(), NoMemory>
+    ensures { OnOk result (never_said problems.new.items ≡ never_said problems.old.items) }
+{
+    let clause = command.enablement.as_ref();
+    add_shared(
+        alloc,
+        opened,
+        Part::Commands,
+        command.place,
+        clause,
+        known,
+        problems,
+    )?;
+    Ok(())
+}
+
+/// Adds the clauses of items of the palette that have a key that isn't known.
+fn add_of_items(
+    alloc: Global,
+    opened: &Opened<'_>,
+    items: &[PaletteItem],
+    known: &KnownKeys,
+    problems: &mut Vec<Problem>,
+) -> Result<(), NoMemory>
+    ensures { OnOk result (never_said problems.new.items ≡ never_said problems.old.items) }
+{
+    for item in items {
+        let clause = item.when.as_ref();
+        add_shared(
+            alloc,
+            opened,
+            Part::Palette,
+            item.place,
+            clause,
+            known,
+            problems,
+        )?;
+    }
+    Ok(())
+}
+
+/// Adds the clause of an entry, if it has one, with a key that isn't known.
+fn add_shared(
+    alloc: Global,
+    opened: &Opened<'_>,
+    part: Part,
+    place: usize,
+    clause: Option<&SharedClause>,
+    known: &KnownKeys,
+    problems: &mut Vec<Problem>,
+) -> Result<(), NoMemory>
+    ensures { OnOk result (never_said problems.new.items ≡ never_said problems.old.items) }
+{
+    let Some(clause) = clause else {
+        return Ok(());
+    };
+    add_clause(
+        alloc,
+        opened,
+        part,
+        place,
+        clause.as_clause(),
+        known,
+        problems,
+    )?;
+    Ok(())
+}
+
+/// Adds the clause of an entry, if it has a key that isn't known.
+fn add_clause(
+    alloc: Global,
+    opened: &Opened<'_>,
+    part: Part,
+    place: usize,
+    clause: &Clause,
+    known: &KnownKeys,
+    problems: &mut Vec<Problem>,
+) -> Result<(), NoMemory>
+    ensures { OnOk result (never_said problems.new.items ≡ never_said problems.old.items) }
+{
+    let Some(key) = first_unknown(clause.tree(), known) else {
+        return Ok(());
+    };
+    let span = opened.member(alloc, part, place, clause_member(part))?;
+    let sentence = format!(in alloc; "no scope of the layout has the context key `{key}`")?;
+    push_other(
+        linted(opened, Lint::UnknownContextKey, span, sentence),
+        problems,
+    )?;
+    Ok(())
+}

@@ -1,0 +1,268 @@
+//! What a refused `handlers.json` is wrong in.
+use crate::commands::{TakenNames, taken_names};
+use crate::entries::{entries_at, span_at, span_of_member};
+use crate::layout_culprit::said;
+use crate::meaning::{code_meaning, verdict_meaning};
+use crate::refusal::Said;
+use kb_base::{Failure, NoMemory, Refusal};
+use kb_handler_file::HandlerFile;
+use kb_places::{Source, Span};
+use kb_source_files::ExtensionSource;
+use serde_json::{Map, Value};
+use std::alloc::{AllocError, Global};
+
+/// What is wrong with the file of handlers of an extension, behind these extensions: where, and a sentence.
+pub fn handlers_culprit(
+    alloc: Global,
+    earlier: &[ExtensionSource<'_>],
+    source: &Source<'_>,
+    refusal: &Refusal,
+) -> Result<Said, NoMemory> {
+    let value = source.value();
+    let whole = source.whole();
+    if let Some(sentence) = wrong_head(value) {
+        return said(alloc, whole, sentence);
+    }
+    let Some(handlers) = value.get("handlers").and_then(Value::as_array) else {
+        return said(alloc, whole, "`handlers` has to be a list");
+    };
+    let span = span_at(alloc, source, &["handlers"])?;
+    let list = entries_at(alloc, source, span)?;
+    let spans = list.spans.as_slice();
+    match refusal.number {
+        60..=69 => unaccepted(alloc, source, handlers.as_slice(), spans, refusal),
+        70 => taken(alloc, earlier, source, handlers.as_slice(), spans),
+        _ => misread(alloc, source, handlers.as_slice(), spans, refusal.number),
+    }
+}
+
+/// What the members of a file are wrong in, before its handlers are looked at.
+fn wrong_head(value: &Value) -> Option<&'static str> {
+    if !value.is_object() {
+        return Some("a handlers.json has to be an object with `version` and `handlers`");
+    }
+    match value.get("version") {
+        None => return Some("the handlers.json has no member `version`"),
+        Some(version) => match version.as_i64() {
+            Some(number) if number == 1 || number == 2 => {}
+            _ => return Some("`version` has to be 1 or 2"),
+        },
+    }
+    match value.get("handlers") {
+        None => Some("the handlers.json has no member `handlers`"),
+        Some(handlers) => match handlers.as_array() {
+            None => Some("`handlers` has to be a list"),
+            Some(list) if list.len() > 1_000 => Some("there are more than 1,000 handlers"),
+            Some(_) => None,
+        },
+    }
+}
+
+/// The place of the handler of a command.
+fn place_of(handlers: &[Value], command: &str) -> Option<usize> {
+    for (place, handler) in handlers.iter().enumerate() {
+        if handler.get("command").and_then(Value::as_str) == Some(command) {
+            return Some(place);
+        }
+    }
+    None
+}
+
+/// Where a member of the handler at a place is, or else the handler, or else the file.
+fn span_in(
+    alloc: Global,
+    source: &Source<'_>,
+    spans: &[Span],
+    place: Option<usize>,
+    member: &str,
+) -> Result<Span, NoMemory> {
+    let Some(place) = place else {
+        return Ok(source.whole());
+    };
+    let Some(span) = spans.get(place) else {
+        return Ok(source.whole());
+    };
+    let inner = span_of_member(alloc, source, *span, member)?;
+    Ok(inner.unwrap_or(*span))
+}
+
+/// What is said of a handler that isn't accepted.
+fn unaccepted(
+    alloc: Global,
+    source: &Source<'_>,
+    handlers: &[Value],
+    spans: &[Span],
+    refusal: &Refusal,
+) -> Result<Said, NoMemory> {
+    let detail = match &refusal.detail {
+        Some(detail) => detail.as_str(),
+        None => "",
+    };
+    let (command, at) = match detail.rsplit_once(' ') {
+        Some((command, at)) => (command, at),
+        None => (detail, ""),
+    };
+    let span = span_in(alloc, source, spans, place_of(handlers, command), "code")?;
+    let meaning = verdict_meaning(refusal.number);
+    let sentence = format!(in alloc;
+        "the handler `{command}` isn't accepted, at place {at}: {meaning}; keycheck handlers says more"
+    )?;
+    Ok((Some(span), sentence))
+}
+
+/// The command of a handler, or the empty text.
+fn command_of(handler: &Value) -> &str {
+    handler.get("command").and_then(Value::as_str).unwrap_or("")
+}
+
+/// The place of the first handler whose name is taken.
+fn first_taken(handlers: &[Value], names: &TakenNames) -> Option<usize> {
+    for (place, handler) in handlers.iter().enumerate() {
+        if names.contains_key(command_of(handler)) {
+            return Some(place);
+        }
+    }
+    None
+}
+
+/// What is said of handlers of which a name is taken by a native command or in one of these extensions.
+fn taken(
+    alloc: Global,
+    earlier: &[ExtensionSource<'_>],
+    source: &Source<'_>,
+    handlers: &[Value],
+    spans: &[Span],
+) -> Result<Said, NoMemory> {
+    let names = taken_names(alloc, earlier)?;
+    let place = first_taken(handlers, &names);
+    let span = span_in(alloc, source, spans, place, "command")?;
+    let command = match place.and_then(|place| handlers.get(place)) {
+        Some(handler) => command_of(handler),
+        None => "",
+    };
+    let sentence = format!(in alloc;
+        "the handler `{command}` has the name of a native command or of another extension's handler"
+    )?;
+    Ok((Some(span), sentence))
+}
+
+/// A file of one handler.
+fn alone(alloc: Global, version: &Value, handler: &Value) -> Result<Value, NoMemory> {
+    let mut list = Vec::new(alloc);
+    list.push(handler.clone()?)?;
+    let mut members = Map::new(alloc);
+    members.insert(String::from_str(alloc, "version")?, version.clone()?)?;
+    members.insert(String::from_str(alloc, "handlers")?, Value::Array(list))?;
+    Ok(Value::Object(members))
+}
+
+/// Whether a handler alone is refused.
+fn is_refused(alloc: Global, version: &Value, handler: &Value) -> Result<bool, NoMemory> {
+    match HandlerFile::read(alloc, alone(alloc, version, handler)?) {
+        Ok(_) => Ok(false),
+        Err(Failure::Fault(_)) => Ok(true),
+        Err(Failure::NoMemory) => Err(AllocError),
+    }
+}
+
+/// The place of the first handler that is refused.
+fn first_refused(
+    alloc: Global,
+    version: &Value,
+    handlers: &[Value],
+) -> Result<Option<usize>, NoMemory> {
+    for (place, handler) in handlers.iter().enumerate() {
+        if is_refused(alloc, version, handler)? {
+            return Ok(Some(place));
+        }
+    }
+    Ok(None)
+}
+
+/// The place of the first handler whose command an earlier one has.
+fn first_repeated(handlers: &[Value]) -> Option<usize> {
+    for (place, handler) in handlers.iter().enumerate() {
+        if place_of(handlers, command_of(handler)) != Some(place) {
+            return Some(place);
+        }
+    }
+    None
+}
+
+/// What is said of handlers of which one can't be read.
+fn misread(
+    alloc: Global,
+    source: &Source<'_>,
+    handlers: &[Value],
+    spans: &[Span],
+    number: u32,
+) -> Result<Said, NoMemory> {
+    if number == 43 {
+        let place = first_repeated(handlers);
+        let span = span_in(alloc, source, spans, place, "command")?;
+        return said(alloc, span, "an earlier handler has the same command");
+    }
+    let Some(version) = source.value().get("version") else {
+        return said(
+            alloc,
+            source.whole(),
+            "the handlers.json has no member `version`",
+        );
+    };
+    let place = first_refused(alloc, version, handlers)?;
+    let (member, sentence) = match place.and_then(|place| handlers.get(place)) {
+        Some(handler) => wrong_in(handler, number),
+        None => ("", "the handlers can't be read"),
+    };
+    let span = span_in(alloc, source, spans, place, member)?;
+    said(alloc, span, sentence)
+}
+
+/// What a handler is wrong in: a member, and a sentence.
+fn wrong_in(handler: &Value, number: u32) -> (&'static str, &'static str) {
+    match number {
+        40 => missing_in(handler),
+        41 => shape_in(handler),
+        44 => (
+            "",
+            "a limit of this handler is exceeded: 8 parameters, 1,000 texts and calls, 10,000 instructions, \
+                a budget of 1 to 1,000,000,000, a depth of 1 to 64",
+        ),
+        _ => ("code", code_meaning(number)),
+    }
+}
+
+/// The member that a handler lacks.
+fn missing_in(handler: &Value) -> (&'static str, &'static str) {
+    if handler.get("command").is_none() {
+        ("", "the handler has no member `command`")
+    } else if handler.get("budget").is_none() {
+        ("", "the handler has no member `budget`")
+    } else if handler.get("depth").is_none() {
+        ("", "the handler has no member `depth`")
+    } else if handler.get("code").is_none() {
+        ("", "the handler has no member `code`")
+    } else {
+        ("params", "a parameter has no member `name` or `kind`")
+    }
+}
+
+/// The member of a handler that has another shape than it has to have.
+fn shape_in(handler: &Value) -> (&'static str, &'static str) {
+    if !handler.is_object() {
+        ("", "a handler has to be an object")
+    } else if command_of(handler).is_empty() {
+        ("command", "`command` has to be a text that isn't empty")
+    } else if handler.get("budget").and_then(Value::as_i64).is_none() {
+        ("budget", "`budget` has to be a whole number")
+    } else if handler.get("depth").and_then(Value::as_i64).is_none() {
+        ("depth", "`depth` has to be a whole number")
+    } else if handler.get("code").and_then(Value::as_str).is_none() {
+        ("code", "`code` has to be a text")
+    } else {
+        (
+            "",
+            "`params`, `texts` or `calls` of this handler has another shape than it has to have",
+        )
+    }
+}

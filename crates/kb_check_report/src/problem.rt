@@ -1,0 +1,31 @@
+//! A problem.
+ghost use Rattle.std.specs.Prelude.{◌≡◌, OnOk, false};
+ghost use Rattle.kb_check_report.specs.Starts.{never_said, says_never};
+
+use crate::cause::Cause;
+use kb_base::NoMemory;
+use kb_files::LoadFile;
+use kb_places::Span;
+
+/// A problem of some files, with its place.
+#[derive(Drop)]
+pub struct Problem {
+    /// Why there is one.
+    pub cause: Cause,
+    /// The file that it is in.
+    pub file: LoadFile,
+    /// Where it is, among the bytes behind the file's byte order mark. `None` for a file as a whole.
+    pub span: Option<Span>,
+    /// What is wrong, and what to do.
+    pub sentence: String,
+}
+
+/// Adds a problem that doesn't say that a rule can never start.
+#[tactic(auto, using(crate::proofs::StartLemmas::other_adds))]
+pub(crate) fn push_other(problem: Problem, problems: &mut Vec<Problem>) -> Result<(), NoMemory>
+    requires { says_never problem.cause ≡ false }
+    ensures { OnOk result (never_said problems.new.items ≡ never_said problems.old.items) }
+{
+    problems.push(problem)?;
+    Ok(())
+}

@@ -1,0 +1,163 @@
+//! All problems of some files.
+ghost use Rattle.std.specs.Prelude.{◌≡◌, ◌∷◌, IfOk, List, OnOk};
+ghost use Rattle.std.specs.List.{filter_map};
+ghost use Rattle.kb_bindings.specs.Sources.{enablement, rules_of};
+ghost use Rattle.kb_bindings.specs.Warning.{warnings_of};
+ghost use Rattle.kb_check_report.specs.Problems.{AreWanted, IsRefusal, Tells, files_in, is_wanted, warning_in};
+ghost use Rattle.kb_check_report.specs.Starts.{AreSound};
+ghost use Rattle.kb_check_report.specs.declared.choices.Choices.{Choices};
+ghost use Rattle.kb_check_report.specs.declared.problem.Problem.{Problem};
+ghost use Rattle.kb_resolve.specs.Enablements.{Enabling};
+ghost use Rattle.kb_rules.specs.declared.rule.Rule.{Rule};
+
+use crate::cause::Cause;
+use crate::choices::Choices;
+use crate::lints::{Loaded, linted_in};
+use crate::loading::{PlainNative, load_sources};
+use crate::opened::open_all;
+use crate::problem::Problem;
+use crate::refusal::refused;
+use crate::warnings::warned;
+use kb_base::{Failure, NoMemory};
+use kb_bindings::Bindings;
+use kb_context::Scopes;
+use kb_files::LoadFault;
+use kb_session::Session;
+use kb_source_files::SourceFiles;
+use std::alloc::{AllocError, Global};
+
+/// The problems of some files: why a load refuses them, and else its warnings, in order, and then the lints
+/// that are looked for. What their sentences say is tested, and in no clause.
+#[tactic(auto, using(crate::proofs::TellLemmas::tells_refusal, crate::proofs::TellLemmas::tells_warnings))]
+pub fn find_problems(
+    alloc: Global,
+    files: &SourceFiles<'_>,
+    choices: &Choices<'_>,
+) -> Result<Vec<Problem>, NoMemory>
+    // They refuse what the load refuses, or have each of its warnings once.
+    ensures tells { IfOk result (λ problems. Tells (files_in files.now) problems.items) }
+
+    // No lint among them is silenced, and those that are off by default are asked for.
+    ensures wanted { IfOk result (λ problems. AreWanted choices.now problems.items) }
+{
+    match load_sources(alloc, files) {
+        Ok(session) => Ok(of_session(alloc, files, session, choices)?),
+        Err(Failure::Fault(fault)) => Ok(of_refused(alloc, files, fault)?),
+        Err(Failure::NoMemory) => Err(AllocError),
+    }
+}
+
+/// The warnings and the lints of a session, which ends.
+fn of_session(
+    alloc: Global,
+    files: &SourceFiles<'_>,
+    session: Session<PlainNative>,
+    choices: &Choices<'_>,
+) -> Result<Vec<Problem>, NoMemory>
+    ensures warnings { IfOk result (λ problems.
+        filter_map warning_in problems.items ≡ warnings_of session.state.sources) }
+    ensures sound { IfOk result (λ problems.
+        AreSound (enablement session.state.sources) (rules_of session.state.sources) problems.items) }
+    ensures wanted { IfOk result (λ problems. AreWanted choices.now problems.items) }
+{
+    let found = of_accepted(
+        alloc,
+        files,
+        session.bindings(),
+        session.core().scopes(),
+        choices,
+    );
+    drop(session.into_trace());
+    Ok(found?)
+}
+
+/// The problem of a load that is refused. It is no lint.
+#[tactic(auto, using(crate::proofs::CauseLemmas::refusal_wanted))]
+fn of_refused(
+    alloc: Global,
+    files: &SourceFiles<'_>,
+    fault: LoadFault,
+) -> Result<Vec<Problem>, NoMemory>
+    ensures refusal { IfOk result (λ problems. IsRefusal fault problems.items) }
+    ensures wanted { (choices : Choices) → IfOk result (λ problems. AreWanted choices problems.items) }
+{
+    let problem = refused(alloc, files, fault)?;
+    let mut problems = Vec::new(alloc);
+    problems.push(problem)?;
+    Ok(problems)
+}
+
+/// The warnings and the lints of an accepted load.
+#[tactic(auto, using(crate::proofs::CauseLemmas::warnings_told, crate::proofs::CauseLemmas::warnings_wanted, crate::proofs::StartLemmas::warnings_sound))]
+fn of_accepted<'b>(
+    alloc: Global,
+    sources: &SourceFiles<'_>,
+    bindings: &'b Bindings,
+    scopes: &'b Scopes,
+    choices: &Choices<'_>,
+) -> Result<Vec<Problem>, NoMemory>
+    ensures warnings { IfOk result (λ problems.
+        filter_map warning_in problems.items ≡ warnings_of bindings.now) }
+    ensures sound { IfOk result (λ problems.
+        AreSound (enablement bindings.now) (rules_of bindings.now) problems.items) }
+    ensures wanted { IfOk result (λ problems. AreWanted choices.now problems.items) }
+{
+    let files = open_all(alloc, &*sources)?;
+    let mut problems = warned(alloc, &files, sources.platform, bindings.warnings())?;
+    let loaded = Loaded { bindings, scopes };
+    let lints = linted_in(alloc, &files, loaded, choices)?;
+    add_lints(lints, choices, &mut problems)?;
+    Ok(problems)
+}
+
+/// Whether a problem is a lint that is looked for.
+fn is_wanted(cause: Cause, choices: &Choices<'_>) -> bool
+    ensures { result ≡ is_wanted choices.now cause }
+{
+    match cause {
+        Cause::Linted(lint) => choices.wants(lint),
+        Cause::Refused(_, _) | Cause::Warned(_) => false,
+    }
+}
+
+/// Adds a lint behind other problems, if it is looked for.
+#[tactic(auto, using(crate::proofs::CauseLemmas::lint_adds, crate::proofs::CauseLemmas::wanted_adds))]
+fn add_lint(
+    lint: Problem,
+    choices: &Choices<'_>,
+    problems: &mut Vec<Problem>,
+) -> Result<(), NoMemory>
+    ensures warnings { OnOk result
+        (filter_map warning_in problems.new.items ≡ filter_map warning_in problems.old.items) }
+    ensures wanted { AreWanted choices.now problems.old.items
+        → OnOk result (AreWanted choices.now problems.new.items) }
+    ensures sound { (enablement : Enabling) (rules : List Rule) (rest : List Problem)
+        → AreSound enablement rules (lint ∷ rest) → AreSound enablement rules problems.old.items
+        → OnOk result (AreSound enablement rules problems.new.items) }
+{
+    if !is_wanted(lint.cause, choices) {
+        return Ok(());
+    }
+    problems.push(lint)?;
+    Ok(())
+}
+
+/// Adds those lints that are looked for behind other problems.
+fn add_lints(
+    lints: Vec<Problem>,
+    choices: &Choices<'_>,
+    problems: &mut Vec<Problem>,
+) -> Result<(), NoMemory>
+    ensures warnings { OnOk result
+        (filter_map warning_in problems.new.items ≡ filter_map warning_in problems.old.items) }
+    ensures wanted { AreWanted choices.now problems.old.items
+        → OnOk result (AreWanted choices.now problems.new.items) }
+    ensures sound { (enablement : Enabling) (rules : List Rule) → AreSound enablement rules lints.items
+        → AreSound enablement rules problems.old.items
+        → OnOk result (AreSound enablement rules problems.new.items) }
+{
+    for lint in lints {
+        add_lint(lint, choices, problems)?;
+    }
+    Ok(())
+}

@@ -1,0 +1,150 @@
+//! The warnings of a load as problems.
+ghost use Rattle.std.specs.Prelude.{◌≡◌, [], ◌∷◌, ◌++◌, IfOk, OnOk, map};
+ghost use Rattle.kb_check_report.specs.declared.cause.Cause.TheVariants.{Warned};
+
+use crate::cause::Cause;
+use crate::faulty::{Faulty, faulty_in};
+use crate::key_mistakes::key_sentence;
+use crate::meaning::clause_meaning;
+use crate::opened::{Opened, OpenedFiles, file_of};
+use crate::problem::Problem;
+use kb_base::{NoMemory, Part, Warning};
+use kb_keys::Platform;
+use kb_places::Span;
+use serde_json::Value;
+use std::alloc::Global;
+
+/// A problem for each warning, in order.
+pub fn warned(
+    alloc: Global,
+    files: &OpenedFiles<'_>,
+    platform: Platform,
+    warnings: &[Warning],
+) -> Result<Vec<Problem>, NoMemory>
+    ensures { IfOk result (λ problems. map (λ p. p.cause) problems.items ≡ map Warned warnings.now) }
+{
+    let mut problems = Vec::new(alloc);
+    for warning in warnings {
+        add_warned(alloc, files, platform, *warning, &mut problems)?;
+    }
+    Ok(problems)
+}
+
+/// Adds the problem of a warning.
+fn add_warned(
+    alloc: Global,
+    files: &OpenedFiles<'_>,
+    platform: Platform,
+    warning: Warning,
+    problems: &mut Vec<Problem>,
+) -> Result<(), NoMemory>
+    ensures { OnOk result (map (λ p. p.cause) problems.new.items
+        ≡ map (λ p. p.cause) problems.old.items ++ Warned warning ∷ []) }
+{
+    problems.push(warned_of(alloc, files, platform, warning)?)?;
+    Ok(())
+}
+
+/// The problem of a warning.
+fn warned_of(
+    alloc: Global,
+    files: &OpenedFiles<'_>,
+    platform: Platform,
+    warning: Warning,
+) -> Result<Problem, NoMemory>
+    ensures { IfOk result (λ problem. problem.cause ≡ Warned warning) }
+{
+    let (span, sentence) = match files.of(warning.origin) {
+        Some(opened) => said_of(alloc, opened, platform, warning)?,
+        None => (None, String::from_str(alloc, "the entry has a fault")?),
+    };
+    Ok(Problem {
+        cause: Cause::Warned(warning),
+        file: file_of(warning.origin),
+        span,
+        sentence,
+    })
+}
+
+/// The place of a warning, and what is said of it.
+fn said_of(
+    alloc: Global,
+    opened: &Opened<'_>,
+    platform: Platform,
+    warning: Warning,
+) -> Result<(Option<Span>, String), NoMemory> {
+    let Some(entry) = opened.value(alloc, warning.part, warning.place)? else {
+        return Ok((None, String::from_str(alloc, "the entry has a fault")?));
+    };
+    let faulty = faulty_in(entry, warning.part, warning.number, opened.file, platform);
+    let span = span_of(alloc, opened, warning, faulty)?;
+    let sentence = sentence_of(alloc, entry, warning, faulty)?;
+    Ok((span, sentence))
+}
+
+/// Where what is faulty stands.
+fn span_of(
+    alloc: Global,
+    opened: &Opened<'_>,
+    warning: Warning,
+    faulty: Faulty,
+) -> Result<Option<Span>, NoMemory> {
+    match faulty {
+        Faulty::Member(name) => opened.member(alloc, warning.part, warning.place, name),
+        Faulty::Entry | Faulty::Missing(_) => opened.entry(alloc, warning.part, warning.place),
+    }
+}
+
+/// What the entries of a part are called.
+fn entry_word(part: Part) -> &'static str {
+    match part {
+        Part::Commands => "command",
+        Part::Keybindings => "rule",
+        Part::Palette => "item",
+    }
+}
+
+/// What becomes of an entry with a warning.
+fn outcome(warning: Warning) -> &'static str {
+    match (warning.part, warning.number) {
+        (_, 34) => "the entry is kept",
+        (Part::Keybindings, _) => "the rule is dropped",
+        (_, 30 | 31 | 32 | 33) => "the clause counts as false",
+        (Part::Commands, _) => "the command is dropped",
+        (Part::Palette, _) => "the item is dropped",
+    }
+}
+
+/// The sentence on an entry with a warning.
+fn sentence_of(
+    alloc: Global,
+    entry: &Value,
+    warning: Warning,
+    faulty: Faulty,
+) -> Result<String, NoMemory> {
+    let outcome = outcome(warning);
+    let word = entry_word(warning.part);
+    match (faulty, warning.number) {
+        (Faulty::Entry, _) => {
+            format!(in alloc; "this {word} is no object in {{ and }}; {outcome}")
+        }
+        (Faulty::Missing(name), _) => {
+            format!(in alloc; "the {word} has no member `{name}`; {outcome}")
+        }
+        (Faulty::Member(name), 10 | 11 | 12) => {
+            let text = entry.get(name).and_then(Value::as_str).unwrap_or("");
+            let said = key_sentence(alloc, warning.number, text)?;
+            format!(in alloc; "{said}; {outcome}")
+        }
+        (Faulty::Member(_), 30 | 31 | 32 | 33 | 34) => {
+            let said = clause_meaning(warning.number);
+            format!(in alloc; "{said}; {outcome}")
+        }
+        (Faulty::Member("args"), _) => {
+            format!(in alloc; "`args` has a number that isn't whole; {outcome}")
+        }
+        (Faulty::Member(name), _) => {
+            format!(in alloc; "`{name}` has to be a text in quotes; {outcome}")
+        }
+    }
+}

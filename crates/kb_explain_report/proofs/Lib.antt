@@ -1,0 +1,2 @@
+pub mod PressLemmas
+pub mod RulePlacesLemmas

@@ -1,0 +1,162 @@
+//! Rules that were dropped with a warning, said.
+use crate::output::{Form, Stop, say_object, say_text};
+use crate::rule_said::{Named, place_json, place_text};
+use kb_base::{NoMemory, Origin, Warning, fault_name};
+use kb_keys::{Chord, Keystroke, Platform};
+use kb_places::{Source, open};
+use kb_rules::RuleList;
+use serde_json::{Value, json};
+use std::alloc::Global;
+use std::io::Write;
+
+/// The number of the warning of an element that is kept, though a pattern of its clause isn't read.
+const UNREAD: u32 = 34;
+
+/// The element of a file at a place.
+fn element_at<'v>(value: &'v Value, origin: Origin, place: usize) -> Option<&'v Value> {
+    match origin {
+        Origin::Defaults | Origin::User => value.get(place),
+        Origin::Extension(_) => {
+            let list = value.get("contributes")?.get("keybindings")?;
+            if list.is_object() {
+                return Some(list);
+            }
+            list.get(place)
+        }
+    }
+}
+
+/// The text of an element's keystrokes: of an extension that of the platform's member, if it is there.
+fn keys_of<'v>(element: &'v Value, origin: Origin, platform: Platform) -> Option<&'v str> {
+    if let Origin::Extension(_) = origin {
+        if let Some(own) = element.get(platform.name()) {
+            return own.as_str();
+        }
+    }
+    element.get("key")?.as_str()
+}
+
+/// Whether a text of keystrokes may be meant for these: it begins with them, or it can't be read.
+fn may_be_meant(alloc: Global, keys: Option<&str>, strokes: &[Keystroke]) -> bool {
+    let Some(keys) = keys else {
+        return true;
+    };
+    match Chord::parse(alloc, keys) {
+        Ok(chord) => chord.begins_with(strokes),
+        Err(_) => true,
+    }
+}
+
+/// Writes that an element was dropped.
+fn say_one<W: Write>(
+    alloc: Global,
+    named: &Named<'_>,
+    warning: &Warning,
+    keys: Option<&str>,
+    form: Form,
+    out: &mut W,
+) -> Result<(), Stop> {
+    let number = warning.number;
+    let name = fault_name(number);
+    let keys = keys.unwrap_or("");
+    match form {
+        Form::Text => {
+            let place = place_text(alloc, named, warning.origin, warning.place)?;
+            let source = named.bindings.source(warning.origin);
+            let text = format!(in alloc;
+                "{place}: {source}: {keys}: is dropped, for {number} {name}"
+            )?;
+            say_text(text, out)
+        }
+        Form::Json => {
+            let place = place_json(alloc, named, warning.origin, warning.place)?;
+            let number = number as u64;
+            let rule = json!(in alloc; {"keys": keys, "place": place})?;
+            let object = json!(in alloc;
+                {"rule": rule, "verdict": "dropped", "number": number, "name": name})?;
+            say_object(alloc, object, out)
+        }
+    }
+}
+
+/// Whether an element was dropped for its fault.
+fn is_dropped(warning: &Warning) -> bool {
+    warning.number != UNREAD
+}
+
+/// Writes a line for each dropped element of a file that may be meant for these keystrokes.
+fn say_of_source<W: Write>(
+    alloc: Global,
+    named: &Named<'_>,
+    source: &Source<'_>,
+    warnings: &[Warning],
+    strokes: &[Keystroke],
+    form: Form,
+    out: &mut W,
+) -> Result<(), Stop> {
+    for warning in warnings {
+        if !is_dropped(warning) {
+            continue;
+        }
+        let keys = match element_at(source.value(), warning.origin, warning.place) {
+            Some(element) => keys_of(element, warning.origin, named.files.platform),
+            None => None,
+        };
+        if may_be_meant(alloc, keys, strokes) {
+            say_one(alloc, named, warning, keys, form, out)?;
+        }
+    }
+    Ok(())
+}
+
+/// Whether a warning of a file's list is of an element that was dropped.
+fn has_dropped(list: &RuleList) -> bool {
+    for warning in list.warnings() {
+        if is_dropped(warning) {
+            return true;
+        }
+    }
+    false
+}
+
+/// Writes a line for each dropped element of a list that may be meant for these keystrokes.
+fn say_of_list<W: Write>(
+    alloc: Global,
+    named: &Named<'_>,
+    origin: Origin,
+    list: &RuleList,
+    strokes: &[Keystroke],
+    form: Form,
+    out: &mut W,
+) -> Result<(), Stop> {
+    if !has_dropped(list) {
+        return Ok(());
+    }
+    let Some(file) = named.files.file_of_origin(origin) else {
+        return Ok(());
+    };
+    match open(alloc, file.bytes)? {
+        Ok(source) => say_of_source(alloc, named, &source, list.warnings(), strokes, form, out),
+        Err(_) => Ok(()),
+    }
+}
+
+/// Writes a line for each element that was dropped and whose keystrokes begin with these or can't be read.
+pub(crate) fn say_dropped<W: Write>(
+    alloc: Global,
+    named: &Named<'_>,
+    strokes: &[Keystroke],
+    form: Form,
+    out: &mut W,
+) -> Result<(), Stop> {
+    let defaults = named.bindings.defaults();
+    say_of_list(alloc, named, Origin::Defaults, defaults, strokes, form, out)?;
+    for extension in named.bindings.extensions() {
+        if extension.enabled {
+            let origin = Origin::Extension(extension.number);
+            say_of_list(alloc, named, origin, &extension.rules, strokes, form, out)?;
+        }
+    }
+    let user = named.bindings.user();
+    say_of_list(alloc, named, Origin::User, user, strokes, form, out)
+}

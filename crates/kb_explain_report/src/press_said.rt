@@ -1,0 +1,262 @@
+//! Why a key press does what it does, said.
+ghost use Rattle.std.specs.Prelude.{◌≡◌, ◌++◌, ◌∷◌, [], All, IfOk, List, map, option_map};
+ghost use Rattle.kb_bindings.specs.Sources.{enablement, rules_of};
+ghost use Rattle.kb_context.specs.Scopes.{context};
+ghost use Rattle.kb_explain.specs.Press.{passed_over, IsRightlyPassed};
+ghost use Rattle.kb_keys.specs.declared.keystroke.Keystroke.{Keystroke};
+ghost use Rattle.kb_resolve.specs.ChordState.{step, step_by};
+ghost use Rattle.kb_resolve.specs.Pressed.{step_of};
+ghost use Rattle.kb_resolve.specs.Resolver.{resolution_by};
+
+use crate::cause_said::{cause_json, cause_said};
+use crate::dropped_said::say_dropped;
+use crate::output::{Form, Stop, say_object, say_text};
+use crate::removed_said::say_removed;
+use crate::rule_said::{Named, place_text, rule_json, rule_text};
+use kb_base::NoMemory;
+use kb_context::Scopes;
+use kb_explain::{Explained, Obstacle, Passed, explain};
+use kb_keys::{Keystroke, write_strokes};
+use kb_resolve::Pressed;
+use kb_rules::Rule;
+use serde_json::{Value, json};
+use std::alloc::Global;
+use std::io::Write;
+
+/// The situation of a press: the keystrokes of the open chord with the key, what the focus sees, and the
+/// files.
+#[derive(Clone, Copy)]
+pub struct Situation<'s> {
+    /// The keystrokes so far, with the key that is pressed.
+    pub strokes: &'s [Keystroke],
+    /// The scopes, whose focus counts.
+    pub scopes: &'s Scopes,
+    /// What binds keys, with its files.
+    pub named: Named<'s>,
+}
+
+/// A press, with its reasons.
+#[derive(Drop)]
+pub struct Press<'s> {
+    /// What it does.
+    pub does: Pressed<'s>,
+    /// The rules that it passes over, and the one that it takes.
+    pub explained: Explained<'s>,
+}
+
+/// What a press does that completes these keystrokes, by the rule that it takes.
+#[tactic(auto, using(crate::proofs::PressLemmas::unmatched))]
+fn pressed_by<'s>(strokes: &[Keystroke], taken: Option<&'s Rule>) -> Pressed<'s>
+    ensures { (before : List Keystroke) → (stroke : Keystroke) → strokes.now ≡ before ++ stroke ∷ []
+        → step_of result
+        ≡ step_by before (resolution_by strokes.now (option_map (λ rule. rule.now) taken.entry)) }
+{
+    match taken {
+        Some(rule) => {
+            if rule.chord.len() > strokes.len() {
+                Pressed::More
+            } else {
+                Pressed::Start(rule)
+            }
+        }
+        None => {
+            if strokes.len() > 1 {
+                Pressed::Left
+            } else {
+                Pressed::Unbound
+            }
+        }
+    }
+}
+
+/// What a press does and why. Error: `NoMemory`.
+pub fn explained_press<'s>(alloc: Global, situation: &Situation<'s>) -> Result<Press<'s>, NoMemory>
+    // The press does what the engine's step does.
+    ensures does { IfOk result (λ press. (before : List Keystroke) → (stroke : Keystroke)
+        → situation.now.strokes.now ≡ before ++ stroke ∷ []
+        → step_of press.does ≡ step before stroke (context situation.now.scopes.now.seen)
+        (enablement situation.now.named.bindings.now) (rules_of situation.now.named.bindings.now)) }
+    ensures passed { IfOk result (λ press. map (λ one. one.rule.now) press.explained.passed.items
+        ≡ passed_over situation.now.strokes.now (context situation.now.scopes.now.seen)
+        (enablement situation.now.named.bindings.now) (rules_of situation.now.named.bindings.now)) }
+
+    // What is said of each rule that is passed over is so.
+    ensures right { IfOk result (λ press. All (IsRightlyPassed (context situation.now.scopes.now.seen)
+        (enablement situation.now.named.bindings.now)) press.explained.passed.items) }
+{
+    let bindings = situation.named.bindings;
+    let explained = explain(alloc, bindings, situation.strokes, situation.scopes)?;
+    let does = pressed_by(situation.strokes, explained.taken);
+    Ok(Press { does, explained })
+}
+
+/// What a press does, in words.
+fn does_text(alloc: Global, does: Pressed<'_>) -> Result<String, NoMemory> {
+    let said = match does {
+        Pressed::Start(rule) => match rule.command.as_str() {
+            "" => "starts nothing, since the rule that it takes has no command",
+            command => return format!(in alloc; "starts {command}"),
+        },
+        Pressed::More => "waits for more keystrokes",
+        Pressed::Left => "starts nothing and ends the chord, since no rule holds",
+        Pressed::Unbound => "starts nothing, since no rule holds",
+    };
+    String::from_str(alloc, said)
+}
+
+/// What a press does, in one word, and the command that it starts.
+fn does_words<'s>(does: Pressed<'s>) -> (&'static str, &'s str) {
+    match does {
+        Pressed::Start(rule) => match rule.command.as_str() {
+            "" => ("nothing", ""),
+            command => ("starts", command),
+        },
+        Pressed::More => ("chord", ""),
+        Pressed::Left => ("left", ""),
+        Pressed::Unbound => ("unbound", ""),
+    }
+}
+
+/// Writes what the press does.
+fn say_does<W: Write>(
+    alloc: Global,
+    strokes: &[Keystroke],
+    does: Pressed<'_>,
+    form: Form,
+    out: &mut W,
+) -> Result<(), Stop> {
+    let mut keys = String::new(alloc);
+    write_strokes(strokes, &mut keys)?;
+    match form {
+        Form::Text => {
+            let said = does_text(alloc, does)?;
+            say_text(format!(in alloc; "{keys}: {said}")?, out)
+        }
+        Form::Json => {
+            let (word, command) = does_words(does);
+            let keys = keys.as_str();
+            let object = json!(in alloc; {"keys": keys, "does": word, "command": command})?;
+            say_object(alloc, object, out)
+        }
+    }
+}
+
+/// Why a press passes over a rule, in words.
+fn obstacle_text(
+    alloc: Global,
+    obstacle: &Obstacle<'_>,
+    scopes: &Scopes,
+) -> Result<String, NoMemory> {
+    match obstacle {
+        Obstacle::Clause(cause) => {
+            let why = cause_said(alloc, cause, scopes)?;
+            format!(in alloc; "its clause fails: {why}")
+        }
+        Obstacle::Enablement(cause) => {
+            let why = cause_said(alloc, cause, scopes)?;
+            format!(in alloc; "its command's enablement fails: {why}")
+        }
+    }
+}
+
+/// Why a press passes over a rule, as JSON.
+fn obstacle_json(
+    alloc: Global,
+    rule: Value,
+    obstacle: &Obstacle<'_>,
+    scopes: &Scopes,
+) -> Result<Value, NoMemory> {
+    match obstacle {
+        Obstacle::Clause(cause) => {
+            let why = cause_json(alloc, cause, scopes)?;
+            json!(in alloc; {"rule": rule, "verdict": "clause", "because": why})
+        }
+        Obstacle::Enablement(cause) => {
+            let why = cause_json(alloc, cause, scopes)?;
+            json!(in alloc; {"rule": rule, "verdict": "enablement", "because": why})
+        }
+    }
+}
+
+/// Writes a rule with what is said of it.
+fn say_rule<W: Write>(
+    alloc: Global,
+    named: &Named<'_>,
+    rule: &Rule,
+    said: &str,
+    out: &mut W,
+) -> Result<(), Stop> {
+    let place = place_text(alloc, named, rule.origin, rule.place)?;
+    let source = named.bindings.source(rule.origin);
+    let text = rule_text(alloc, rule)?;
+    say_text(format!(in alloc; "{place}: {source}: {text}: {said}")?, out)
+}
+
+/// Writes why a press passes over a rule.
+fn say_passed<W: Write>(
+    alloc: Global,
+    situation: &Situation<'_>,
+    passed: &Passed<'_>,
+    form: Form,
+    out: &mut W,
+) -> Result<(), Stop> {
+    match form {
+        Form::Text => {
+            let said = obstacle_text(alloc, &passed.obstacle, situation.scopes)?;
+            say_rule(alloc, &situation.named, passed.rule, said.as_str(), out)
+        }
+        Form::Json => {
+            let rule = rule_json(alloc, &situation.named, passed.rule)?;
+            let object = obstacle_json(alloc, rule, &passed.obstacle, situation.scopes)?;
+            say_object(alloc, object, out)
+        }
+    }
+}
+
+/// Writes that a press takes a rule.
+fn say_taken<W: Write>(
+    alloc: Global,
+    situation: &Situation<'_>,
+    rule: &Rule,
+    form: Form,
+    out: &mut W,
+) -> Result<(), Stop> {
+    match form {
+        Form::Text => {
+            let said = if rule.chord.len() > situation.strokes.len() {
+                "is taken, and has more keystrokes"
+            } else {
+                "is taken"
+            };
+            say_rule(alloc, &situation.named, rule, said, out)
+        }
+        Form::Json => {
+            let rule = rule_json(alloc, &situation.named, rule)?;
+            let object = json!(in alloc; {"rule": rule, "verdict": "taken"})?;
+            say_object(alloc, object, out)
+        }
+    }
+}
+
+/// Writes what a press does and why: a line for what it does; then a line for each rule whose keystrokes
+/// begin with those that are pressed, from the bottom up to the one that is taken; then those that a removal
+/// took; and last those that were dropped. [`explained_press`] has what is more than printed text.
+///
+/// Errors: refused memory, or a write that failed.
+pub fn say_press<W: Write>(
+    alloc: Global,
+    situation: &Situation<'_>,
+    form: Form,
+    out: &mut W,
+) -> Result<(), Stop> {
+    let press = explained_press(alloc, situation)?;
+    say_does(alloc, situation.strokes, press.does, form, out)?;
+    for passed in &press.explained.passed {
+        say_passed(alloc, situation, passed, form, out)?;
+    }
+    if let Some(rule) = press.explained.taken {
+        say_taken(alloc, situation, rule, form, out)?;
+    }
+    say_removed(alloc, &situation.named, situation.strokes, form, out)?;
+    say_dropped(alloc, &situation.named, situation.strokes, form, out)
+}
