@@ -1,5 +1,6 @@
 """Tests of tools/wrong-bodies: what it reads of a check, and how it judges the edits of a small crate."""
 
+import collections
 import contextlib
 import io
 import os
@@ -13,8 +14,8 @@ from gate.kept import Kept
 from gate.said import Said
 from gate.source import functions_of
 from gate.stand_ins import stand_ins_of
-from gate.trying import Crate, Limit, Tried, trouble_in
-from gate.turns import PROVED, changed_crates, turns_of, try_as_proved
+from gate.trying import Crate, Limit, Tried, are_refused, trouble_in
+from gate.turns import PROVED, changed_crates, try_as_proved, try_in_spite_of_faults, turns_of
 from gate.twins import Proofs, Twin
 
 SOURCE = """\
@@ -335,6 +336,44 @@ class Stopping(unittest.TestCase):
         passes, said = self.run_past(set())
         self.assertFalse(passes)
         self.assertTrue(said.endswith(f"\n{len(EDITS) - 1} not tried\n0 refused, 1 not\n"))
+
+
+Named = collections.namedtuple("Named", "path name")
+
+
+class Faults(unittest.TestCase):
+    def tried_with(self, *faults):
+        """What is found of two edits where the calls meet these faults in turn, and how many calls there were."""
+        answers = iter(faults)
+
+        def refused():
+            if fault := next(answers, None):
+                raise fault
+            return {it: "refused" for it in edits}
+
+        edits = [Named(it, it) for it in ("one", "other")]
+        crate, before = types.SimpleNamespace(name="tiny"), types.SimpleNamespace(refused=refused)
+        said = io.StringIO()
+        with contextlib.redirect_stdout(said):
+            found = try_in_spite_of_faults(crate, [], edits, before, Limit(), pause=0)
+            passes = are_refused(found)
+        return passes, said.getvalue(), len([*answers])
+
+    def test_what_the_machine_refuses_once_is_tried_again(self):
+        passes, said, _ = self.tried_with(OSError("no room"))
+        self.assertTrue(passes)
+        self.assertTrue(said.endswith("\n2 refused, 0 not\n"))
+
+    def test_what_the_machine_refuses_twice_is_counted_and_does_not_fail(self):
+        passes, said, _ = self.tried_with(OSError("no room"), OSError("no room"))
+        self.assertTrue(passes)
+        self.assertTrue(said.endswith("\n2 not tried\n0 refused, 0 not\n"))
+
+    def test_a_fault_of_the_tool_fails_by_its_name_and_at_once(self):
+        passes, said, left = self.tried_with(KeyError("text"), OSError("no room"))
+        self.assertFalse(passes)
+        self.assertIn("NOT REFUSED: one: KeyError at refused, line ", said)
+        self.assertEqual(left, 1)
 
 
 class Trying(unittest.TestCase):
