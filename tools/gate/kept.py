@@ -40,9 +40,18 @@ def kit_sum():
     return made.hexdigest()
 
 
+def sum_below(crate, known):
+    """A sum of a crate and of those below it. Each is read once: the kit's own sum reads a crate as often as
+    there are ways down to it, which takes a minute for the highest ones."""
+    if crate.name not in known:
+        below = [sum_below(it, known) for it in crate.deps]
+        known[crate.name] = sum_of(rt.rtlib.files_of(crate.folder), repr((crate.said, crate.has_c, below)))
+    return known[crate.name]
+
+
 def stamp_of(crate):
     """A sum of the kit, of the crate and of those below it."""
-    return rt.stamp_of(crate, {}) if hasattr(rt, "stamp_of") else kit_sum() + crate.stamp()
+    return rt.stamp_of(crate, {}) if hasattr(rt, "stamp_of") else kit_sum() + sum_below(crate, {})
 
 
 def sum_of(files, total=""):
