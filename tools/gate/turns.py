@@ -120,8 +120,9 @@ def try_as_proved(crates, lines, at=None, limit=None, git=git):
         try:
             for line in lines:
                 say(line.rstrip("\n"))
-                proved.update(PROVED.findall(line))
-                for name, (crate, functions, edits, before) in [*waiting.items()]:
+                names = PROVED.findall(line)
+                proved.update(names)
+                for name, (crate, functions, edits, before) in [*waiting.items()] if names else []:
                     if {name, *(it.name for it in crate.below())} <= proved:
                         del waiting[name]
                         task = (crate, functions, edits, before)
