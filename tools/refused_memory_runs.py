@@ -192,7 +192,10 @@ RUNS = [
     ),
     Run("repeated blocks", "keyrun", ["examples/rulers"], b"key ctrl+alt+6\nkey ctrl+alt+7\nkey ctrl+alt+7\n"),
     Run("raw handlers", "rawrun", ["--user", "crates/kb_rawrun/data/user.json", "crates/kb_rawrun/data"], b"key h\nkey h\n"),
-    Run("check-handlers", "check-handlers", BOTH),
+    Run("what keycheck says of handlers", "keycheck", ["handlers", *BOTH]),
+    Run("what keycheck says of files", "keycheck", ["check", *EXAMPLES, *BOTH], status=1),
+    Run("what keycheck says of a key press", "keycheck", ["explain", "ctrl+s", *EXAMPLES, *BOTH]),
+    Run("what keycheck says of the palette, as JSON", "keycheck", ["palette", "no", "--json", *EXAMPLES, *BOTH]),
     Run(
         "a reload with patterns that leaves a chord, and broken files",
         "keyrun",

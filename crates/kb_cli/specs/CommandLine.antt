@@ -23,9 +23,9 @@ use Rattle.kb_cli.specs.declared.given.WordsFault.TheVariants as words_fault
 
 -- ---- the command
 
--- `--NAME F`
-abbrev pub file_rule : Text → Rule
-file_rule name = record (new_rule name) { long = Some name; value_names = 1 }
+-- `--NAME VALUE`
+abbrev pub valued_rule : Text → Rule
+valued_rule name = record (new_rule name) { long = Some name; value_names = 1 }
 
 -- these are the names of the platforms
 abbrev pub NamesPlatforms : Bor (List (Bor Text)) → Type 0
@@ -33,7 +33,7 @@ NamesPlatforms names = map (λ name. name.now) names.now ≡ map platform_name p
 
 -- `--platform P`, where P is one of these names
 abbrev pub platform_rule : Bor (List (Bor Text)) → Rule
-platform_rule names = record (file_rule (codes "platform")) { parser = Some (Names names) }
+platform_rule names = record (valued_rule (codes "platform")) { parser = Some (Names names) }
 
 -- `[DIR]...`, any number of them
 abbrev pub dirs_rule : Rule
@@ -42,8 +42,8 @@ dirs_rule = record (new_rule (codes "dir")) { action = Some Append; value_names 
 -- `PROGRAM [--layout F] [--defaults F] [--user F] [--platform P] [--script F] [DIR]...`, for a program's name
 abbrev pub program_app : Text → Bor (List (Bor Text)) → App
 program_app program names = with_rule (with_rule (with_rule (with_rule (with_rule (with_rule (new_app program)
-    (file_rule (codes "layout"))) (file_rule (codes "defaults"))) (file_rule (codes "user")))
-    (platform_rule names)) (file_rule (codes "script"))) dirs_rule
+    (valued_rule (codes "layout"))) (valued_rule (codes "defaults"))) (valued_rule (codes "user")))
+    (platform_rule names)) (valued_rule (codes "script"))) dirs_rule
 
 -- ---- what the words mean
 

@@ -1,10 +1,11 @@
-//! The options of the programs, which `clap` parses. All programs have the same options.
+//! The options of the programs, which `clap` parses. `keyrun` and `rawrun` have the same ones; other programs
+//! make their commands of the same parts.
 ghost use Rattle.std.specs.Prelude.{◌≡◌, [], true, false, IfOk, IfErr, codes, map, is_some, option_map};
 ghost use Rattle.std.specs.Prelude.{unwrap_or};
 ghost use Rattle.clap.specs.Words.{app_of, rule_of, with_rule, new_app};
 ghost use Rattle.clap.specs.Words.{found_of, rows_of, all_of, first_of, kind_of};
 ghost use Rattle.kb_cli.specs.CommandLine.{Matched, Gives, Answers, Reads, NamesPlatforms};
-ghost use Rattle.kb_cli.specs.CommandLine.{file_rule, platform_rule, dirs_rule, program_app};
+ghost use Rattle.kb_cli.specs.CommandLine.{valued_rule, platform_rule, dirs_rule, program_app};
 ghost use Rattle.kb_cli.specs.CommandLine.{platform_given};
 
 use crate::given::{OptionsFault, Program};
@@ -18,18 +19,29 @@ use std::alloc::Global;
 static PLATFORM_NAMES: [&str; 3] = ["mac", "linux", "win"];
 
 /// The names that `--platform` takes.
-fn platform_names<'a>() -> &'a [&'a str]
+pub fn platform_names<'a>() -> &'a [&'a str]
     ensures { NamesPlatforms result }
 {
     PLATFORM_NAMES.as_slice()
 }
 
-/// The option `--NAME F`, where `help` says what F is.
-fn file_option<'a>(alloc: Global, name: &'a str, help: &'a str) -> Arg<'a>
-    ensures rule { rule_of result ≡ file_rule name.entry.now }
+/// The option `--NAME VALUE`, where `help` says what the value is.
+pub fn valued_option<'a>(alloc: Global, name: &'a str, value: &'a str, help: &'a str) -> Arg<'a>
+    ensures rule { rule_of result ≡ valued_rule name.entry.now }
     ensures local { result.global ≡ false }
 {
-    Arg::new(alloc, name).long(name).value_name("F").help(help)
+    Arg::new(alloc, name)
+        .long(name)
+        .value_name(value)
+        .help(help)
+}
+
+/// The option `--NAME F`, where `help` says what F is.
+pub fn file_option<'a>(alloc: Global, name: &'a str, help: &'a str) -> Arg<'a>
+    ensures rule { rule_of result ≡ valued_rule name.entry.now }
+    ensures local { result.global ≡ false }
+{
+    valued_option(alloc, name, "F", help)
 }
 
 /// The command without options. Help and error texts use the program's name, not the first word.
@@ -50,7 +62,7 @@ fn with<'a>(command: Command<'a>, option: Arg<'a>) -> Result<Command<'a>, NoMemo
 }
 
 /// The option `--platform P`, where P is one of these names.
-fn platform_option<'a>(alloc: Global, names: &'a [&'a str]) -> Arg<'a>
+pub fn platform_option<'a>(alloc: Global, names: &'a [&'a str]) -> Arg<'a>
     ensures rule { rule_of result ≡ platform_rule names.entry }
     ensures local { result.global ≡ false }
 {
@@ -62,7 +74,7 @@ fn platform_option<'a>(alloc: Global, names: &'a [&'a str]) -> Arg<'a>
 }
 
 /// The positional argument `[DIR]...`.
-fn dirs_argument<'a>(alloc: Global) -> Arg<'a>
+pub fn dirs_argument<'a>(alloc: Global) -> Arg<'a>
     ensures rule { rule_of result ≡ dirs_rule }
     ensures local { result.global ≡ false }
 {
@@ -123,8 +135,8 @@ fn matched<'a>(
     command_of(alloc, program, platforms)?.try_get_matches_from(words)
 }
 
-/// The text of an option, if it was given.
-fn text_given<'a>(matches: &ArgMatches<'a>, name: &str) -> Option<&'a str>
+/// The text of an argument, if it was given.
+pub fn text_given<'a>(matches: &ArgMatches<'a>, name: &str) -> Option<&'a str>
     ensures { option_map (λ s. s.now) result ≡ first_of name.now (rows_of (found_of matches.now)) }
 {
     matches.get_str(name)
@@ -140,7 +152,7 @@ fn platform_of(name: Option<&str>) -> Platform
     }
 }
 
-/// All texts of a positional argument, if it was given.
+/// All texts of an argument, if it was given.
 fn texts_given<'m, 'a>(matches: &'m ArgMatches<'a>, name: &str) -> Option<&'m [&'a str]>
     ensures { option_map (λ texts. map (λ s. s.now) texts.now) result
         ≡ all_of name.now (rows_of (found_of matches.now)) }
@@ -161,8 +173,24 @@ fn listed<'a>(alloc: Global, given: Option<&[&'a str]>) -> Result<Vec<&'a str>, 
     }
 }
 
-/// The options, from the matches.
-fn chosen<'a>(alloc: Global, matches: &ArgMatches<'a>) -> Result<Options<'a>, NoMemory>
+/// All texts of an argument, or an empty list if it was not given.
+///
+/// Errors: `NoMemory`.
+pub fn all_texts<'a>(
+    alloc: Global,
+    matches: &ArgMatches<'a>,
+    name: &str,
+) -> Result<Vec<&'a str>, NoMemory>
+    ensures { IfOk result (λ texts. map (λ s. s.now) texts.items
+        ≡ unwrap_or (all_of name.now (rows_of (found_of matches.now))) []) }
+{
+    listed(alloc, texts_given(matches, name))
+}
+
+/// The options, from the matches of a command that has them, or some of them.
+///
+/// Errors: `NoMemory` from the list of directories.
+pub fn options_in<'a>(alloc: Global, matches: &ArgMatches<'a>) -> Result<Options<'a>, NoMemory>
     ensures ok { IfOk result (Gives (rows_of (found_of matches.now))) }
     ensures err { IfErr result (λ _.
         is_some (all_of (codes "dir") (rows_of (found_of matches.now))) ≡ true) }
@@ -185,7 +213,7 @@ fn given<'a>(
     ensures { Answers read.entry result }
 {
     match read {
-        Ok(matches) => Ok(chosen(alloc, &matches)?),
+        Ok(matches) => Ok(options_in(alloc, &matches)?),
         Err(error) => Err(OptionsFault::from(error)),
     }
 }

@@ -4,5 +4,8 @@
 pub mod command_line;
 pub mod given;
 
-pub use command_line::{not_text, options};
+pub use command_line::{
+    all_texts, dirs_argument, file_option, not_text, options, options_in, platform_names,
+    platform_option, text_given, valued_option,
+};
 pub use given::{OptionsFault, Program, WordsFault, line_status, words_fault};

@@ -1,7 +1,7 @@
 -- What a check of the handlers in directories returns, by what the files in them hold.
 use Rattle.std.specs.Prelude.{◌≡◌, ◌≤◌, ◌↔◌, ◌⊎◌, ℕ, Bool, List, None, Result, Ok, Err, IsTrue, length, map}
 use Rattle.std.specs.Borrow.{Bor}
-use Rattle.kb_disk.specs.Files.{Held, unknown}
+use Rattle.kb_disk.specs.Files.{Held}
 use Rattle.kb_files.specs.Identifiers.{identifier_fault}
 use Rattle.kb_handler_report.specs.Extension.{names_of}
 use Rattle.kb_handler_report.specs.Files.{HasExtensions}
@@ -10,7 +10,7 @@ use Rattle.kb_handler_report.specs.Stop.{IsOfWriting}
 use Rattle.kb_handler_report.specs.Stopping.{StopsReading}
 use Rattle.kb_handler_report.specs.declared.extension.ExtensionCode.{ExtensionCode}
 use Rattle.kb_handler_report.specs.declared.stop.Stop.{Stop}
-use Rattle.kb_handler_report.specs.declared.stop.Stop.TheVariants.{NoMemory, NotWritten}
+use Rattle.kb_handler_report.specs.declared.stop.Stop.TheVariants.{NotWritten}
 
 -- these are the extensions of exactly these directories, at most 100, without a fault of their identifiers
 pub record AreRead (held : List ℕ → Held) (dirs : List (Bor (List ℕ))) (read : List ExtensionCode)
@@ -35,18 +35,9 @@ pub record StopsWriting (held : List ℕ → Held) (dirs : List (Bor (List ℕ))
 abbrev pub Stops : (List ℕ → Held) → List (Bor (List ℕ)) → Stop → Type 0
 Stops held dirs stop = StopsReading held dirs stop ⊎ StopsWriting held dirs stop
 
--- the end of a check
-abbrev pub Ends : (List ℕ → Held) → List (Bor (List ℕ)) → Result Bool Stop → Type 0
-Ends held dirs (Ok all) = HasChecked held dirs all
-Ends held dirs (Err stop) = Stops held dirs stop
-
 -- ---- for private functions
 
 -- the end of a check whose report was not written
 abbrev pub unwritten : Result Bool Stop → Result Bool Stop
 unwritten (Ok all) = Err NotWritten
 unwritten (Err stop) = Err stop
-
--- the end of a check over the system, or memory was refused before it
-abbrev pub EndsOnSystem : List (Bor (List ℕ)) → Result Bool Stop → Type 0
-EndsOnSystem dirs end = (end ≡ Err NoMemory) ⊎ Ends (λ path. unknown) dirs end

@@ -6,4 +6,3 @@ pub mod Visits
 pub mod Stop
 pub mod Stopping
 pub mod Check
-pub mod Line

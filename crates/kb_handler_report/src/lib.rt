@@ -11,15 +11,12 @@ pub mod judgement;
 mod meaning;
 mod path;
 pub mod report;
-pub mod run;
 mod sentences;
 pub mod stop;
-mod words;
 
 pub use callable::callable_of;
 pub use check::check_extensions;
 pub use extension::ExtensionCode;
 pub use judgement::{Judgement, judge};
 pub use report::report_extensions;
-pub use run::check_handlers;
 pub use stop::{Stop, status_of};

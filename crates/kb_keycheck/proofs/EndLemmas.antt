@@ -1,0 +1,150 @@
+-- Why runs stop.
+use Rattle.std.proofs.Common.{◌≡◌, ℕ, Bool, true, List, inl, inr, map, refl, sym, subst}
+use Rattle.std.specs.Borrow.{Bor}
+use Rattle.std.specs.Prelude.{Option, Some, None, Result, Ok, Err, IfErr, IfOk}
+use Rattle.kb_base.specs.declared.failure.Failure.{Failure}
+use Rattle.kb_base.specs.declared.failure.Failure.TheVariants as failure
+use Rattle.kb_bindings.specs.Load.{Files}
+use Rattle.kb_check_report.specs.Problems as problems
+use Rattle.kb_check_report.specs.declared.checking.Stop as checking
+use Rattle.kb_check_report.specs.declared.checking.Stop.TheVariants as checking_stop
+use Rattle.kb_check_report.specs.declared.choices.Choices.{Choices}
+use Rattle.kb_core.specs.Native.{natives}
+use Rattle.kb_disk.specs.Files.{Held, NamesFile}
+use Rattle.kb_disk.specs.declared.cannot_read.CannotRead.{CannotRead}
+use Rattle.kb_exit.specs.Report.{load_stop, read_stop, script_stop}
+use Rattle.kb_exit.specs.declared.outcome.Stop as outcome
+use Rattle.kb_exit.specs.declared.outcome.Stop.TheVariants as run
+use Rattle.kb_explain_report.specs.declared.output.Stop as saying
+use Rattle.kb_explain_report.specs.declared.output.Stop.TheVariants as saying_stop
+use Rattle.kb_files.specs.declared.fault.LoadFault.{LoadFault}
+use Rattle.kb_options.specs.declared.given.Options.{Options}
+use Rattle.kb_run.specs.Run.{FailsAtScript, FailsOpeningScript, FailsReadingFiles, HasFiles}
+use Rattle.kb_script.specs.declared.fault.ScriptFault.{ScriptFault}
+use Rattle.kb_script.specs.declared.fault.ScriptFault.TheVariants as script
+use Rattle.kb_session.specs.Session.{Loads, Seen}
+use Rattle.kb_keycheck.specs.Ends.{AreAccepted, AreChecked, AreLoaded, IsBehindLoad, StopsAnswering, StopsChecking}
+use Rattle.kb_keycheck.specs.Ends.{StopsOver, checked_stop, said_stop}
+use Rattle.kb_keycheck.specs.declared.ending.Stop.{Stop}
+use Rattle.kb_keycheck.specs.declared.ending.Stop.TheVariants.{Keys, Run, NotWritten}
+use Rattle.kb_keycheck.specs.declared.request.Question.{Question}
+
+-- ---- behind a load
+
+pub script_behind : (ran : Result (Unit {0}) (Failure ScriptFault)) (end : Result (Unit {0}) outcome.Stop)
+    → end ≡ script_stop ran true → IfErr end (λ stop. IsBehindLoad (Run stop))
+script_behind ran end is =
+    subst (λ e. IfErr e (λ stop. IsBehindLoad (Run stop))) (sym is) (stops ran) where
+      stops : (r : Result (Unit {0}) (Failure ScriptFault)) → IfErr (script_stop r true) (λ stop. IsBehindLoad (Run stop))
+      stops (Ok done) = tt
+      stops (Err failure.NoMemory) = tt
+      stops (Err (failure.Fault script.Stopped)) = tt
+      stops (Err (failure.Fault script.TooLong)) = tt
+      stops (Err (failure.Fault script.ReadFailed)) = tt
+      stops (Err (failure.Fault script.WriteFailed)) = tt
+      stops (Err (failure.Fault script.Trapped)) = tt
+
+pub said_behind : (stop : saying.Stop) (made : Stop) → made ≡ said_stop stop → IsBehindLoad made
+said_behind saying_stop.NoMemory made is = subst IsBehindLoad (sym is) tt
+said_behind saying_stop.NotWritten made is = subst IsBehindLoad (sym is) tt
+
+-- ---- over files
+
+pub accepts : (files : Files) (session : Seen) (end : Result (Unit {0}) Stop) → Loads files natives (Ok session)
+    → IfOk end (λ done. AreAccepted files)
+accepts files session (Ok done) loads = record { session = session; accepted = loads }
+accepts files session (Err stop) loads = tt
+
+stops_behind : (files : Files) → AreAccepted files → (stop : Stop) → IsBehindLoad stop → StopsOver files stop
+stops_behind files are (Keys fault) behind = absurd behind
+stops_behind files are (Run (run.Unread file)) behind = absurd behind
+stops_behind files are (Run (run.Load fault)) behind = absurd behind
+stops_behind files are (Run (run.Script fault)) behind = are
+stops_behind files are (Run run.NoMemory) behind = tt
+stops_behind files are NotWritten behind = are
+
+pub stops_over : (files : Files) (session : Seen) (end : Result (Unit {0}) Stop)
+    → Loads files natives (Ok session) → IfErr end IsBehindLoad → IfErr end (StopsOver files)
+stops_over files session (Ok done) loads behind = tt
+stops_over files session (Err stop) loads behind =
+    stops_behind files (record { session = session; accepted = loads }) stop behind
+
+pub load_stops : (files : Files) (failed : Failure LoadFault) (made : Stop) → Loads files natives (Err failed)
+    → made ≡ Run (load_stop failed) → StopsOver files made
+load_stops files failure.NoMemory made fails is = subst (StopsOver files) (sym is) tt
+load_stops files (failure.Fault fault) made fails is = subst (StopsOver files) (sym is) fails
+
+pub ruleset over = (accepts, stops_over, load_stops)
+
+-- ---- an answer
+
+pub reading_stops : (held : List ℕ → Held) (given : Options) (asked : Question) (failed : Failure CannotRead)
+    (made : Stop) → FailsReadingFiles held given failed → made ≡ Run (read_stop failed)
+    → StopsAnswering held given asked made
+reading_stops held given asked failure.NoMemory made fails is =
+    subst (StopsAnswering held given asked) (sym is) tt
+reading_stops held given asked (failure.Fault file) made fails is =
+    subst (StopsAnswering held given asked) (sym is) (inl fails)
+
+not_opened : {F : Type 0} (held : List ℕ → Held) (remaining : F → Option (List ℕ))
+    (named : Option (Bor (List ℕ))) (failed : Failure CannotRead) → NamesFile held remaining named (Err failed)
+    → FailsAtScript held named failed
+not_opened held remaining None failed fails = fails
+not_opened held remaining (Some path) failed fails = fails
+
+pub opening_stops : {F : Type 0} (held : List ℕ → Held) (remaining : F → Option (List ℕ)) (given : Options)
+    (asked : Question) (files : Files) (failed : Failure CannotRead) (made : Stop) → HasFiles held given files
+    → NamesFile held remaining given.script (Err failed) → made ≡ Run (read_stop failed)
+    → StopsAnswering held given asked made
+opening_stops held remaining given asked files failure.NoMemory made had fails is =
+    subst (StopsAnswering held given asked) (sym is) tt
+opening_stops held remaining given asked files (failure.Fault file) made had fails is =
+    subst (StopsAnswering held given asked) (sym is)
+    (inr ((files, had), not_opened held remaining given.script (failure.Fault file) fails))
+
+pub stops_answering : (held : List ℕ → Held) (given : Options) (asked : Question) (files : Files) (stop : Stop)
+    → HasFiles held given files → StopsOver files stop → StopsAnswering held given asked stop
+stops_answering held given asked files (Keys fault) had over = absurd over
+stops_answering held given asked files (Run (run.Unread file)) had over = absurd over
+stops_answering held given asked files (Run (run.Load fault)) had over =
+    record { files = files; had = had; refused = over }
+stops_answering held given asked files (Run (run.Script fault)) had over =
+    record { files = files; had = had; accepted = over }
+stops_answering held given asked files (Run run.NoMemory) had over = tt
+stops_answering held given asked files NotWritten had over =
+    record { files = files; had = had; accepted = over }
+
+pub loaded : (held : List ℕ → Held) (given : Options) (files : Files) → HasFiles held given files
+    → AreAccepted files → AreLoaded held given
+loaded held given files had accepted = record { files = files; had = had; accepted = accepted }
+
+pub ruleset answering = (reading_stops, opening_stops, stops_answering, loaded)
+
+-- ---- a check
+
+pub reading_checks : (held : List ℕ → Held) (given : Options) (failed : Failure CannotRead) (made : Stop)
+    → FailsReadingFiles held given failed → made ≡ Run (read_stop failed) → StopsChecking held given made
+reading_checks held given failure.NoMemory made fails is = subst (StopsChecking held given) (sym is) tt
+reading_checks held given (failure.Fault file) made fails is =
+    subst (StopsChecking held given) (sym is) fails
+
+pub check_stops : (held : List ℕ → Held) (given : Options) (files : Files) (stop : checking.Stop) (made : Stop)
+    → HasFiles held given files → made ≡ checked_stop stop → StopsChecking held given made
+check_stops held given files checking_stop.NoMemory made had is = subst (StopsChecking held given) (sym is) tt
+check_stops held given files checking_stop.NotWritten made had is =
+    subst (StopsChecking held given) (sym is) (record { files = files; had = had })
+
+pub all_checked : (held : List ℕ → Held) (given : Options) (files seen : Files) (choices : Choices) (clean : Bool)
+    → HasFiles held given files → seen ≡ files → problems.Checks seen choices clean
+    → AreChecked held given (map (λ (name : Bor (List ℕ)). name.now) choices.allowed.now)
+    (map (λ (name : Bor (List ℕ)). name.now) choices.asked.now) clean
+all_checked held given files seen choices clean had are checks = record {
+  files = files;
+  had = had;
+  choices = choices;
+  allowed_are = refl;
+  asked_are = refl;
+  checks = subst (λ (fs : Files). problems.Checks fs choices clean) are checks;
+}
+
+pub ruleset checks = (reading_checks, check_stops, all_checked)

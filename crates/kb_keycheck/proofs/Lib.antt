@@ -1,0 +1,5 @@
+pub mod DoesLemmas
+pub mod EndLemmas
+pub mod LineLemmas
+mod LineRows
+pub mod RunLemmas

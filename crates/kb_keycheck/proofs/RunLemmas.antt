@@ -1,0 +1,46 @@
+-- The exit statuses of runs.
+use Rattle.std.proofs.Common.{◌≡◌, ◌∙◌, ℕ, List, ap, inl, inr}
+use Rattle.std.specs.Prelude.{Ok, Err}
+use Rattle.clap.specs.Words.{Text, subcommand_rows_of}
+use Rattle.clap.specs.declared.error.Error.{Error}
+use Rattle.clap.specs.declared.parser.matches.ArgMatches.{ArgMatches}
+use Rattle.kb_cli.specs.CommandLine.{fault_by, line_status_of}
+use Rattle.kb_cli.specs.declared.given.OptionsFault.{OptionsFault}
+use Rattle.kb_cli.specs.declared.given.OptionsFault.TheVariants.{Line, NoMemory}
+use Rattle.kb_keycheck.specs.CommandLine.{IsMatched}
+use Rattle.kb_keycheck.specs.Ends.{HasNoWords, IsLineFault, Obeys, ObeysLine, RunsLine, RunsOnSystem, fault_status}
+
+pub obeys_line : (words : List Text) (m : ArgMatches) (status : ℕ) → IsMatched words (Ok m)
+    → Obeys (subcommand_rows_of m) status → ObeysLine words status
+obeys_line words m status has obeys = record { matches = m; by_clap = has; obeys = obeys }
+
+pub refused_line : (words : List Text) (e : Error) (fault : OptionsFault) → IsMatched words (Err e)
+    → fault ≡ fault_by e → IsLineFault words fault
+refused_line words e fault has is = inr (e, has, is)
+
+pub ruleset line_ends = (obeys_line, refused_line)
+
+pub obeyed_status : (words : List Text) (status : ℕ) → ObeysLine words status → RunsLine words status
+obeyed_status words status obeys = inr (inr obeys)
+
+pub refused_status : (words : List Text) (fault : OptionsFault) (status : ℕ) → IsLineFault words fault
+    → status ≡ fault_status fault → RunsLine words status
+refused_status words fault status (inl is) status_is = inl (status_is ∙ ap fault_status is)
+refused_status words fault status (inr (e, has, is)) status_is = inr (inl (record {
+  error = e;
+  by_clap = has;
+  status_is = status_is ∙ ap fault_status is;
+}))
+
+pub ruleset line_status = (obeyed_status, refused_status)
+
+-- the words could not be read
+pub no_words_status : (fault : OptionsFault) (status : ℕ) → HasNoWords fault → status ≡ fault_status fault
+    → RunsOnSystem status
+no_words_status (Line e) status is status_is = inl (inl (status_is ∙ ap line_status_of is))
+no_words_status NoMemory status is status_is = inl (inr status_is)
+
+pub words_status : (words : List Text) (status : ℕ) → RunsLine words status → RunsOnSystem status
+words_status words status runs = inr (words, runs)
+
+pub ruleset on_system = (no_words_status, words_status)

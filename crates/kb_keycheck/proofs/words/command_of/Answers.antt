@@ -1,0 +1,12 @@
+use Rattle.std.proofs.lemmas.Result.{IfOk-weaker}
+use Rattle.kb_keycheck.proofs.words.command_of.Goals as goal
+
+pub returns : goal.returns
+returns c =
+    let check = c.in_ok-command.ensures _ _ c.in_ok-bare.ensures c.in_ok-check.ensures in
+    let explain = c.in_ok-command-2.ensures _ _ check c.in_ok-explain.ensures in
+    let list = c.in_ok-command-3.ensures _ _ explain c.in_ok-list.ensures in
+    let context = c.in_ok-command-4.ensures _ _ list c.in_ok-context.ensures in
+    let palette = c.in_ok-command-5.ensures _ _ context c.in_ok-palette.ensures in
+    IfOk-weaker c.with_subcommand-6.result _ _ (λ made h. h _ _ palette c.in_ok-handlers.ensures)
+    c.with_subcommand-6.ensures

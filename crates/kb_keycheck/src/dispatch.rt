@@ -1,0 +1,157 @@
+//! Does what a command line asks for, over the system.
+ghost use Rattle.std.specs.Prelude.{◌≡◌, ◌≤◌, ◌⊎◌};
+ghost use Rattle.clap.specs.Words.{found_of, rows_of, subcommand_rows_of};
+ghost use Rattle.kb_keycheck.specs.Ends.{AnswersBy, ChecksBy, DoesCommand, HandlersBy, Obeys};
+
+use crate::checking::check_files;
+use crate::ending::{Stop, answer_status, check_status};
+use crate::explaining::answer_question;
+use crate::mistakes::Mistakes;
+use crate::reason::unread_reason;
+use crate::request::{Subcommand, Topic, given_in, question_in, subcommand_named};
+use clap::ArgMatches;
+use kb_cli::all_texts;
+use kb_disk::{FileSource, SystemFiles};
+use kb_handler_report::{check_extensions, status_of};
+use std::alloc::Global;
+use std::fmt::Display;
+use std::io;
+use std::io::{BufWriter, Write};
+use std::rt::Files;
+
+/// Does `check`, and returns how it ended.
+#[tactic(auto, using(crate::proofs::DoesLemmas::checks))]
+fn check<'a, F: FileSource, W: Write + Drop>(
+    alloc: Global,
+    matches: &ArgMatches<'a>,
+    files: &F,
+    out: &mut BufWriter<W>,
+) -> Result<bool, Stop<'a>>
+    ensures { ChecksBy (F.held files.now) (rows_of (found_of matches.now)) result }
+{
+    let given = given_in(alloc, matches)?;
+    let allowed = all_texts(alloc, matches, "allow")?;
+    let asked = all_texts(alloc, matches, "warn")?;
+    let (allowed, asked) = (allowed.as_slice(), asked.as_slice());
+    check_files(alloc, &given, allowed, asked, files, out)
+}
+
+/// Answers a question, and returns how that ended.
+#[tactic(auto, using(crate::proofs::DoesLemmas::answers))]
+fn answer<'a, F: FileSource, W: Write + Drop>(
+    alloc: Global,
+    topic: Topic,
+    matches: &ArgMatches<'a>,
+    files: &F,
+    mistakes: &mut Mistakes,
+    out: &mut BufWriter<W>,
+) -> Result<(), Stop<'a>>
+    ensures { AnswersBy (F.held files.now) topic (rows_of (found_of matches.now)) result }
+{
+    let given = given_in(alloc, matches)?;
+    answer_question(
+        alloc,
+        &given,
+        question_in(topic, matches),
+        files,
+        mistakes,
+        out,
+    )
+}
+
+/// Does `handlers`, and returns how it ended.
+#[tactic(auto, using(crate::proofs::DoesLemmas::handles))]
+fn check_handlers<F: FileSource, W: Write + Drop>(
+    alloc: Global,
+    matches: &ArgMatches<'_>,
+    files: &F,
+    out: &mut BufWriter<W>,
+) -> Result<bool, kb_handler_report::Stop>
+    ensures { HandlersBy (F.held files.now) (rows_of (found_of matches.now)) result }
+{
+    let dirs = all_texts(alloc, matches, "dir")?;
+    check_extensions(alloc, files, dirs.as_slice(), out)
+}
+
+/// Does what a command asks for, says why it stopped, if it did, and returns the exit status.
+#[tactic(auto, using(crate::proofs::DoesLemmas::statuses))]
+fn obey_command<R: Files + Print + Eprint>(
+    rt: &R,
+    alloc: Global,
+    command: Subcommand,
+    matches: &ArgMatches<'_>,
+) -> u8
+    ensures does { (result ≡ 4) ⊎ DoesCommand command (rows_of (found_of matches.now)) result }
+    ensures table { result ≤ 4 }
+{
+    let Ok(mut out) = BufWriter::new(alloc, io::writer(rt)) else {
+        let _ = rt.eprintln("stopped: out of memory");
+        return 4;
+    };
+    let files = SystemFiles { rt };
+    match command {
+        Subcommand::Check => {
+            let end = check(alloc, matches, &files, &mut out);
+            say_stop(rt, alloc, &end);
+            check_status(&end)
+        }
+        Subcommand::Ask(topic) => {
+            let mut mistakes = Mistakes::none(alloc);
+            let end = answer(alloc, topic, matches, &files, &mut mistakes, &mut out);
+            say_mistakes(rt, &mistakes);
+            say_stop(rt, alloc, &end);
+            answer_status(&end)
+        }
+        Subcommand::Handlers => {
+            let end = check_handlers(alloc, matches, &files, &mut out);
+            say_end(rt, &end);
+            status_of(&end)
+        }
+    }
+}
+
+/// Says which lines of a script can't be read and which of its events are refused.
+fn say_mistakes<R: Eprint>(rt: &R, mistakes: &Mistakes) {
+    for line in mistakes.text().lines() {
+        let _ = rt.eprintln(format_args!("script: {line}"));
+    }
+}
+
+/// Why a run that stopped could not read a file, if that is why.
+fn reason_of<R: Files>(rt: &R, alloc: Global, stop: &Stop<'_>) -> &'static str {
+    match stop {
+        Stop::Run(kb_exit::Stop::Unread(file)) => unread_reason(rt, alloc, *file),
+        _ => "",
+    }
+}
+
+/// Says why a run stopped, if it did.
+fn say_stop<R: Files + Eprint, T>(rt: &R, alloc: Global, end: &Result<T, Stop<'_>>) {
+    if let Err(stop) = end {
+        let reason = reason_of(rt, alloc, stop);
+        let _ = rt.eprintln(format_args!("{stop}{reason}"));
+    }
+}
+
+/// Says why a check of handlers stopped, if it did.
+fn say_end<R: Eprint, T, S: Display>(rt: &R, end: &Result<T, S>) {
+    if let Err(stop) = end {
+        let _ = rt.eprintln(stop);
+    }
+}
+
+/// Does what the matches of a command line ask for, and returns the exit status. `clap` refuses a line
+/// without a command.
+#[tactic(auto, using(crate::proofs::DoesLemmas::obeys))]
+pub(crate) fn obey<R: Files + Print + Eprint>(rt: &R, alloc: Global, matches: &ArgMatches<'_>) -> u8
+    ensures does { Obeys (subcommand_rows_of matches.now) result }
+    ensures table { result ≤ 4 }
+{
+    let Some(named) = matches.subcommand() else {
+        return 2;
+    };
+    match subcommand_named(named.0) {
+        Some(command) => obey_command(rt, alloc, command, named.1),
+        None => 2,
+    }
+}

@@ -1,0 +1,407 @@
+//! `explain`, `list`, `context` and `palette`: what a loaded session says.
+ghost use Rattle.std.specs.Prelude.{◌≡◌, ◌++◌, ◌∷◌, [], IfErr, IfOk, OnOk, map, option_map};
+ghost use Rattle.std.specs.Io.Buffered.{writer_buffer};
+ghost use Rattle.kb_bindings.specs.Load.{files_of};
+ghost use Rattle.kb_check_report.specs.Problems.{files_in};
+ghost use Rattle.kb_core.specs.Native.{natives};
+ghost use Rattle.kb_files.specs.Extensions.{extension_bytes};
+ghost use Rattle.kb_session.specs.Session.{Loads};
+ghost use Rattle.kb_session.specs.State.{happens, next};
+ghost use Rattle.kb_source_files.specs.SourceFiles.{bytes_of_extension};
+ghost use Rattle.kb_stream.specs.Fold.{after_all};
+ghost use Rattle.kb_keycheck.specs.Ends.{AreAccepted, AreLoaded, IsBehindLoad, StopsAnswering, StopsOver};
+ghost use Rattle.kb_keycheck.specs.Ends.{keys_asked, strokes_in};
+ghost use Rattle.kb_keycheck.specs.Files.{files_held};
+
+use crate::ending::Stop;
+use crate::files::{FileBytes, read_files};
+use crate::mistakes::Mistakes;
+use crate::request::{Given, Question};
+use kb_base::{Failure, NoMemory};
+use kb_disk::{FileSource, file_named};
+use kb_embed::{Cost, PlainCommand, commands};
+use kb_exit::script_stop;
+use kb_explain_report::{
+    Form, Named, RulePlaces, Situation, say_command, say_commands, say_context, say_press,
+    say_rules,
+};
+use kb_files::{ExtensionFiles, Inputs, LoadFault};
+use kb_keys::{Chord, KeyFault, Keystroke};
+use kb_script::stream_script;
+use kb_session::Session;
+use kb_source_files::SourceFiles;
+use kb_trace::Event;
+use std::alloc::{AllocError, Global};
+use std::io::{BufWriter, Read, Write};
+
+/// The text of the keystrokes of a question, if it has one.
+fn keys_of<'m>(question: Question<'m>) -> Option<&'m str>
+    ensures { option_map (λ keys. keys.now) result ≡ keys_asked question.entry }
+{
+    match question {
+        Question::Press(keys) => Some(keys),
+        Question::Rules(keys) => keys,
+        Question::Context | Question::Palette(_, _) => None,
+    }
+}
+
+/// The keystrokes of a text, none without a text.
+fn strokes_of(alloc: Global, keys: Option<&str>) -> Result<Chord, KeyFault>
+    ensures { result ≡ strokes_in (option_map (λ keys. keys.now) keys.entry) }
+{
+    match keys {
+        Some(keys) => Chord::parse(alloc, keys),
+        None => Ok(Chord::new(alloc)),
+    }
+}
+
+/// What a load takes of these files, with the bytes of their extensions.
+fn inputs_of<'a>(files: &SourceFiles<'a>, extensions: &'a [ExtensionFiles<'a>]) -> Inputs<'a>
+    requires { map extension_bytes extensions.now ≡ map bytes_of_extension files.now.extensions.now }
+    ensures { files_of result ≡ files_in files.now }
+{
+    files.inputs(extensions)
+}
+
+/// Loads a session, whose native commands cost one instruction each.
+fn load_inputs(
+    alloc: Global,
+    inputs: Inputs<'_>,
+) -> Result<Session<PlainCommand>, Failure<LoadFault>>
+    ensures { Loads (files_of inputs.entry) natives result }
+{
+    let made = commands(alloc, Cost::One)?;
+    Session::load(alloc, inputs, made)
+}
+
+/// Loads a session from files.
+fn load(alloc: Global, files: &SourceFiles<'_>) -> Result<Session<PlainCommand>, Failure<LoadFault>>
+    ensures { Loads (files_in files.now) natives result }
+{
+    let extensions = files.extension_files(alloc)?;
+    load_inputs(alloc, inputs_of(files, extensions.as_slice()))
+}
+
+/// Runs a script over a session. What it traces isn't written; its mistakes are noted.
+#[tactic(auto, using(crate::proofs::EndLemmas::script_behind))]
+fn play<'a, S: Read>(
+    alloc: Global,
+    script: &mut S,
+    session: &mut Session<PlainCommand>,
+    mistakes: &mut Mistakes,
+) -> Result<(), kb_exit::Stop<'a>>
+    ensures { IfErr result (λ stop. IsBehindLoad (Stop.Run stop)) }
+{
+    let mut shelf = commands(alloc, Cost::Budget)?;
+    let ran = stream_script(alloc, script, mistakes, session, &mut shelf);
+    script_stop(ran, true)
+}
+
+/// Runs a script over a session, if there is one.
+fn play_any<'a, S: Read + Drop>(
+    alloc: Global,
+    script: Option<S>,
+    session: &mut Session<PlainCommand>,
+    mistakes: &mut Mistakes,
+) -> Result<(), Stop<'a>>
+    ensures { IfErr result IsBehindLoad }
+{
+    match script {
+        Some(mut script) => match play(alloc, &mut script, session, mistakes) {
+            Ok(()) => Ok(()),
+            Err(stop) => Err(Stop::Run(stop)),
+        },
+        None => Ok(()),
+    }
+}
+
+/// The presses of keys.
+fn presses(alloc: Global, strokes: &[Keystroke]) -> Result<Vec<Event>, NoMemory>
+    ensures { IfOk result (λ events. map happens events.items
+        ≡ map (λ stroke. happens (Event.Key stroke)) strokes.now) }
+{
+    let mut events = Vec::new(alloc);
+    for stroke in strokes {
+        events.push(Event::Key(*stroke)).map_err(NoMemory::from)?;
+    }
+    Ok(events)
+}
+
+/// Presses keys. A session whose handlers are verified stops only for refused memory.
+fn press_all(
+    alloc: Global,
+    session: &mut Session<PlainCommand>,
+    strokes: &[Keystroke],
+) -> Result<(), NoMemory>
+    ensures { OnOk result (session.new
+        ≡ after_all next (map (λ stroke. happens (Event.Key stroke)) strokes.now) session.old) }
+{
+    let events = presses(alloc, strokes)?;
+    match session.run(events) {
+        Ok(()) => Ok(()),
+        Err(_) => Err(AllocError),
+    }
+}
+
+/// The keystrokes of the open chord with one more.
+fn strokes_with(
+    alloc: Global,
+    pressed: &[Keystroke],
+    stroke: Keystroke,
+) -> Result<Vec<Keystroke>, NoMemory>
+    ensures { IfOk result (λ made. made.items ≡ pressed.now ++ stroke ∷ []) }
+{
+    let mut strokes = Vec::from_slice(alloc, pressed)?;
+    strokes.push(stroke).map_err(NoMemory::from)?;
+    Ok(strokes)
+}
+
+/// What stopped a report.
+#[tactic(auto, using(crate::proofs::EndLemmas::said_behind))]
+fn reported<'a>(end: Result<(), kb_explain_report::Stop>) -> Result<(), Stop<'a>>
+    ensures { IfErr result IsBehindLoad }
+{
+    match end {
+        Ok(()) => Ok(()),
+        Err(stop) => Err(Stop::from(stop)),
+    }
+}
+
+/// Writes why a press does what it does that completes these keystrokes.
+fn explain_press<'s, 'a, W: Write>(
+    alloc: Global,
+    session: &'s Session<PlainCommand>,
+    files: &'s SourceFiles<'s>,
+    places: &'s RulePlaces,
+    strokes: &'s [Keystroke],
+    form: Form,
+    out: &mut W,
+) -> Result<(), Stop<'a>>
+    ensures { IfErr result IsBehindLoad }
+{
+    let situation = Situation {
+        strokes,
+        scopes: session.core().scopes(),
+        named: Named {
+            bindings: session.bindings(),
+            files,
+            places,
+        },
+    };
+    reported(say_press(alloc, &situation, form, out))
+}
+
+/// Presses all of these keystrokes but the last, and writes why the last does what it does.
+fn explain<'a, W: Write>(
+    alloc: Global,
+    session: &mut Session<PlainCommand>,
+    files: &SourceFiles<'_>,
+    strokes: &[Keystroke],
+    form: Form,
+    out: &mut W,
+) -> Result<(), Stop<'a>>
+    ensures { IfErr result IsBehindLoad }
+{
+    let Some((last, before)) = strokes.split_last() else {
+        return Ok(());
+    };
+    press_all(alloc, session, before)?;
+    let places = RulePlaces::of(alloc, files)?;
+    let strokes = strokes_with(alloc, session.pressed(), *last)?;
+    let strokes = strokes.as_slice();
+    explain_press(alloc, &*session, &*files, &places, strokes, form, out)
+}
+
+/// Writes the rules in force.
+fn list<'a, W: Write>(
+    alloc: Global,
+    session: &Session<PlainCommand>,
+    files: &SourceFiles<'_>,
+    strokes: &[Keystroke],
+    form: Form,
+    out: &mut W,
+) -> Result<(), Stop<'a>>
+    ensures { IfErr result IsBehindLoad }
+{
+    let places = RulePlaces::of(alloc, files)?;
+    let named = Named {
+        bindings: session.bindings(),
+        files: &*files,
+        places: &places,
+    };
+    reported(say_rules(alloc, &named, strokes, form, out))
+}
+
+/// Writes which commands the palette lists for a query, and why not, of one command or of all.
+fn palette<'a, W: Write>(
+    alloc: Global,
+    session: &Session<PlainCommand>,
+    query: &str,
+    command: Option<&str>,
+    form: Form,
+    out: &mut W,
+) -> Result<(), Stop<'a>>
+    ensures { IfErr result IsBehindLoad }
+{
+    let bindings = session.bindings();
+    let scopes = session.core().scopes();
+    match command {
+        Some(command) => reported(say_command(alloc, bindings, query, command, scopes, form, out)),
+        None => reported(say_commands(alloc, bindings, query, scopes, form, out)),
+    }
+}
+
+/// Answers a question about a session, with its keystrokes.
+fn answer<'a, W: Write>(
+    alloc: Global,
+    session: &mut Session<PlainCommand>,
+    files: &SourceFiles<'_>,
+    question: Question<'_>,
+    strokes: &[Keystroke],
+    form: Form,
+    out: &mut W,
+) -> Result<(), Stop<'a>>
+    ensures { IfErr result IsBehindLoad }
+{
+    match question {
+        Question::Press(_) => explain(alloc, session, files, strokes, form, out),
+        Question::Rules(_) => list(alloc, session, files, strokes, form, out),
+        Question::Context => reported(say_context(alloc, session.core().scopes(), form, out)),
+        Question::Palette(query, command) => palette(alloc, session, query, command, form, out),
+    }
+}
+
+/// The files that the rules in force were read from: behind a reload by the script without the user's rules,
+/// which the script has. A session has one list of unread patterns for the load, and one for each reload.
+fn files_in_force<'s>(files: &SourceFiles<'s>, session: &Session<PlainCommand>) -> SourceFiles<'s> {
+    let user = if session.unread().len() > 1 {
+        None
+    } else {
+        files.user
+    };
+    SourceFiles {
+        layout: files.layout,
+        defaults: files.defaults,
+        user,
+        platform: files.platform,
+        extensions: files.extensions,
+    }
+}
+
+/// Runs the script over a session, and answers a question.
+fn answer_behind<'a, S: Read + Drop, W: Write>(
+    alloc: Global,
+    session: &mut Session<PlainCommand>,
+    files: &SourceFiles<'_>,
+    script: Option<S>,
+    question: Question<'_>,
+    strokes: &[Keystroke],
+    form: Form,
+    mistakes: &mut Mistakes,
+    out: &mut W,
+) -> Result<(), Stop<'a>>
+    ensures { IfErr result IsBehindLoad }
+{
+    play_any(alloc, script, session, mistakes)?;
+    let in_force = files_in_force(files, session);
+    answer(alloc, session, &in_force, question, strokes, form, out)
+}
+
+/// Loads a session from files, runs the script, and answers a question.
+#[tactic(auto, using(crate::proofs::EndLemmas::over))]
+fn answer_over<'a, S: Read + Drop, W: Write>(
+    alloc: Global,
+    files: &SourceFiles<'_>,
+    script: Option<S>,
+    question: Question<'_>,
+    strokes: &[Keystroke],
+    form: Form,
+    mistakes: &mut Mistakes,
+    out: &mut W,
+) -> Result<(), Stop<'a>>
+    ensures answered { IfOk result (λ _. AreAccepted (files_in files.now)) }
+    ensures stopped { IfErr result (StopsOver (files_in files.now)) }
+{
+    match load(alloc, files) {
+        Ok(mut session) => {
+            let end = answer_behind(
+                alloc,
+                &mut session,
+                files,
+                script,
+                question,
+                strokes,
+                form,
+                mistakes,
+                out,
+            );
+            drop(session.into_trace());
+            end
+        }
+        Err(failure) => Err(Stop::from(failure)),
+    }
+}
+
+/// The same over the bytes of files that were read.
+fn answer_read<'a, S: Read + Drop, W: Write + Drop>(
+    alloc: Global,
+    read: &FileBytes<'_>,
+    script: Option<S>,
+    question: Question<'_>,
+    strokes: &[Keystroke],
+    form: Form,
+    mistakes: &mut Mistakes,
+    out: &mut BufWriter<W>,
+) -> Result<(), Stop<'a>>
+    ensures answered { IfOk result (λ _. AreAccepted (files_held read.now)) }
+    ensures stopped { IfErr result (StopsOver (files_held read.now)) }
+{
+    let extensions = read.extension_sources(alloc)?;
+    let sources = read.sources(extensions.as_slice());
+    answer_over(
+        alloc, &sources, script, question, strokes, form, mistakes, out,
+    )
+}
+
+/// Reads the files that a command line names, loads a session, runs the script, answers a question, and
+/// flushes the buffer.
+///
+/// Errors: first that the keystrokes of the question can't be read; then the first file that can't be read
+/// or opened; then why the load is refused; then that the script did not run to its end; then a write that
+/// failed; or refused memory.
+#[tactic(auto, using(crate::proofs::EndLemmas::answering))]
+pub(crate) fn answer_question<'m, F: FileSource, W: Write + Drop>(
+    alloc: Global,
+    given: &Given<'m>,
+    question: Question<'_>,
+    files: &F,
+    mistakes: &mut Mistakes,
+    out: &mut BufWriter<W>,
+) -> Result<(), Stop<'m>>
+    ensures answered { IfOk result (λ _. AreLoaded (F.held files.now) given.now.options) }
+    ensures stopped { IfErr result (StopsAnswering (F.held files.now) given.now.options question.entry) }
+
+    // An answer is only given if no part of it is left in the buffer.
+    ensures flushed { IfOk result (λ _. writer_buffer out.new ≡ []) }
+{
+    let strokes = match strokes_of(alloc, keys_of(question)) {
+        Ok(strokes) => strokes,
+        Err(fault) => return Err(Stop::Keys(fault)),
+    };
+    let read = read_files(alloc, &given.options, files)?;
+    let script = file_named(files, given.options.script)?;
+    answer_read(
+        alloc,
+        &read,
+        script,
+        question,
+        strokes.as_slice(),
+        given.form,
+        mistakes,
+        out,
+    )?;
+    match out.flush() {
+        Ok(()) => Ok(()),
+        Err(_) => Err(Stop::NotWritten),
+    }
+}

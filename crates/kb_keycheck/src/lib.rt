@@ -1,0 +1,15 @@
+//! `keycheck`: what people read of their files, of a key press, of the rules in force and of the context.
+#![tactic(auto)]
+
+pub mod checking;
+pub mod dispatch;
+pub mod ending;
+pub mod explaining;
+pub mod files;
+pub mod mistakes;
+pub mod reason;
+pub mod request;
+pub mod running;
+pub mod words;
+
+pub use running::keycheck;

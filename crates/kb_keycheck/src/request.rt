@@ -1,0 +1,117 @@
+//! What a command line asks for.
+ghost use Rattle.std.specs.Prelude.{◌≡◌, [], IfOk, unwrap_or};
+ghost use Rattle.clap.specs.Words.{first_of, found_of, rows_of};
+ghost use Rattle.kb_keycheck.specs.CommandLine.{IsAsked, IsForm, IsGiven, subcommand_named};
+
+use clap::ArgMatches;
+use kb_base::NoMemory;
+use kb_cli::{options_in, text_given};
+use kb_explain_report::Form;
+use kb_options::Options;
+use std::alloc::Global;
+
+/// What a command that loads a session says.
+#[derive(Clone, Copy, Debug, PartialEq, Eq)]
+pub enum Topic {
+    /// `explain`: why a key press does what it does.
+    Press,
+    /// `list`: which rules are in force.
+    Rules,
+    /// `context`: what the focus sees.
+    Context,
+    /// `palette`: what the palette lists.
+    Palette,
+}
+
+/// A command of the program.
+#[derive(Clone, Copy, Debug, PartialEq, Eq)]
+pub enum Subcommand {
+    /// `check`.
+    Check,
+    /// One that loads a session.
+    Ask(Topic),
+    /// `handlers`.
+    Handlers,
+}
+
+/// What is asked of a loaded session.
+#[derive(Clone, Copy, Debug)]
+pub enum Question<'m> {
+    /// Why these keystrokes do what they do.
+    Press(&'m str),
+    /// Which rules are in force, of these keystrokes or all.
+    Rules(Option<&'m str>),
+    /// What the focus sees.
+    Context,
+    /// What the palette lists for a query, of one command or all.
+    Palette(&'m str, Option<&'m str>),
+}
+
+/// The files that a command line names, and how lines are written.
+#[derive(Drop)]
+pub struct Given<'m> {
+    /// The files, with the script that runs first.
+    pub options: Options<'m>,
+    /// How lines are written.
+    pub form: Form,
+}
+
+/// The command of this name.
+pub(crate) fn subcommand_named(name: &str) -> Option<Subcommand>
+    ensures { result ≡ subcommand_named name.now }
+{
+    match name {
+        "check" => Some(Subcommand::Check),
+        "explain" => Some(Subcommand::Ask(Topic::Press)),
+        "list" => Some(Subcommand::Ask(Topic::Rules)),
+        "context" => Some(Subcommand::Ask(Topic::Context)),
+        "palette" => Some(Subcommand::Ask(Topic::Palette)),
+        "handlers" => Some(Subcommand::Handlers),
+        _ => None,
+    }
+}
+
+/// The text of an argument, empty where it isn't given.
+fn text_or_empty<'a>(matches: &ArgMatches<'a>, name: &str) -> &'a str
+    ensures { result.now ≡ unwrap_or (first_of name.now (rows_of (found_of matches.now))) [] }
+{
+    text_given(matches, name).unwrap_or("")
+}
+
+/// How lines are written.
+fn form_asked(matches: &ArgMatches<'_>) -> Form
+    ensures { IsForm (rows_of (found_of matches.now)) result }
+{
+    if matches.get_flag("json") {
+        Form::Json
+    } else {
+        Form::Text
+    }
+}
+
+/// The files that matches name, and how lines are written.
+///
+/// Errors: `NoMemory` from the list of directories.
+pub(crate) fn given_in<'a>(alloc: Global, matches: &ArgMatches<'a>) -> Result<Given<'a>, NoMemory>
+    ensures { IfOk result (IsGiven (rows_of (found_of matches.now))) }
+{
+    Ok(Given {
+        options: options_in(alloc, matches)?,
+        form: form_asked(matches),
+    })
+}
+
+/// The question that the matches of a command ask.
+pub(crate) fn question_in<'a>(topic: Topic, matches: &ArgMatches<'a>) -> Question<'a>
+    ensures { IsAsked topic (rows_of (found_of matches.now)) result }
+{
+    match topic {
+        Topic::Press => Question::Press(text_or_empty(matches, "key")),
+        Topic::Rules => Question::Rules(text_given(matches, "key")),
+        Topic::Context => Question::Context,
+        Topic::Palette => Question::Palette(
+            text_or_empty(matches, "query"),
+            text_given(matches, "command"),
+        ),
+    }
+}
