@@ -13,6 +13,7 @@ pub mod press_said;
 pub mod removed_said;
 pub mod rule_places;
 pub mod rule_said;
+pub mod trace_said;
 pub mod value_said;
 
 pub use clauses::clause_text;
@@ -23,3 +24,4 @@ pub use palette_said::{say_command, say_commands};
 pub use press_said::{Press, Situation, explained_press, say_press};
 pub use rule_places::RulePlaces;
 pub use rule_said::Named;
+pub use trace_said::say_trace;

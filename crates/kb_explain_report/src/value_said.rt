@@ -13,22 +13,28 @@ fn list_of(alloc: Global, texts: &[Text]) -> Result<Value, NoMemory> {
     Ok(Value::Array(list))
 }
 
-/// A value as JSON. Of an object only the names of its members are known, so it is a list of them.
+/// A value as JSON. Of an object only the names of its members are known, so it is an object with a list of
+/// them.
 pub(crate) fn value_json(alloc: Global, value: &ContextValue) -> Result<Value, NoMemory> {
     match value {
         ContextValue::Truth(truth) => Ok(json!(in alloc; (*truth))?),
         ContextValue::Number(number) => Ok(json!(in alloc; (*number))?),
         ContextValue::Text(text) => Value::try_from_str(alloc, text.as_str()),
         ContextValue::Texts(texts) => list_of(alloc, texts.as_slice()),
-        ContextValue::Names(names) => list_of(alloc, names.as_slice()),
+        ContextValue::Names(names) => {
+            let members = list_of(alloc, names.as_slice())?;
+            json!(in alloc; {"members": members})
+        }
     }
 }
 
 /// A value as a text.
 pub(crate) fn value_text(alloc: Global, value: &ContextValue) -> Result<String, NoMemory> {
-    let json = value_json(alloc, value)?.to_string(alloc)?;
     match value {
-        ContextValue::Names(_) => format!(in alloc; "an object with the members {json}"),
-        _ => Ok(json),
+        ContextValue::Names(names) => {
+            let members = list_of(alloc, names.as_slice())?.to_string(alloc)?;
+            format!(in alloc; "an object with the members {members}")
+        }
+        _ => value_json(alloc, value)?.to_string(alloc),
     }
 }

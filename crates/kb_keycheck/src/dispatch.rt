@@ -1,7 +1,8 @@
 //! Does what a command line asks for, over the system.
 ghost use Rattle.std.specs.Prelude.{◌≡◌, ◌≤◌, ◌⊎◌};
 ghost use Rattle.clap.specs.Words.{found_of, rows_of, subcommand_rows_of};
-ghost use Rattle.kb_keycheck.specs.Ends.{AnswersBy, ChecksBy, DoesCommand, HandlersBy, Obeys};
+ghost use Rattle.kb_keycheck.specs.Ends.{Answers, AnswersBy, Checks, ChecksBy, DoesCommand, Handles};
+ghost use Rattle.kb_keycheck.specs.Ends.{HandlersBy, Obeys};
 
 use crate::checking::check_files;
 use crate::ending::{Stop, answer_status, check_status};
@@ -73,8 +74,59 @@ fn check_handlers<F: FileSource, W: Write + Drop>(
     check_extensions(alloc, files, dirs.as_slice(), out)
 }
 
-/// Does what a command asks for, says why it stopped, if it did, and returns the exit status.
+/// Does `check`, says why it stopped, if it did, and returns the exit status.
 #[tactic(auto, using(crate::proofs::DoesLemmas::statuses))]
+fn obey_check<R: Files + Eprint, W: Write + Drop>(
+    rt: &R,
+    alloc: Global,
+    matches: &ArgMatches<'_>,
+    out: &mut BufWriter<W>,
+) -> u8
+    ensures does { Checks (rows_of (found_of matches.now)) result }
+    ensures table { result ≤ 4 }
+{
+    let end = check(alloc, matches, &SystemFiles { rt }, out);
+    say_stop(rt, alloc, &end);
+    check_status(&end)
+}
+
+/// Answers a question, says what is wrong in the script and why it stopped, if it did, and returns the exit
+/// status.
+#[tactic(auto, using(crate::proofs::DoesLemmas::statuses))]
+fn obey_question<R: Files + Eprint, W: Write + Drop>(
+    rt: &R,
+    alloc: Global,
+    topic: Topic,
+    matches: &ArgMatches<'_>,
+    out: &mut BufWriter<W>,
+) -> u8
+    ensures does { Answers topic (rows_of (found_of matches.now)) result }
+    ensures table { result ≤ 4 }
+{
+    let mut mistakes = Mistakes::none(alloc);
+    let end = answer(alloc, topic, matches, &SystemFiles { rt }, &mut mistakes, out);
+    say_mistakes(rt, &mistakes);
+    say_stop(rt, alloc, &end);
+    answer_status(&end)
+}
+
+/// Does `handlers`, says why it stopped, if it did, and returns the exit status.
+#[tactic(auto, using(crate::proofs::DoesLemmas::statuses))]
+fn obey_handlers<R: Files + Eprint, W: Write + Drop>(
+    rt: &R,
+    alloc: Global,
+    matches: &ArgMatches<'_>,
+    out: &mut BufWriter<W>,
+) -> u8
+    ensures does { Handles (rows_of (found_of matches.now)) result }
+    ensures table { result ≤ 4 }
+{
+    let end = check_handlers(alloc, matches, &SystemFiles { rt }, out);
+    say_end(rt, &end);
+    status_of(&end)
+}
+
+/// Does what a command asks for, and returns the exit status.
 fn obey_command<R: Files + Print + Eprint>(
     rt: &R,
     alloc: Global,
@@ -88,25 +140,10 @@ fn obey_command<R: Files + Print + Eprint>(
         let _ = rt.eprintln("stopped: out of memory");
         return 4;
     };
-    let files = SystemFiles { rt };
     match command {
-        Subcommand::Check => {
-            let end = check(alloc, matches, &files, &mut out);
-            say_stop(rt, alloc, &end);
-            check_status(&end)
-        }
-        Subcommand::Ask(topic) => {
-            let mut mistakes = Mistakes::none(alloc);
-            let end = answer(alloc, topic, matches, &files, &mut mistakes, &mut out);
-            say_mistakes(rt, &mistakes);
-            say_stop(rt, alloc, &end);
-            answer_status(&end)
-        }
-        Subcommand::Handlers => {
-            let end = check_handlers(alloc, matches, &files, &mut out);
-            say_end(rt, &end);
-            status_of(&end)
-        }
+        Subcommand::Check => obey_check(rt, alloc, matches, &mut out),
+        Subcommand::Ask(topic) => obey_question(rt, alloc, topic, matches, &mut out),
+        Subcommand::Handlers => obey_handlers(rt, alloc, matches, &mut out),
     }
 }
 

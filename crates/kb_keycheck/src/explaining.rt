@@ -23,16 +23,25 @@ use kb_embed::{Cost, PlainCommand, commands};
 use kb_exit::script_stop;
 use kb_explain_report::{
     Form, Named, RulePlaces, Situation, say_command, say_commands, say_context, say_press,
-    say_rules,
+    say_rules, say_trace,
 };
 use kb_files::{ExtensionFiles, Inputs, LoadFault};
 use kb_keys::{Chord, KeyFault, Keystroke};
+use kb_options::Options;
 use kb_script::stream_script;
 use kb_session::Session;
 use kb_source_files::SourceFiles;
 use kb_trace::Event;
 use std::alloc::{AllocError, Global};
 use std::io::{BufWriter, Read, Write};
+
+/// A question with its keystrokes, and how the answer is written.
+#[derive(Clone, Copy, Debug)]
+struct Asked<'q> {
+    question: Question<'q>,
+    strokes: &'q [Keystroke],
+    form: Form,
+}
 
 /// The text of the keystrokes of a question, if it has one.
 fn keys_of<'m>(question: Question<'m>) -> Option<&'m str>
@@ -191,7 +200,40 @@ fn explain_press<'s, 'a, W: Write>(
     reported(say_press(alloc, &situation, form, out))
 }
 
-/// Presses all of these keystrokes but the last, and writes why the last does what it does.
+/// Presses a key, and writes what the trace gains.
+fn press_last<'a, W: Write>(
+    alloc: Global,
+    session: &mut Session<PlainCommand>,
+    stroke: Keystroke,
+    form: Form,
+    out: &mut W,
+) -> Result<(), Stop<'a>>
+    ensures { IfErr result IsBehindLoad }
+{
+    session.truncate_trace(0);
+    press_all(alloc, session, &[stroke])?;
+    reported(say_trace(alloc, session.trace(), form, out))
+}
+
+/// Writes why a press of a key does what it does.
+fn explain_next<'a, W: Write>(
+    alloc: Global,
+    session: &Session<PlainCommand>,
+    files: &SourceFiles<'_>,
+    stroke: Keystroke,
+    form: Form,
+    out: &mut W,
+) -> Result<(), Stop<'a>>
+    ensures { IfErr result IsBehindLoad }
+{
+    let places = RulePlaces::of(alloc, files)?;
+    let strokes = strokes_with(alloc, session.pressed(), stroke)?;
+    let strokes = strokes.as_slice();
+    explain_press(alloc, session, &*files, &places, strokes, form, out)
+}
+
+/// Presses all of these keystrokes but the last, writes why the last does what it does, presses it, and writes
+/// what the trace gains.
 fn explain<'a, W: Write>(
     alloc: Global,
     session: &mut Session<PlainCommand>,
@@ -206,10 +248,8 @@ fn explain<'a, W: Write>(
         return Ok(());
     };
     press_all(alloc, session, before)?;
-    let places = RulePlaces::of(alloc, files)?;
-    let strokes = strokes_with(alloc, session.pressed(), *last)?;
-    let strokes = strokes.as_slice();
-    explain_press(alloc, &*session, &*files, &places, strokes, form, out)
+    explain_next(alloc, session, files, *last, form, out)?;
+    press_last(alloc, session, *last, form, out)
 }
 
 /// Writes the rules in force.
@@ -251,18 +291,21 @@ fn palette<'a, W: Write>(
     }
 }
 
-/// Answers a question about a session, with its keystrokes.
+/// Answers a question about a session.
 fn answer<'a, W: Write>(
     alloc: Global,
     session: &mut Session<PlainCommand>,
     files: &SourceFiles<'_>,
-    question: Question<'_>,
-    strokes: &[Keystroke],
-    form: Form,
+    asked: Asked<'_>,
     out: &mut W,
 ) -> Result<(), Stop<'a>>
     ensures { IfErr result IsBehindLoad }
 {
+    let Asked {
+        question,
+        strokes,
+        form,
+    } = asked;
     match question {
         Question::Press(_) => explain(alloc, session, files, strokes, form, out),
         Question::Rules(_) => list(alloc, session, files, strokes, form, out),
@@ -294,9 +337,7 @@ fn answer_behind<'a, S: Read + Drop, W: Write>(
     session: &mut Session<PlainCommand>,
     files: &SourceFiles<'_>,
     script: Option<S>,
-    question: Question<'_>,
-    strokes: &[Keystroke],
-    form: Form,
+    asked: Asked<'_>,
     mistakes: &mut Mistakes,
     out: &mut W,
 ) -> Result<(), Stop<'a>>
@@ -304,7 +345,7 @@ fn answer_behind<'a, S: Read + Drop, W: Write>(
 {
     play_any(alloc, script, session, mistakes)?;
     let in_force = files_in_force(files, session);
-    answer(alloc, session, &in_force, question, strokes, form, out)
+    answer(alloc, session, &in_force, asked, out)
 }
 
 /// Loads a session from files, runs the script, and answers a question.
@@ -313,9 +354,7 @@ fn answer_over<'a, S: Read + Drop, W: Write>(
     alloc: Global,
     files: &SourceFiles<'_>,
     script: Option<S>,
-    question: Question<'_>,
-    strokes: &[Keystroke],
-    form: Form,
+    asked: Asked<'_>,
     mistakes: &mut Mistakes,
     out: &mut W,
 ) -> Result<(), Stop<'a>>
@@ -324,17 +363,7 @@ fn answer_over<'a, S: Read + Drop, W: Write>(
 {
     match load(alloc, files) {
         Ok(mut session) => {
-            let end = answer_behind(
-                alloc,
-                &mut session,
-                files,
-                script,
-                question,
-                strokes,
-                form,
-                mistakes,
-                out,
-            );
+            let end = answer_behind(alloc, &mut session, files, script, asked, mistakes, out);
             drop(session.into_trace());
             end
         }
@@ -343,24 +372,38 @@ fn answer_over<'a, S: Read + Drop, W: Write>(
 }
 
 /// The same over the bytes of files that were read.
-fn answer_read<'a, S: Read + Drop, W: Write + Drop>(
+fn answer_read<'a, S: Read + Drop, W: Write>(
     alloc: Global,
     read: &FileBytes<'_>,
     script: Option<S>,
-    question: Question<'_>,
-    strokes: &[Keystroke],
-    form: Form,
+    asked: Asked<'_>,
     mistakes: &mut Mistakes,
-    out: &mut BufWriter<W>,
+    out: &mut W,
 ) -> Result<(), Stop<'a>>
     ensures answered { IfOk result (λ _. AreAccepted (files_held read.now)) }
     ensures stopped { IfErr result (StopsOver (files_held read.now)) }
 {
     let extensions = read.extension_sources(alloc)?;
     let sources = read.sources(extensions.as_slice());
-    answer_over(
-        alloc, &sources, script, question, strokes, form, mistakes, out,
-    )
+    answer_over(alloc, &sources, script, asked, mistakes, out)
+}
+
+/// Reads the files that options name, loads a session, runs the script, and answers a question.
+#[tactic(auto, using(crate::proofs::EndLemmas::answering))]
+fn answer_from<'m, F: FileSource, W: Write>(
+    alloc: Global,
+    options: &Options<'m>,
+    asked: Asked<'_>,
+    files: &F,
+    mistakes: &mut Mistakes,
+    out: &mut W,
+) -> Result<(), Stop<'m>>
+    ensures answered { IfOk result (λ _. AreLoaded (F.held files.now) options.now) }
+    ensures stopped { IfErr result (StopsAnswering (F.held files.now) options.now asked.entry.question) }
+{
+    let read = read_files(alloc, options, files)?;
+    let script = file_named(files, options.script)?;
+    answer_read(alloc, &read, script, asked, mistakes, out)
 }
 
 /// Reads the files that a command line names, loads a session, runs the script, answers a question, and
@@ -388,18 +431,12 @@ pub(crate) fn answer_question<'m, F: FileSource, W: Write + Drop>(
         Ok(strokes) => strokes,
         Err(fault) => return Err(Stop::Keys(fault)),
     };
-    let read = read_files(alloc, &given.options, files)?;
-    let script = file_named(files, given.options.script)?;
-    answer_read(
-        alloc,
-        &read,
-        script,
+    let asked = Asked {
         question,
-        strokes.as_slice(),
-        given.form,
-        mistakes,
-        out,
-    )?;
+        strokes: strokes.as_slice(),
+        form: given.form,
+    };
+    answer_from(alloc, &given.options, asked, files, mistakes, out)?;
     match out.flush() {
         Ok(()) => Ok(()),
         Err(_) => Err(Stop::NotWritten),
