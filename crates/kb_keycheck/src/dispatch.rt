@@ -104,7 +104,14 @@ fn obey_question<R: Files + Eprint, W: Write + Drop>(
     ensures table { result ≤ 4 }
 {
     let mut mistakes = Mistakes::none(alloc);
-    let end = answer(alloc, topic, matches, &SystemFiles { rt }, &mut mistakes, out);
+    let end = answer(
+        alloc,
+        topic,
+        matches,
+        &SystemFiles { rt },
+        &mut mistakes,
+        out,
+    );
     say_mistakes(rt, &mistakes);
     say_stop(rt, alloc, &end);
     answer_status(&end)
