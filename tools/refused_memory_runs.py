@@ -41,6 +41,20 @@ HI_FILES = {
 HI_WORDS = ["--user", "@user", "@e"]
 FOLLOWER = {"f/package.json": b'{"publisher":"q","name":"f","extensionDependencies":["P.E"]}'}
 
+# Handlers, most of them not accepted, and an extension without handlers.
+UNACCEPTED = {
+    "e/package.json": b'{"publisher":"p","name":"e"}',
+    "e/handlers.json": handlers(
+        HI,
+        handler("x.dear", 2008, 1, "500002 010000 300000 510000 000000", texts=["hi"], calls=["type"]),
+        handler("x.deep", 2000, 1, "300000 000000", calls=["x.hi"]),
+        handler("x.low", 7, 1, "050000"),
+        handler("x.blank", 7, 1, ""),
+        version=2,
+    ),
+    **FOLLOWER,
+}
+
 # A handler that calls another one, which calls a third; each makes texts.
 NESTED = {
     "user": b'[{"key":"h","command":"x.a"},{"key":"b","command":"x.bad"}]',
@@ -193,6 +207,7 @@ RUNS = [
     Run("repeated blocks", "keyrun", ["examples/rulers"], b"key ctrl+alt+6\nkey ctrl+alt+7\nkey ctrl+alt+7\n"),
     Run("raw handlers", "rawrun", ["--user", "crates/kb_rawrun/data/user.json", "crates/kb_rawrun/data"], b"key h\nkey h\n"),
     Run("what keycheck says of handlers", "keycheck", ["handlers", *BOTH]),
+    Run("what keycheck says of handlers, as JSON", "keycheck", ["handlers", "--json", "@e", "@f"], files=UNACCEPTED, status=1),
     Run("what keycheck says of files", "keycheck", ["check", *EXAMPLES, *BOTH], status=1),
     Run("what keycheck says of a key press", "keycheck", ["explain", "ctrl+s", *EXAMPLES, *BOTH]),
     Run("what keycheck says of the palette, as JSON", "keycheck", ["palette", "no", "--json", *EXAMPLES, *BOTH]),

@@ -5,14 +5,15 @@ ghost use Rattle.std.specs.Io.Buffered.{writer_buffer};
 ghost use Rattle.kb_handler_report.specs.Check.{HasChecked, Stops, unwritten};
 
 use crate::files::read_extensions;
+use crate::form::Form;
 use crate::report::report_extensions;
 use crate::stop::Stop;
 use kb_disk::FileSource;
 use std::alloc::Global;
 use std::io::{BufWriter, Write};
 
-/// Reads the extensions in these directories, writes the report on their handlers, flushes the buffer, and
-/// returns whether all handlers are accepted.
+/// Reads the extensions in these directories, writes the report on their handlers in a form, flushes the buffer,
+/// and returns whether all handlers are accepted.
 ///
 /// Errors: why the extensions were not read (first that there are more than 100 directories); then refused
 /// memory, or a report that was not written.
@@ -20,6 +21,7 @@ pub fn check_extensions<F: FileSource, W: Write + Drop>(
     alloc: Global,
     files: &F,
     dirs: &[&str],
+    form: Form,
     out: &mut BufWriter<W>,
 ) -> Result<bool, Stop>
     ensures checked { IfOk result (HasChecked (F.held files.now) dirs.now) }
@@ -29,7 +31,7 @@ pub fn check_extensions<F: FileSource, W: Write + Drop>(
     ensures flushed { IfOk result (λ all. writer_buffer out.new ≡ []) }
 {
     let extensions = read_extensions(files, alloc, dirs)?;
-    let end = report_extensions(alloc, extensions.as_slice(), out);
+    let end = report_extensions(alloc, extensions.as_slice(), form, out);
     match out.flush() {
         Ok(()) => end,
         Err(_) => unwritten(end),

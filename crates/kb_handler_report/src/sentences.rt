@@ -46,16 +46,35 @@ fn refused(
 {
     let mut said = refusal(alloc, handler, fault)?;
     match fault {
-        VerifyFault::Wrong(defect, place) => {
-            let sentence = defect_sentence(handler, *defect, instr_at(handler, *place));
-            write!(said, "    {sentence}\n")?;
+        VerifyFault::Wrong(_, _) | VerifyFault::OverDepth(_) => {
+            let reason = reason(alloc, callable, handler, fault)?;
+            write!(said, "    {reason}\n")?;
         }
-        VerifyFault::OverDepth(place) => add_depths(callable, handler, *place, &mut said)?,
         VerifyFault::OverBudget(path) => {
             add_path(alloc, callable, handler, path.as_slice(), &mut said)?;
         }
     }
     Ok(said)
+}
+
+/// The sentence on why a handler is not accepted.
+pub(crate) fn reason(
+    alloc: Global,
+    callable: &Callable,
+    handler: &Handler,
+    fault: &VerifyFault,
+) -> Result<String, NoMemory> {
+    match fault {
+        VerifyFault::Wrong(defect, place) => {
+            let instr = instr_at(handler, *place);
+            String::from_str(alloc, defect_sentence(handler, *defect, instr))
+        }
+        VerifyFault::OverDepth(place) => depths(alloc, callable, handler, *place),
+        VerifyFault::OverBudget(_) => {
+            let sentence = over_budget(alloc, handler)?;
+            format!(in alloc; "{sentence}.")
+        }
+    }
 }
 
 /// The line with the fault, the place and the instruction there.
@@ -78,32 +97,30 @@ fn refusal(alloc: Global, handler: &Handler, fault: &VerifyFault) -> Result<Stri
 }
 
 /// The instruction at a place, if there is one.
-fn instr_at(handler: &Handler, place: usize) -> Option<Instr> {
+pub(crate) fn instr_at(handler: &Handler, place: usize) -> Option<Instr> {
     handler.code().instrs().get(place).copied()
 }
 
-/// Adds a line on a call at a place that nests too deep.
-fn add_depths(
+/// A sentence on a call at a place that nests too deep.
+fn depths(
+    alloc: Global,
     callable: &Callable,
     handler: &Handler,
     place: usize,
-    said: &mut String,
-) -> Result<(), NoMemory> {
+) -> Result<String, NoMemory> {
     let own = handler.signature().depth();
     match depth_called(callable, handler, place) {
-        Some(depth) => write!(
-            said,
-            "    This command declares the depth {depth}, which is not below the handler's own, {own}.\n"
+        Some(depth) => format!(in alloc;
+            "This command declares the depth {depth}, which is not below the handler's own, {own}."
         ),
-        None => write!(
-            said,
-            "    This command nests too deep for the handler's own depth, {own}.\n"
+        None => format!(in alloc;
+            "This command nests too deep for the handler's own depth, {own}."
         ),
     }
 }
 
 /// The depth of the command that is called at a place, if the place has a call of a known command.
-fn depth_called(callable: &Callable, handler: &Handler, place: usize) -> Option<u8> {
+pub(crate) fn depth_called(callable: &Callable, handler: &Handler, place: usize) -> Option<u8> {
     let Some(instr) = instr_at(handler, place) else {
         return None;
     };
@@ -114,6 +131,12 @@ fn depth_called(callable: &Callable, handler: &Handler, place: usize) -> Option<
         Some(signature) => Some(signature.as_signature().depth()),
         None => None,
     }
+}
+
+/// A sentence on a path that costs too much, without its last sign.
+fn over_budget(alloc: Global, handler: &Handler) -> Result<String, NoMemory> {
+    let budget = handler.signature().budget();
+    format!(in alloc; "A path costs more than the handler's budget of {budget}")
 }
 
 /// Adds a path that costs too much: each of its places with its cost and how often the path comes there,
@@ -127,11 +150,8 @@ fn add_path(
 ) -> Result<(), NoMemory>
     requires { IsOverBudget callable.now handler.now (route_of path.now) }
 {
-    let budget = handler.signature().budget();
-    write!(
-        said,
-        "    A path costs more than the handler's budget of {budget}:\n"
-    )?;
+    let sentence = over_budget(alloc, handler)?;
+    write!(said, "    {sentence}:\n")?;
     let Listing { visits, cost } = visits_of(alloc, callable, handler, path)?;
     for visit in visits.as_slice() {
         add_visit(handler, visit, said)?;
