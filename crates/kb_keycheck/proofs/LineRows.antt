@@ -110,6 +110,12 @@ module _ (platforms : Bor (List (Bor Text))) (all one : ℕ × ℕ) where
   unfolding clap_on_literals
   a_directory_is_required = refl
 
+  handlers_are_written_as_json :
+      of_it (one_of (codes "json")) (codes "keycheck" ∷ codes "handlers" ∷ codes "--json" ∷ codes "e" ∷ [])
+      ≡ Some (Some (codes "true"))
+  unfolding clap_on_literals
+  handlers_are_written_as_json = refl
+
   a_command_is_required : fault_of app (codes "keycheck" ∷ []) ≡ MissingSubcommand ∷ []
   unfolding clap_on_literals
   a_command_is_required = refl

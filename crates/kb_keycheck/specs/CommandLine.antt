@@ -82,9 +82,9 @@ abbrev pub palette_app : Bor (List (Bor Text)) → App
 palette_app platforms = with_script (with_rule (with_rule (new_app (codes "palette"))
     (word_rule (codes "query"))) (valued_rule (codes "command"))) platforms
 
--- `handlers DIR...`
+-- `handlers [--json] DIR...`
 abbrev pub handlers_app : App
-handlers_app = with_rule (new_app (codes "handlers")) some_dirs_rule
+handlers_app = with_rule (with_rule (new_app (codes "handlers")) json_rule) some_dirs_rule
 
 -- `keycheck COMMAND`
 abbrev pub bare_app : App

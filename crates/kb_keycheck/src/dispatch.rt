@@ -9,10 +9,11 @@ use crate::ending::{Stop, answer_status, check_status};
 use crate::explaining::answer_question;
 use crate::mistakes::Mistakes;
 use crate::reason::unread_reason;
-use crate::request::{Subcommand, Topic, given_in, question_in, subcommand_named};
+use crate::request::{Subcommand, Topic, form_asked, given_in, question_in, subcommand_named};
 use clap::ArgMatches;
 use kb_cli::all_texts;
 use kb_disk::{FileSource, SystemFiles};
+use kb_explain_report::Form;
 use kb_handler_report::{check_extensions, status_of};
 use std::alloc::Global;
 use std::fmt::Display;
@@ -71,7 +72,16 @@ fn check_handlers<F: FileSource, W: Write + Drop>(
     ensures { HandlersBy (F.held files.now) (rows_of (found_of matches.now)) result }
 {
     let dirs = all_texts(alloc, matches, "dir")?;
-    check_extensions(alloc, files, dirs.as_slice(), out)
+    let form = report_form(form_asked(matches));
+    check_extensions(alloc, files, dirs.as_slice(), form, out)
+}
+
+/// The form of a report on handlers, by that of other lines.
+fn report_form(form: Form) -> kb_handler_report::Form {
+    match form {
+        Form::Text => kb_handler_report::Form::Text,
+        Form::Json => kb_handler_report::Form::Json,
+    }
 }
 
 /// Does `check`, says why it stopped, if it did, and returns the exit status.

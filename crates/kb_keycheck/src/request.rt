@@ -79,7 +79,7 @@ fn text_or_empty<'a>(matches: &ArgMatches<'a>, name: &str) -> &'a str
 }
 
 /// How lines are written.
-fn form_asked(matches: &ArgMatches<'_>) -> Form
+pub(crate) fn form_asked(matches: &ArgMatches<'_>) -> Form
     ensures { IsForm (rows_of (found_of matches.now)) result }
 {
     if matches.get_flag("json") {

@@ -224,7 +224,7 @@ fn handlers<'a>(alloc: Global) -> Result<Command<'a>, NoMemory>
         "handlers",
         "Says of each handler of some extensions whether it is accepted, and why not.",
     );
-    with(command, some_dirs(alloc))
+    with(with(command, json_option(alloc))?, some_dirs(alloc))
 }
 
 /// The command of the program without its subcommands. Help and error texts use the program's name, not the

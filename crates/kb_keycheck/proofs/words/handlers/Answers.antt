@@ -3,4 +3,5 @@ use Rattle.kb_keycheck.proofs.words.handlers.Goals as goal
 
 pub returns : goal.returns
 returns c =
-    IfOk-weaker c.with.result _ _ (λ made h. h _ _ c.command-command.ensures c.some_dirs.ensures.rule) c.with.ensures
+    let json = c.in_ok-with.ensures _ _ c.command-command.ensures c.json_option.ensures.rule in
+    IfOk-weaker c.with-2.result _ _ (λ made h. h _ _ json c.some_dirs.ensures.rule) c.with-2.ensures
