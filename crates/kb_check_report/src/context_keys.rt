@@ -4,9 +4,8 @@ ghost use Rattle.kb_check_report.specs.Starts.{never_said};
 
 use crate::cause::Lint;
 use crate::faulty::clause_member;
-use crate::member_lints::linted;
 use crate::opened::{Opened, OpenedFiles};
-use crate::problem::{Problem, push_other};
+use crate::problem::{Problem, linted, push_other};
 use kb_base::{NoMemory, Origin, Part};
 use kb_context::Scopes;
 use kb_files::Extension;
@@ -263,7 +262,7 @@ fn add_clause(
     let span = opened.member(alloc, part, place, clause_member(part))?;
     let sentence = format!(in alloc; "no scope of the layout has the context key `{key}`")?;
     push_other(
-        linted(opened, Lint::UnknownContextKey, span, sentence),
+        linted(opened.file, Lint::UnknownContextKey, span, sentence),
         problems,
     )?;
     Ok(())

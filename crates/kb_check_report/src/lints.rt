@@ -7,10 +7,11 @@ use crate::cause::Lint;
 use crate::choices::Choices;
 use crate::commands::KnownCommands;
 use crate::context_keys::add_unknown_keys;
-use crate::member_lints::{add_members, add_points, linted};
+use crate::file_members::{add_handlers, add_layout};
+use crate::member_lints::{add_members, add_points};
 use crate::opened::{Opened, OpenedFiles};
 use crate::pattern_lints::add_unread_patterns;
-use crate::problem::{Problem, push_other};
+use crate::problem::{Problem, linted, push_other};
 use crate::removal_lints::add_idle_removals;
 use crate::rule_lints::{
     add_cut_off, add_shadowed, add_unknown_commands, add_wrong_arguments, unknown_sentence,
@@ -18,7 +19,7 @@ use crate::rule_lints::{
 use kb_base::{NoMemory, Origin, Part};
 use kb_bindings::Bindings;
 use kb_context::Scopes;
-use kb_files::Extension;
+use kb_files::{Extension, LoadFile};
 use kb_manifest::PaletteItem;
 use std::alloc::Global;
 
@@ -60,6 +61,7 @@ pub fn linted_in(
         choices,
         &mut problems,
     )?;
+    add_of_other_files(alloc, files, choices, &mut problems)?;
     add_of_files(
         alloc,
         files,
@@ -162,7 +164,7 @@ fn add_item(
     let span = opened.member(alloc, Part::Palette, item.place, "command")?;
     let sentence = unknown_sentence(alloc, command, known)?;
     push_other(
-        linted(opened, Lint::UnknownCommand, span, sentence),
+        linted(opened.file, Lint::UnknownCommand, span, sentence),
         problems,
     )?;
     Ok(())
@@ -281,6 +283,26 @@ fn add_of_files(
         add_of_file(alloc, files.of(origin), lint, problems)?;
     }
     add_of_file(alloc, files.of(Origin::User), lint, problems)?;
+    Ok(())
+}
+
+/// Adds the members of the layout and of the files of handlers that are next to known ones.
+fn add_of_other_files(
+    alloc: Global,
+    files: &OpenedFiles<'_>,
+    choices: &Choices<'_>,
+    problems: &mut Vec<Problem>,
+) -> Result<(), NoMemory>
+    ensures { OnOk result (never_said problems.new.items ≡ never_said problems.old.items) }
+{
+    if !choices.wants(Lint::MisspelledMember) {
+        return Ok(());
+    }
+    add_layout(alloc, files.sources.layout, problems)?;
+    for (number, extension) in files.sources.extensions.iter().enumerate() {
+        let name = LoadFile::Handlers(number);
+        add_handlers(alloc, name, extension.handlers, problems)?;
+    }
     Ok(())
 }
 

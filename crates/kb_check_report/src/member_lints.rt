@@ -1,17 +1,14 @@
 //! Lints on the members of entries, as the files have them.
 ghost use Rattle.std.specs.Prelude.{◌≡◌, OnOk};
 ghost use Rattle.kb_check_report.specs.Starts.{never_said};
-ghost use Rattle.kb_check_report.specs.declared.cause.Cause.TheVariants.{Linted};
 
-use crate::cause::{Cause, Lint};
+use crate::cause::Lint;
 use crate::double_quotes::has_double_quotes;
-use crate::entries::member_at;
 use crate::faulty::clause_member;
+use crate::near_members::{Piece, add_near_members};
 use crate::opened::Opened;
-use crate::problem::{Problem, push_other};
+use crate::problem::{Problem, linted, push_other};
 use kb_base::{NoMemory, Part};
-use kb_lints::is_near;
-use kb_places::Span;
 use serde_json::Value;
 use std::alloc::Global;
 
@@ -39,29 +36,6 @@ const POINTS: [&str; 3] = ["commands", "keybindings", "menus"];
 
 /// The known members of its menus.
 const MENUS: [&str; 1] = ["commandPalette"];
-
-/// Whether a name is one of these.
-fn is_among(name: &str, names: &[&str]) -> bool {
-    for known in names {
-        if *known == name {
-            return true;
-        }
-    }
-    false
-}
-
-/// The known name that is one edit from an unknown one.
-fn near_among(name: &str, names: &[&'static str]) -> Option<&'static str> {
-    if is_among(name, names) {
-        return None;
-    }
-    for known in names {
-        if is_near(name, *known) {
-            return Some(*known);
-        }
-    }
-    None
-}
 
 /// Adds what the members of a file's entries are wrong in.
 pub fn add_members(
@@ -127,34 +101,17 @@ fn add_misspelled(
 ) -> Result<(), NoMemory>
     ensures { OnOk result (never_said problems.new.items ≡ never_said problems.old.items) }
 {
-    let Some(members) = entry.as_object() else {
+    let Some(span) = opened.entries(part).spans.get(place) else {
         return Ok(());
     };
-    for (name, _) in members {
-        let name = name.as_str();
-        let Some(near) = near_among(name, known_members(part)) else {
-            continue;
-        };
-        let span = opened.member_name(alloc, part, place, name)?;
-        let sentence = format!(in alloc; "there is no member `{name}`; is `{near}` meant?")?;
-        push_other(
-            linted(opened, Lint::MisspelledMember, span, sentence),
-            problems,
-        )?;
-    }
-    Ok(())
-}
-
-/// A problem of a lint.
-pub fn linted(opened: &Opened<'_>, lint: Lint, span: Option<Span>, sentence: String) -> Problem
-    ensures { result.cause ≡ Linted lint }
-{
-    Problem {
-        cause: Cause::Linted(lint),
+    let object = Piece {
         file: opened.file,
-        span,
-        sentence,
-    }
+        text: opened.source.plain().as_bytes(),
+        span: *span,
+        value: entry,
+    };
+    add_near_members(alloc, object, "member", known_members(part), problems)?;
+    Ok(())
 }
 
 /// Adds an entry whose clause has a text in double quotes.
@@ -179,7 +136,10 @@ fn add_quotes(
     let sentence = format!(in alloc;
         "double quotes are a part of the text that is compared; write '..' around it"
     )?;
-    push_other(linted(opened, Lint::DoubleQuotes, span, sentence), problems)?;
+    push_other(
+        linted(opened.file, Lint::DoubleQuotes, span, sentence),
+        problems,
+    )?;
     Ok(())
 }
 
@@ -196,46 +156,21 @@ pub fn add_points(
     if lint != Lint::MisspelledMember {
         return Ok(());
     }
-    let menus = ["contributes", "menus"];
-    add_near_members(alloc, opened, "member", &[], MEMBERS.as_slice(), problems)?;
+    let whole = Piece::whole(opened.file, &opened.source);
+    add_near_members(alloc, whole, "member", MEMBERS.as_slice(), problems)?;
+    let Some(points) = whole.member(alloc, "contributes")? else {
+        return Ok(());
+    };
     add_near_members(
         alloc,
-        opened,
+        points,
         "contribution point",
-        &menus[..1],
         POINTS.as_slice(),
         problems,
     )?;
-    add_near_members(alloc, opened, "member", &menus, MENUS.as_slice(), problems)?;
-    Ok(())
-}
-
-/// Adds the members of the object behind some members of a manifest that are next to known ones.
-fn add_near_members(
-    alloc: Global,
-    opened: &Opened<'_>,
-    what: &str,
-    path: &[&str],
-    known: &[&'static str],
-    problems: &mut Vec<Problem>,
-) -> Result<(), NoMemory>
-    ensures { OnOk result (never_said problems.new.items ≡ never_said problems.old.items) }
-{
-    let object = member_at(opened.source.value(), path);
-    let Some(members) = object.and_then(Value::as_object) else {
+    let Some(menus) = points.member(alloc, "menus")? else {
         return Ok(());
     };
-    for (name, _) in members {
-        let name = name.as_str();
-        let Some(near) = near_among(name, known) else {
-            continue;
-        };
-        let span = opened.name_at(alloc, path, name)?;
-        let sentence = format!(in alloc; "there is no {what} `{name}`; is `{near}` meant?")?;
-        push_other(
-            linted(opened, Lint::MisspelledMember, span, sentence),
-            problems,
-        )?;
-    }
+    add_near_members(alloc, menus, "member", MENUS.as_slice(), problems)?;
     Ok(())
 }

@@ -5,7 +5,7 @@ ghost use Rattle.kb_check_report.specs.Starts.{file_in};
 use crate::entries::{Entries, entries_at, no_entries, path_to, span_at, span_of_member, steps_to};
 use kb_base::{NoMemory, Origin, Part};
 use kb_files::LoadFile;
-use kb_places::{LineTable, Source, Span, Step, last_member, members, open, value_at};
+use kb_places::{LineTable, Source, Span, Step, open, value_at};
 use kb_source_files::{SourceFile, SourceFiles};
 use serde_json::Value;
 use std::alloc::Global;
@@ -146,43 +146,6 @@ impl<'a> Opened<'a> {
         let mut path = self.path_to(alloc, part, place)?;
         path.push(Step::Member(name))?;
         self.source.place(alloc, path.as_slice(), span)
-    }
-
-    /// Where the name of a member is of the object behind some members of the file.
-    pub fn name_at(
-        &self,
-        alloc: Global,
-        path: &[&str],
-        name: &str,
-    ) -> Result<Option<Span>, NoMemory> {
-        let Some(object) = span_at(alloc, &self.source, path)? else {
-            return Ok(None);
-        };
-        self.name_in(alloc, object, name)
-    }
-
-    /// Where the name of a member of the object at a part of the file is.
-    fn name_in(&self, alloc: Global, object: Span, name: &str) -> Result<Option<Span>, NoMemory> {
-        let text = self.source.plain().as_bytes();
-        let members = members(alloc, text, object)?;
-        match last_member(alloc, text, members.as_slice(), name)? {
-            Some(member) => Ok(Some(member.name)),
-            None => Ok(None),
-        }
-    }
-
-    /// Where the name of a member of an entry is.
-    pub fn member_name(
-        &self,
-        alloc: Global,
-        part: Part,
-        place: usize,
-        name: &str,
-    ) -> Result<Option<Span>, NoMemory> {
-        let Some(entry) = self.entries(part).spans.get(place) else {
-            return Ok(None);
-        };
-        self.name_in(alloc, *entry, name)
     }
 }
 

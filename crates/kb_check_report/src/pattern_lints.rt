@@ -4,9 +4,8 @@ ghost use Rattle.kb_check_report.specs.Starts.{never_said};
 
 use crate::cause::Lint;
 use crate::faulty::clause_member;
-use crate::member_lints::linted;
 use crate::opened::OpenedFiles;
-use crate::problem::{Problem, push_other};
+use crate::problem::{Problem, linted, push_other};
 use kb_base::{NoMemory, Origin, Part, UnreadPattern};
 use kb_places::Span;
 use std::alloc::Global;
@@ -112,7 +111,7 @@ fn add_pattern(
     let reason = reason_of(pattern);
     let sentence = format!(in alloc; "the pattern /{pattern}/ never matches: {reason}")?;
     push_other(
-        linted(opened, Lint::UnreadPattern, clause, sentence),
+        linted(opened.file, Lint::UnreadPattern, clause, sentence),
         problems,
     )?;
     Ok(())

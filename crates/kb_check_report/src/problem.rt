@@ -1,8 +1,9 @@
 //! A problem.
 ghost use Rattle.std.specs.Prelude.{◌≡◌, OnOk, false};
 ghost use Rattle.kb_check_report.specs.Starts.{never_said, says_never};
+ghost use Rattle.kb_check_report.specs.declared.cause.Cause.TheVariants.{Linted};
 
-use crate::cause::Cause;
+use crate::cause::{Cause, Lint};
 use kb_base::NoMemory;
 use kb_files::LoadFile;
 use kb_places::Span;
@@ -18,6 +19,18 @@ pub struct Problem {
     pub span: Option<Span>,
     /// What is wrong, and what to do.
     pub sentence: String,
+}
+
+/// A problem of a lint.
+pub(crate) fn linted(file: LoadFile, lint: Lint, span: Option<Span>, sentence: String) -> Problem
+    ensures { result.cause ≡ Linted lint }
+{
+    Problem {
+        cause: Cause::Linted(lint),
+        file,
+        span,
+        sentence,
+    }
 }
 
 /// Adds a problem that doesn't say that a rule can never start.
