@@ -5,6 +5,7 @@ use Rattle.std.specs.Prelude.{All, Some, filter, slice_get}
 use Rattle.std.proofs.lemmas.List.Elements.{All-push, filter-append}
 use Rattle.kb_base.specs.declared.note.Warning.{Warning}
 use Rattle.kb_lints.specs.CutOff.{IsCutOff}
+use Rattle.kb_lints.specs.Extended.{IsExtended}
 use Rattle.kb_lints.specs.Shadow.{IsShadowed}
 use Rattle.kb_resolve.specs.Enablements.{Enabling}
 use Rattle.kb_rules.specs.declared.rule.Rule.{Rule}
@@ -56,7 +57,20 @@ module _ (enablement : Enabling) (in_force : List Rule) where
     rule = rule;
     at = at;
     is_in = is_in;
-    never = inr cut;
+    never = inr (inl cut);
+  })
+
+  pub extended_adds : (ps : List Problem) (p : Problem) (position by : ℕ) (rule : Rule)
+      → IsExtended enablement in_force position by → AreSound enablement in_force ps
+      → slice_get in_force position ≡ Some rule → p.file ≡ file_in rule.origin
+      → AreSound enablement in_force (ps ++ p ∷ [])
+  extended_adds ps p position by rule extended all at is_in = never_adds ps p all (record {
+    position = position;
+    by = by;
+    rule = rule;
+    at = at;
+    is_in = is_in;
+    never = inr (inr extended);
   })
 
   -- the problems behind the first

@@ -5,6 +5,7 @@ use Rattle.kb_base.specs.declared.note.Origin.TheVariants as origin
 use Rattle.kb_files.specs.declared.fault.LoadFile.{LoadFile}
 use Rattle.kb_files.specs.declared.fault.LoadFile.TheVariants as file
 use Rattle.kb_lints.specs.CutOff.{IsCutOff}
+use Rattle.kb_lints.specs.Extended.{IsExtended}
 use Rattle.kb_lints.specs.Shadow.{IsShadowed}
 use Rattle.kb_resolve.specs.Enablements.{Enabling}
 use Rattle.kb_rules.specs.declared.rule.Rule.{Rule}
@@ -25,6 +26,7 @@ abbrev pub is_never : Lint → Bool
 is_never lint.NeverStarts = true
 is_never lint.Overridden = true
 is_never lint.ChordNeverOpens = true
+is_never lint.ChordHidesRule = true
 is_never _ = false
 
 abbrev pub says_never : Cause → Bool
@@ -33,14 +35,15 @@ says_never (Warned warning) = false
 says_never (Linted lint) = is_never lint
 
 -- the problem is in the file of a rule in force that no search chooses, as the laws of the lints say: a lower rule
--- takes its keystrokes, or the first of them
+-- takes its keystrokes, or the first of them, or has them and more
 pub record NeverStarts (enablement : Enabling) (rules : List Rule) (problem : Problem) : Type 0 where
   pub position : ℕ
   pub by : ℕ
   pub rule : Rule
   pub at : slice_get rules position ≡ Some rule
   pub is_in : problem.file ≡ file_in rule.origin
-  pub never : IsShadowed enablement rules position by ⊎ IsCutOff enablement rules position by
+  pub never : IsShadowed enablement rules position by
+      ⊎ (IsCutOff enablement rules position by ⊎ IsExtended enablement rules position by)
 
 -- those of some problems that say so
 abbrev pub never_said : List Problem → List Problem

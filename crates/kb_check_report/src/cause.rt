@@ -21,6 +21,8 @@ pub enum Lint {
     Overridden,
     /// A rule that can never start, since a lower rule takes the first of its keystrokes.
     ChordNeverOpens,
+    /// A rule that can never start, since a lower rule has its keystrokes and more.
+    ChordHidesRule,
     /// A pattern that `regex` rejects.
     UnreadPattern,
     /// A member that isn't known, next to a known one.
@@ -32,13 +34,14 @@ pub enum Lint {
 }
 
 /// The names of all lints.
-pub const LINT_NAMES: [&str; 10] = [
+pub const LINT_NAMES: [&str; 11] = [
     "unknown-command",
     "wrong-arguments",
     "idle-removal",
     "never-starts",
     "overridden",
     "chord-never-opens",
+    "chord-hides-rule",
     "unread-pattern",
     "misspelled-member",
     "double-quotes",
@@ -57,6 +60,7 @@ impl Lint {
             Lint::NeverStarts => "never-starts",
             Lint::Overridden => "overridden",
             Lint::ChordNeverOpens => "chord-never-opens",
+            Lint::ChordHidesRule => "chord-hides-rule",
             Lint::UnreadPattern => "unread-pattern",
             Lint::MisspelledMember => "misspelled-member",
             Lint::DoubleQuotes => "double-quotes",

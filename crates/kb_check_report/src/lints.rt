@@ -14,7 +14,8 @@ use crate::pattern_lints::add_unread_patterns;
 use crate::problem::{Problem, linted, push_other};
 use crate::removal_lints::add_idle_removals;
 use crate::rule_lints::{
-    add_cut_off, add_shadowed, add_unknown_commands, add_wrong_arguments, unknown_sentence,
+    add_cut_off, add_extended, add_shadowed, add_unknown_commands, add_wrong_arguments,
+    unknown_sentence,
 };
 use kb_base::{NoMemory, Origin, Part};
 use kb_bindings::Bindings;
@@ -50,6 +51,7 @@ pub fn linted_in(
     add_of_arguments(alloc, files, accepted, &known, choices, &mut problems)?;
     add_of_shadows(alloc, files, accepted.bindings, choices, &mut problems)?;
     add_of_chords(alloc, files, accepted.bindings, choices, &mut problems)?;
+    add_of_openings(alloc, files, accepted.bindings, choices, &mut problems)?;
     add_of_keys(alloc, files, accepted, choices, &mut problems)?;
     add_of_removals(alloc, files, accepted, &mut known, choices, &mut problems)?;
     add_of_patterns(alloc, files, accepted, choices, &mut problems)?;
@@ -205,6 +207,25 @@ fn add_of_chords(
     }
     let rules = bindings.resolver().rules();
     add_cut_off(alloc, files, rules, bindings.enablements(), problems)?;
+    Ok(())
+}
+
+/// Adds the rules whose keystrokes only open lower chords.
+fn add_of_openings(
+    alloc: Global,
+    files: &OpenedFiles<'_>,
+    bindings: &Bindings,
+    choices: &Choices<'_>,
+    problems: &mut Vec<Problem>,
+) -> Result<(), NoMemory>
+    ensures { AreSound (enablement bindings.now) (rules_of bindings.now) problems.old.items
+        → OnOk result (AreSound (enablement bindings.now) (rules_of bindings.now) problems.new.items) }
+{
+    if !choices.wants(Lint::ChordHidesRule) {
+        return Ok(());
+    }
+    let rules = bindings.resolver().rules();
+    add_extended(alloc, files, rules, bindings.enablements(), problems)?;
     Ok(())
 }
 

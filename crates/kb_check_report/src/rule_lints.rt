@@ -3,6 +3,7 @@ ghost use Rattle.std.specs.Prelude.{◌≡◌, ◌-◌, IfOk, OnOk, length, map,
 ghost use Rattle.kb_check_report.specs.Starts.{AreSound, file_in, never_said};
 ghost use Rattle.kb_check_report.specs.declared.cause.Cause.TheVariants.{Linted};
 ghost use Rattle.kb_lints.specs.CutOff.{IsCutOff};
+ghost use Rattle.kb_lints.specs.Extended.{IsExtended};
 ghost use Rattle.kb_lints.specs.Shadow.{IsShadowed};
 ghost use Rattle.kb_resolve.specs.Enablements.{Enabling, enablement_in};
 
@@ -13,7 +14,7 @@ use crate::opened::{OpenedFiles, file_of};
 use crate::problem::{Problem, push_other};
 use kb_base::{NoMemory, Part};
 use kb_core::{Kind, Native, Signature};
-use kb_lints::{CutOff, Shadowed, cut_off, never_start};
+use kb_lints::{CutOff, Extended, Shadowed, cut_off, extended_rules, never_start};
 use kb_resolve::Enablements;
 use kb_rules::Rule;
 use serde_json::Value;
@@ -217,6 +218,83 @@ fn add_one_cut_off(
     };
     let sentence = cut_off_sentence(alloc, files, by)?;
     let problem = rule_problem(alloc, files, rule, Lint::ChordNeverOpens, "key", sentence)?;
+    problems.push(problem)?;
+    Ok(())
+}
+
+/// One of those that were found, counted from the last, if there are some.
+fn extended_at(found: &[Extended], number: usize) -> Option<Extended>
+    ensures { result ≡ slice_get found.now (length found.now - 1 - number) }
+{
+    let place = found.len().saturating_sub(1).saturating_sub(number);
+    match found.get(place) {
+        Some(extended) => Some(*extended),
+        None => None,
+    }
+}
+
+/// Adds the rules that can never start, since a lower one has their keystrokes and more, from the top down.
+pub fn add_extended(
+    alloc: Global,
+    files: &OpenedFiles<'_>,
+    rules: &[Rc<Rule>],
+    enablements: &Enablements,
+    problems: &mut Vec<Problem>,
+) -> Result<(), NoMemory>
+    ensures { AreSound (enablement_in enablements.now) (map (λ r. r.value) rules.now) problems.old.items
+        → OnOk result (AreSound (enablement_in enablements.now) (map (λ r. r.value) rules.now)
+        problems.new.items) }
+{
+    let found = extended_rules(alloc, rules, enablements)?;
+    for number in 0..found.len() {
+        let Some(extended) = extended_at(found.as_slice(), number) else {
+            continue;
+        };
+        add_one_extended(alloc, files, rules, extended, problems)?;
+    }
+    Ok(())
+}
+
+/// The sentence on a rule whose keystrokes begin those of a lower one.
+fn extended_sentence(
+    alloc: Global,
+    files: &OpenedFiles<'_>,
+    by: &Rule,
+) -> Result<String, NoMemory> {
+    let spot = spot_of(alloc, files, by)?;
+    let keys = by.chord.text(alloc)?;
+    match &by.when {
+        None => format!(in alloc;
+            "this rule can never start: its keystrokes open the chord {keys} of the rule at {spot}, which has no clause"
+        ),
+        Some(_) => format!(in alloc;
+            "this rule can never start: its keystrokes open the chord {keys} of the rule at {spot}, which has the same \
+                clause"
+        ),
+    }
+}
+
+/// Adds a rule whose keystrokes begin those of a lower one.
+fn add_one_extended(
+    alloc: Global,
+    files: &OpenedFiles<'_>,
+    rules: &[Rc<Rule>],
+    extended: Extended,
+    problems: &mut Vec<Problem>,
+) -> Result<(), NoMemory>
+    ensures { (enablement : Enabling)
+        → IsExtended enablement (map (λ r. r.value) rules.now) extended.position extended.by
+        → AreSound enablement (map (λ r. r.value) rules.now) problems.old.items
+        → OnOk result (AreSound enablement (map (λ r. r.value) rules.now) problems.new.items) }
+{
+    let Some(rule) = rule_at(rules, extended.position) else {
+        return Ok(());
+    };
+    let Some(by) = rule_at(rules, extended.by) else {
+        return Ok(());
+    };
+    let sentence = extended_sentence(alloc, files, by)?;
+    let problem = rule_problem(alloc, files, rule, Lint::ChordHidesRule, "key", sentence)?;
     problems.push(problem)?;
     Ok(())
 }

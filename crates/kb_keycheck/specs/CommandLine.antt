@@ -33,8 +33,8 @@ json_rule = record (new_rule (codes "json")) { long = Some (codes "json"); actio
 abbrev pub NamesLints : Bor (List (Bor Text)) → Type 0
 NamesLints names = map (λ name. name.now) names.now
     ≡ codes "unknown-command" ∷ codes "wrong-arguments" ∷ codes "idle-removal" ∷ codes "never-starts"
-    ∷ codes "overridden" ∷ codes "chord-never-opens" ∷ codes "unread-pattern" ∷ codes "misspelled-member"
-    ∷ codes "double-quotes" ∷ codes "unknown-context-key" ∷ []
+    ∷ codes "overridden" ∷ codes "chord-never-opens" ∷ codes "chord-hides-rule" ∷ codes "unread-pattern"
+    ∷ codes "misspelled-member" ∷ codes "double-quotes" ∷ codes "unknown-context-key" ∷ []
 
 -- `--NAME LINT`, any number of times, where LINT is one of these names
 abbrev pub lints_rule : Text → Bor (List (Bor Text)) → Rule
