@@ -1,12 +1,13 @@
 //! What a refused `handlers.json` is wrong in.
 use crate::commands::{TakenNames, taken_names};
-use crate::entries::{entries_at, span_at, span_of_member};
+use crate::entries::{entries_at, span_of_member};
+use crate::handler_members::{Wrong, command_of, wrong_in};
 use crate::layout_culprit::said;
-use crate::meaning::{code_meaning, verdict_meaning};
+use crate::meaning::verdict_meaning;
 use crate::refusal::Said;
 use kb_base::{Failure, NoMemory, Refusal};
 use kb_handler_file::HandlerFile;
-use kb_places::{Source, Span};
+use kb_places::{Source, Span, items};
 use kb_source_files::ExtensionSource;
 use serde_json::{Map, Value};
 use std::alloc::{AllocError, Global};
@@ -20,13 +21,14 @@ pub fn handlers_culprit(
 ) -> Result<Said, NoMemory> {
     let value = source.value();
     let whole = source.whole();
-    if let Some(sentence) = wrong_head(value) {
-        return said(alloc, whole, sentence);
+    if let Some((member, sentence)) = wrong_head(value) {
+        let span = span_of_member(alloc, source, whole, member)?;
+        return said(alloc, span.unwrap_or(whole), sentence);
     }
     let Some(handlers) = value.get("handlers").and_then(Value::as_array) else {
         return said(alloc, whole, "`handlers` has to be a list");
     };
-    let span = span_at(alloc, source, &["handlers"])?;
+    let span = span_of_member(alloc, source, whole, "handlers")?;
     let list = entries_at(alloc, source, span)?;
     let spans = list.spans.as_slice();
     match refusal.number {
@@ -36,23 +38,28 @@ pub fn handlers_culprit(
     }
 }
 
-/// What the members of a file are wrong in, before its handlers are looked at.
-fn wrong_head(value: &Value) -> Option<&'static str> {
+/// What the members of a file are wrong in, before its handlers are looked at: a member, and a sentence.
+fn wrong_head(value: &Value) -> Option<(&'static str, &'static str)> {
     if !value.is_object() {
-        return Some("a handlers.json has to be an object with `version` and `handlers`");
+        return Some((
+            "",
+            "a handlers.json has to be an object with `version` and `handlers`",
+        ));
     }
     match value.get("version") {
-        None => return Some("the handlers.json has no member `version`"),
+        None => return Some(("", "the handlers.json has no member `version`")),
         Some(version) => match version.as_i64() {
             Some(number) if number == 1 || number == 2 => {}
-            _ => return Some("`version` has to be 1 or 2"),
+            _ => return Some(("version", "`version` has to be 1 or 2")),
         },
     }
     match value.get("handlers") {
-        None => Some("the handlers.json has no member `handlers`"),
+        None => Some(("", "the handlers.json has no member `handlers`")),
         Some(handlers) => match handlers.as_array() {
-            None => Some("`handlers` has to be a list"),
-            Some(list) if list.len() > 1_000 => Some("there are more than 1,000 handlers"),
+            None => Some(("handlers", "`handlers` has to be a list")),
+            Some(list) if list.len() > 1_000 => {
+                Some(("handlers", "there are more than 1,000 handlers"))
+            }
             Some(_) => None,
         },
     }
@@ -108,11 +115,6 @@ fn unaccepted(
         "the handler `{command}` isn't accepted, at place {at}: {meaning}; keycheck handlers says more"
     )?;
     Ok((Some(span), sentence))
-}
-
-/// The command of a handler, or the empty text.
-fn command_of(handler: &Value) -> &str {
-    handler.get("command").and_then(Value::as_str).unwrap_or("")
 }
 
 /// The place of the first handler whose name is taken.
@@ -198,9 +200,7 @@ fn misread(
     number: u32,
 ) -> Result<Said, NoMemory> {
     if number == 43 {
-        let place = first_repeated(handlers);
-        let span = span_in(alloc, source, spans, place, "command")?;
-        return said(alloc, span, "an earlier handler has the same command");
+        return repeated(alloc, source, handlers, spans);
     }
     let Some(version) = source.value().get("version") else {
         return said(
@@ -210,59 +210,47 @@ fn misread(
         );
     };
     let place = first_refused(alloc, version, handlers)?;
-    let (member, sentence) = match place.and_then(|place| handlers.get(place)) {
-        Some(handler) => wrong_in(handler, number),
-        None => ("", "the handlers can't be read"),
+    let Some(handler) = place.and_then(|place| handlers.get(place)) else {
+        return said(alloc, source.whole(), "the handlers can't be read");
     };
-    let span = span_in(alloc, source, spans, place, member)?;
-    said(alloc, span, sentence)
+    let wrong = wrong_in(alloc, handler, number)?;
+    let span = span_in(alloc, source, spans, place, wrong.member)?;
+    said(
+        alloc,
+        span_of_item(alloc, source, span, wrong)?,
+        wrong.sentence,
+    )
 }
 
-/// What a handler is wrong in: a member, and a sentence.
-fn wrong_in(handler: &Value, number: u32) -> (&'static str, &'static str) {
-    match number {
-        40 => missing_in(handler),
-        41 => shape_in(handler),
-        44 => (
-            "",
-            "a limit of this handler is exceeded: 8 parameters, 1,000 texts and calls, 10,000 instructions, \
-                a budget of 1 to 1,000,000,000, a depth of 1 to 64",
-        ),
-        _ => ("code", code_meaning(number)),
-    }
+/// What is said of handlers of which one has the command of an earlier one.
+fn repeated(
+    alloc: Global,
+    source: &Source<'_>,
+    handlers: &[Value],
+    spans: &[Span],
+) -> Result<Said, NoMemory> {
+    let place = first_repeated(handlers);
+    let span = span_in(alloc, source, spans, place, "command")?;
+    let command = match place.and_then(|place| handlers.get(place)) {
+        Some(handler) => command_of(handler),
+        None => "",
+    };
+    let sentence = format!(in alloc; "an earlier handler has the same command, `{command}`")?;
+    Ok((Some(span), sentence))
 }
 
-/// The member that a handler lacks.
-fn missing_in(handler: &Value) -> (&'static str, &'static str) {
-    if handler.get("command").is_none() {
-        ("", "the handler has no member `command`")
-    } else if handler.get("budget").is_none() {
-        ("", "the handler has no member `budget`")
-    } else if handler.get("depth").is_none() {
-        ("", "the handler has no member `depth`")
-    } else if handler.get("code").is_none() {
-        ("", "the handler has no member `code`")
-    } else {
-        ("params", "a parameter has no member `name` or `kind`")
-    }
-}
-
-/// The member of a handler that has another shape than it has to have.
-fn shape_in(handler: &Value) -> (&'static str, &'static str) {
-    if !handler.is_object() {
-        ("", "a handler has to be an object")
-    } else if command_of(handler).is_empty() {
-        ("command", "`command` has to be a text that isn't empty")
-    } else if handler.get("budget").and_then(Value::as_i64).is_none() {
-        ("budget", "`budget` has to be a whole number")
-    } else if handler.get("depth").and_then(Value::as_i64).is_none() {
-        ("depth", "`depth` has to be a whole number")
-    } else if handler.get("code").and_then(Value::as_str).is_none() {
-        ("code", "`code` has to be a text")
-    } else {
-        (
-            "",
-            "`params`, `texts` or `calls` of this handler has another shape than it has to have",
-        )
-    }
+/// Where the part of a member is that is wrong.
+fn span_of_item(
+    alloc: Global,
+    source: &Source<'_>,
+    member: Span,
+    wrong: Wrong,
+) -> Result<Span, NoMemory> {
+    let Some(item) = wrong.item else {
+        return Ok(member);
+    };
+    let spans = items(alloc, source.plain().as_bytes(), member)?;
+    let span = spans.get(item).copied().unwrap_or(member);
+    let inner = span_of_member(alloc, source, span, wrong.inner)?;
+    Ok(inner.unwrap_or(span))
 }

@@ -1,10 +1,38 @@
 //! What a refused layout is wrong in.
-use crate::entries::{entries_at, span_at, span_of_member};
+use crate::entries::{span_at, span_of_member};
 use crate::refusal::Said;
 use kb_base::NoMemory;
-use kb_places::{Source, Span};
+use kb_places::{Source, Span, items};
 use serde_json::{Map, Value};
 use std::alloc::Global;
+
+/// The most scopes of a layout.
+const SCOPE_LIMIT: usize = 1_000;
+
+/// What a scope is wrong in.
+#[derive(Clone, Copy)]
+enum Wrong<'v> {
+    /// It is no object.
+    Scope,
+    /// It has no name.
+    NoName,
+    /// Its name is no text.
+    Name,
+    /// The name of the scope around it is no text.
+    Parent,
+    /// Its keys are no object.
+    Keys,
+    /// This key has a value that no context key has.
+    Key(&'v str),
+    /// An earlier scope has this name.
+    Repeated(&'v str),
+    /// It is the first one, and has a parent.
+    FirstWithParent,
+    /// It isn't the first one, and has no parent.
+    NoParent,
+    /// No earlier scope has the name of its parent.
+    UnknownParent(&'v str),
+}
 
 /// What is wrong with a layout: where, and a sentence.
 pub fn layout_culprit(alloc: Global, source: &Source<'_>, number: u32) -> Result<Said, NoMemory> {
@@ -21,16 +49,7 @@ pub fn layout_culprit(alloc: Global, source: &Source<'_>, number: u32) -> Result
     };
     let span = span_at(alloc, source, &["scopes"])?.unwrap_or(source.whole());
     match scopes.as_array() {
-        Some(scopes) => {
-            let list = entries_at(alloc, source, Some(span))?;
-            in_scopes(
-                alloc,
-                source,
-                scopes.as_slice(),
-                list.spans.as_slice(),
-                number,
-            )
-        }
+        Some(scopes) => in_scopes(alloc, source, scopes.as_slice(), span, number),
         None => said(alloc, span, "`scopes` has to be a list of scopes"),
     }
 }
@@ -45,31 +64,121 @@ fn in_scopes(
     alloc: Global,
     source: &Source<'_>,
     scopes: &[Value],
-    spans: &[Span],
+    span: Span,
     number: u32,
 ) -> Result<Said, NoMemory> {
+    if number == 22 {
+        return said(
+            alloc,
+            span,
+            "all scopes together have more than 10,000 keys",
+        );
+    }
+    if number == 21 && (scopes.is_empty() || scopes.len() > SCOPE_LIMIT) {
+        return said(alloc, span, "a layout has to have 1 to 1,000 scopes");
+    }
+    let Some((place, wrong)) = first_wrong(scopes, number) else {
+        return in_focus(alloc, source);
+    };
+    let spans = items(alloc, source.plain().as_bytes(), span)?;
+    let scope = spans.get(place).copied().unwrap_or(span);
+    let name = scopes.get(place).map_or("", name_of);
+    Ok((
+        Some(span_of(alloc, source, scope, &wrong)?),
+        sentence_of(alloc, name, &wrong)?,
+    ))
+}
+
+/// The first scope that is wrong, by its place, and what it is wrong in.
+fn first_wrong(scopes: &[Value], number: u32) -> Option<(usize, Wrong<'_>)> {
     for (place, scope) in scopes.iter().enumerate() {
-        let span = spans.get(place).copied().unwrap_or(source.whole());
-        let wrong = match number {
-            40 => without_name(scope),
-            41 => wrong_shape(scope),
-            21 => wrong_name(&scopes[..place], scope),
-            _ => None,
-        };
-        if let Some((member, sentence)) = wrong {
-            let inner = span_of_member(alloc, source, span, member)?;
-            return said(alloc, inner.unwrap_or(span), sentence);
+        if let Some(wrong) = wrong_in(&scopes[..place], scope, number) {
+            return Some((place, wrong));
         }
     }
-    let sentence = match number {
-        22 => "all scopes together have more than 10,000 keys",
-        21 if scopes.is_empty() || scopes.len() > 1_000 => {
-            "a layout has to have 1 to 1,000 scopes"
+    None
+}
+
+/// The name of a scope, or the empty text.
+fn name_of(scope: &Value) -> &str {
+    scope.get("name").and_then(Value::as_str).unwrap_or("")
+}
+
+/// What is wrong with the focus of a layout.
+fn in_focus(alloc: Global, source: &Source<'_>) -> Result<Said, NoMemory> {
+    let span = span_at(alloc, source, &["focus"])?.unwrap_or(source.whole());
+    match source.value().get("focus").and_then(Value::as_str) {
+        Some(name) => {
+            let sentence = format!(in alloc;
+                "`focus` has to be the name of a scope, and no scope has the name `{name}`"
+            )?;
+            Ok((Some(span), sentence))
         }
-        _ => "`focus` has to be the name of a scope",
+        None => said(alloc, span, "`focus` has to be a text, the name of a scope"),
+    }
+}
+
+/// The member of a scope that is wrong.
+fn member_of(wrong: &Wrong<'_>) -> &'static str {
+    match wrong {
+        Wrong::Scope | Wrong::NoName => "",
+        Wrong::Name | Wrong::Repeated(_) | Wrong::NoParent => "name",
+        Wrong::Parent | Wrong::FirstWithParent | Wrong::UnknownParent(_) => "parent",
+        Wrong::Keys | Wrong::Key(_) => "keys",
+    }
+}
+
+/// Where a scope is wrong.
+fn span_of(
+    alloc: Global,
+    source: &Source<'_>,
+    scope: Span,
+    wrong: &Wrong<'_>,
+) -> Result<Span, NoMemory> {
+    let Some(member) = span_of_member(alloc, source, scope, member_of(wrong))? else {
+        return Ok(scope);
     };
-    let focus = span_at(alloc, source, &["focus"])?;
-    said(alloc, focus.unwrap_or(source.whole()), sentence)
+    match wrong {
+        Wrong::Key(key) => Ok(span_of_member(alloc, source, member, key)?.unwrap_or(member)),
+        _ => Ok(member),
+    }
+}
+
+/// The sentence on a scope of this name.
+fn sentence_of(alloc: Global, name: &str, wrong: &Wrong<'_>) -> Result<String, NoMemory> {
+    match wrong {
+        Wrong::Scope => format!(in alloc; "a scope has to be an object with the member `name`"),
+        Wrong::NoName => format!(in alloc; "this scope has no member `name`"),
+        Wrong::Name => format!(in alloc; "`name` has to be a text"),
+        Wrong::Parent => format!(in alloc; "`parent` of the scope `{name}` has to be a text"),
+        Wrong::Keys => format!(in alloc;
+            "`keys` of the scope `{name}` has to be an object with the context keys"
+        ),
+        Wrong::Key(key) => format!(in alloc;
+            "the value of `{key}` in the scope `{name}` has to be true, false, a whole number, a text, a list of \
+                texts or an object"
+        ),
+        Wrong::Repeated(name) => format!(in alloc; "an earlier scope has the name `{name}`"),
+        Wrong::FirstWithParent => format!(in alloc;
+            "the first scope, `{name}`, is the outermost one, and has no `parent`"
+        ),
+        Wrong::NoParent => format!(in alloc;
+            "the scope `{name}` has no `parent`; only the first one may be without"
+        ),
+        Wrong::UnknownParent(parent) => format!(in alloc;
+            "no earlier scope has the name `{parent}`, the `parent` of the scope `{name}`"
+        ),
+    }
+}
+
+/// What a scope behind these is wrong in, for the fault of a number.
+fn wrong_in<'v>(earlier: &[Value], scope: &'v Value, number: u32) -> Option<Wrong<'v>> {
+    match number {
+        40 if scope.is_object() && scope.get("name").is_none() => Some(Wrong::NoName),
+        41 => wrong_shape(scope),
+        21 => wrong_name(earlier, scope),
+        _ => None,
+    }
 }
 
 /// Whether a member is there and no text.
@@ -80,61 +189,34 @@ fn is_no_text(value: &Value, name: &str) -> bool {
     }
 }
 
-/// Whether a member is there and no object.
-fn is_no_object(value: &Value, name: &str) -> bool {
-    match value.get(name) {
-        Some(member) => !member.is_object(),
-        None => false,
-    }
-}
-
-/// The sentence on a scope without a name.
-fn without_name(scope: &Value) -> Option<(&'static str, &'static str)> {
-    if scope.is_object() && scope.get("name").is_none() {
-        return Some(("", "this scope has no member `name`"));
-    }
-    None
-}
-
-/// What the shape of a scope is wrong in: a member, and a sentence.
-fn wrong_shape(scope: &Value) -> Option<(&'static str, &'static str)> {
+/// What the shape of a scope is wrong in.
+fn wrong_shape(scope: &Value) -> Option<Wrong<'_>> {
     if !scope.is_object() {
-        return Some(("", "a scope has to be an object with the member `name`"));
+        return Some(Wrong::Scope);
     }
     if is_no_text(scope, "name") {
-        return Some(("name", "`name` has to be a text"));
+        return Some(Wrong::Name);
     }
     if is_no_text(scope, "parent") {
-        return Some(("parent", "`parent` has to be a text"));
+        return Some(Wrong::Parent);
     }
-    if is_no_object(scope, "keys") {
-        return Some(("keys", "`keys` has to be an object with the context keys"));
-    }
-    if has_wrong_keys(scope) {
-        return Some((
-            "keys",
-            "each value in `keys` has to be true, false, a whole number, a text, a list of texts or an object",
-        ));
-    }
-    None
-}
-
-/// Whether a key of a scope has a value that no context key can have.
-fn has_wrong_keys(scope: &Value) -> bool {
-    match scope.get("keys").and_then(Value::as_object) {
-        Some(members) => has_no_context(members),
-        None => false,
+    match scope.get("keys")?.as_object() {
+        Some(keys) => match wrong_key(keys) {
+            Some(key) => Some(Wrong::Key(key)),
+            None => None,
+        },
+        None => Some(Wrong::Keys),
     }
 }
 
-/// Whether a context key can't have the value of one of these members.
-fn has_no_context(members: &Map<String, Value>) -> bool {
-    for (_, value) in members {
+/// The first of these members whose value no context key has.
+fn wrong_key(members: &Map<String, Value>) -> Option<&str> {
+    for (name, value) in members {
         if is_no_context(value) {
-            return true;
+            return Some(name.as_str());
         }
     }
-    false
+    None
 }
 
 /// Whether one of these values is no text.
@@ -157,28 +239,16 @@ fn is_no_context(value: &Value) -> bool {
     }
 }
 
-/// What the names of a scope are wrong in, behind these scopes: a member, and a sentence.
-fn wrong_name(earlier: &[Value], scope: &Value) -> Option<(&'static str, &'static str)> {
-    let name = scope.get("name").and_then(Value::as_str).unwrap_or("");
+/// What the names of a scope are wrong in, behind these scopes.
+fn wrong_name<'v>(earlier: &[Value], scope: &'v Value) -> Option<Wrong<'v>> {
+    let name = name_of(scope);
     if is_name_of_one(earlier, name) {
-        return Some(("name", "an earlier scope has this name"));
+        return Some(Wrong::Repeated(name));
     }
     match scope.get("parent").and_then(Value::as_str) {
-        Some(_) if earlier.is_empty() => {
-            Some((
-                "parent",
-                "the first scope is the outermost one, and has no `parent`",
-            ))
-        }
-        Some(parent) if !is_name_of_one(earlier, parent) => {
-            Some(("parent", "no earlier scope has this name"))
-        }
-        None if !earlier.is_empty() => {
-            Some((
-                "name",
-                "this scope has no `parent`; only the first one may be without",
-            ))
-        }
+        Some(_) if earlier.is_empty() => Some(Wrong::FirstWithParent),
+        Some(parent) if !is_name_of_one(earlier, parent) => Some(Wrong::UnknownParent(parent)),
+        None if !earlier.is_empty() => Some(Wrong::NoParent),
         _ => None,
     }
 }

@@ -14,6 +14,7 @@ mod entries;
 mod faulty;
 mod file_members;
 mod handler_culprit;
+mod handler_members;
 mod json_lines;
 mod key_mistakes;
 mod layout_culprit;

@@ -3,8 +3,8 @@ use crate::entries::{member_at, span_at};
 use crate::layout_culprit::said;
 use crate::refusal::Said;
 use kb_base::NoMemory;
-use kb_places::{Source, items, open};
-use kb_source_files::ExtensionSource;
+use kb_places::{LineTable, Source, Span, items, open};
+use kb_source_files::{ExtensionSource, SourceFile};
 use serde_json::Value;
 use std::alloc::Global;
 
@@ -123,10 +123,52 @@ pub fn manifest_culprit(alloc: Global, source: &Source<'_>) -> Result<Said, NoMe
     }
 }
 
-/// What is said of a manifest with the identifier of an earlier one.
-pub fn identifier_culprit(alloc: Global, source: &Source<'_>) -> Result<Said, NoMemory> {
-    let span = span_at(alloc, source, &["name"])?.unwrap_or(source.whole());
-    said(alloc, span, "an earlier extension has the same identifier")
+/// What is said of a manifest with the identifier of one of these extensions.
+pub fn identifier_culprit(
+    alloc: Global,
+    earlier: &[ExtensionSource<'_>],
+    source: &Source<'_>,
+) -> Result<Said, NoMemory> {
+    let id = identifier_in(alloc, source.value())?;
+    let sentence = match spot_of_one(alloc, earlier, id.as_str())? {
+        Some(spot) => format!(in alloc; "the extension at {spot} has the same identifier, `{id}`")?,
+        None => format!(in alloc; "an earlier extension has the same identifier, `{id}`")?,
+    };
+    Ok((Some(name_span(alloc, source)?), sentence))
+}
+
+/// Where the name of an extension is in its manifest.
+fn name_span(alloc: Global, source: &Source<'_>) -> Result<Span, NoMemory> {
+    Ok(span_at(alloc, source, &["name"])?.unwrap_or(source.whole()))
+}
+
+/// The place of the first of these extensions with an identifier, as messages name it.
+fn spot_of_one(
+    alloc: Global,
+    extensions: &[ExtensionSource<'_>],
+    id: &str,
+) -> Result<Option<String>, NoMemory> {
+    for extension in extensions {
+        if let Some(spot) = spot_of(alloc, extension.package, id)? {
+            return Ok(Some(spot));
+        }
+    }
+    Ok(None)
+}
+
+/// The place of the name in a manifest, as messages name it, if it has this identifier.
+fn spot_of(alloc: Global, file: SourceFile<'_>, id: &str) -> Result<Option<String>, NoMemory> {
+    let Ok(source) = open(alloc, file.bytes)? else {
+        return Ok(None);
+    };
+    let other = identifier_in(alloc, source.value())?;
+    if !other.as_str().eq_ignore_ascii_case(id) {
+        return Ok(None);
+    }
+    let span = name_span(alloc, &source)?;
+    let line = LineTable::new(alloc, source.bytes())?.line(span.begin);
+    let path = file.path;
+    Ok(Some(format!(in alloc; "{path}:{line}")?))
 }
 
 /// What is said of a manifest of which a dependency isn't among these extensions.
@@ -188,7 +230,11 @@ fn identifier(alloc: Global, extension: &ExtensionSource<'_>) -> Result<String, 
     let Ok(source) = open(alloc, extension.package.bytes)? else {
         return Ok(String::new(alloc));
     };
-    let value = source.value();
+    identifier_in(alloc, source.value())
+}
+
+/// The identifier that a manifest gives.
+fn identifier_in(alloc: Global, value: &Value) -> Result<String, NoMemory> {
     let name = value.get("name").and_then(Value::as_str).unwrap_or("");
     let publisher = value.get("publisher").and_then(Value::as_str);
     let publisher = publisher.unwrap_or("undefined_publisher");

@@ -84,7 +84,7 @@ fn said_of_value(
         LoadFile::Layout => layout_culprit(alloc, source, number),
         LoadFile::Package(place) => match number {
             90 => dependency_culprit(alloc, before(files, place), source),
-            91 => identifier_culprit(alloc, source),
+            91 => identifier_culprit(alloc, before(files, place), source),
             _ => manifest_culprit(alloc, source),
         },
         LoadFile::Handlers(place) => {
