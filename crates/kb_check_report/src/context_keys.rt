@@ -37,52 +37,82 @@ fn keys_of(alloc: Global, scopes: &Scopes) -> Result<KnownKeys, NoMemory> {
     Ok(all)
 }
 
-/// The first key of an atom that no scope has.
-fn unknown_in<'t>(leaf: &'t Leaf, known: &KnownKeys) -> Option<&'t str> {
+/// Adds a key, if no scope has it.
+fn add_unknown<'t>(
+    key: &'t str,
+    known: &KnownKeys,
+    unknown: &mut Vec<&'t str>,
+) -> Result<(), NoMemory> {
+    if known.contains_key(key) {
+        return Ok(());
+    }
+    unknown.push(key)?;
+    Ok(())
+}
+
+/// Adds the keys of an atom that no scope has.
+fn add_of_leaf<'t>(
+    leaf: &'t Leaf,
+    known: &KnownKeys,
+    unknown: &mut Vec<&'t str>,
+) -> Result<(), NoMemory> {
     match leaf {
         Leaf::Key(key) | Leaf::Equals(key, _) | Leaf::Compare(key, _, _) | Leaf::Matches(key, _) =>
-            unknown_key(key.as_str(), known),
-        Leaf::Member(key, list) => match unknown_key(key.as_str(), known) {
-            Some(key) => Some(key),
-            None => unknown_key(list.as_str(), known),
-        },
-    }
-}
-
-/// The first key of a tree that no scope has.
-#[cycle(keys)]
-fn first_unknown<'t>(tree: &'t Tree, known: &KnownKeys) -> Option<&'t str> {
-    match tree {
-        Tree::Atom(leaf) => unknown_in(leaf, known),
-        Tree::Not(tree) => first_unknown(tree, known),
-        Tree::And(trees) => first_unknown_among(trees.as_slice(), known),
-        Tree::Or(trees) => first_unknown_among(trees.as_slice(), known),
-        Tree::True | Tree::False => None,
-    }
-}
-
-/// The first key of some trees that no scope has.
-#[cycle(keys)]
-fn first_unknown_among<'t>(trees: &'t [Tree], known: &KnownKeys) -> Option<&'t str> {
-    for tree in trees {
-        if let Some(key) = first_unknown(tree, known) {
-            return Some(key);
+            add_unknown(key.as_str(), known, unknown),
+        Leaf::Member(key, list) => {
+            add_unknown(key.as_str(), known, unknown)?;
+            add_unknown(list.as_str(), known, unknown)
         }
     }
-    None
 }
 
-/// A key, if no scope has it.
-fn unknown_key<'t>(key: &'t str, known: &KnownKeys) -> Option<&'t str> {
-    if known.contains_key(key) {
-        None
-    } else {
-        Some(key)
+/// Adds the keys of a tree that no scope has, in its order.
+#[cycle(keys)]
+fn add_of_tree<'t>(
+    tree: &'t Tree,
+    known: &KnownKeys,
+    unknown: &mut Vec<&'t str>,
+) -> Result<(), NoMemory> {
+    match tree {
+        Tree::Atom(leaf) => add_of_leaf(leaf, known, unknown),
+        Tree::Not(tree) => add_of_tree(tree, known, unknown),
+        Tree::And(trees) => add_of_trees(trees.as_slice(), known, unknown),
+        Tree::Or(trees) => add_of_trees(trees.as_slice(), known, unknown),
+        Tree::True | Tree::False => Ok(()),
     }
 }
 
-/// Adds the clauses with a key that no scope of the layout has at first, each with its first such key: those
-/// of these rules, and those of the commands and the items of the palette of all extensions.
+/// Adds the keys of some trees that no scope has, in their order.
+#[cycle(keys)]
+fn add_of_trees<'t>(
+    trees: &'t [Tree],
+    known: &KnownKeys,
+    unknown: &mut Vec<&'t str>,
+) -> Result<(), NoMemory> {
+    for tree in trees {
+        add_of_tree(tree, known, unknown)?;
+    }
+    Ok(())
+}
+
+/// The sentence on keys that no scope has, each of them once.
+fn unknown_sentence(alloc: Global, unknown: &[&str]) -> Result<String, NoMemory> {
+    let mut list = String::new(alloc);
+    let mut listed = HashMap::new(alloc);
+    for key in unknown {
+        if listed.contains_key(*key) {
+            continue;
+        }
+        let sign = if listed.is_empty() { "" } else { ", " };
+        write!(list, "{sign}`{key}`")?;
+        listed.insert(String::from_str(alloc, *key)?, ())?;
+    }
+    let word = if listed.len() == 1 { "key" } else { "keys" };
+    format!(in alloc; "no scope of the layout has the context {word} {list}")
+}
+
+/// Adds the clauses with keys that no scope of the layout has at first, each with these keys: those of these
+/// rules, and those of the commands and the items of the palette of all extensions.
 pub fn add_unknown_keys(
     alloc: Global,
     files: &OpenedFiles<'_>,
@@ -256,11 +286,13 @@ fn add_clause(
 ) -> Result<(), NoMemory>
     ensures { OnOk result (never_said problems.new.items ≡ never_said problems.old.items) }
 {
-    let Some(key) = first_unknown(clause.tree(), known) else {
+    let mut unknown = Vec::new(alloc);
+    add_of_tree(clause.tree(), known, &mut unknown)?;
+    if unknown.is_empty() {
         return Ok(());
-    };
+    }
     let span = opened.member(alloc, part, place, clause_member(part))?;
-    let sentence = format!(in alloc; "no scope of the layout has the context key `{key}`")?;
+    let sentence = unknown_sentence(alloc, unknown.as_slice())?;
     push_other(
         linted(opened.file, Lint::UnknownContextKey, span, sentence),
         problems,
