@@ -360,9 +360,28 @@ fn paused_at(place: usize, left: u32, why: Pause) -> Paused
     Paused { place, left, why }
 }
 
-/// The place of the next instruction after an action at a place, or the reason for a pause.
+/// The place of the next instruction after an action at a place, or the reason for a pause. Most actions are
+/// `Next`, so it is compared first: one jump by the kind of the instruction is enough then.
 #[inline]
 fn next_place(code: &Code, turns: &mut Turns, place: usize, action: Action) -> Result<usize, Pause>
+    requires { place + 1 < 2 ^ 64 }
+    ensures { (operands : _) → next_of code.now (standing place turns.old operands) action
+        ≡ seen (λ next. standing next turns.new operands) result }
+{
+    if let Action::Next = action {
+        return Ok(place + 1);
+    }
+    place_by_action(code, turns, place, action)
+}
+
+/// The same, by the kind of the action. It is apart, so that the compiler keeps the comparison before it.
+#[inline(never)]
+fn place_by_action(
+    code: &Code,
+    turns: &mut Turns,
+    place: usize,
+    action: Action,
+) -> Result<usize, Pause>
     requires { place + 1 < 2 ^ 64 }
     ensures { (operands : _) → next_of code.now (standing place turns.old operands) action
         ≡ seen (λ next. standing next turns.new operands) result }
