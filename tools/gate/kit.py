@@ -70,7 +70,7 @@ def built_libraries(crates):
 @contextlib.contextmanager
 def room_with(crate, texts):
     """A copy of the crate in its own folder, with these texts, and without files whose text is `None`."""
-    with tempfile.TemporaryDirectory(prefix="wrong-bodies-") as folder:
+    with tempfile.TemporaryDirectory(prefix="wrong-bodies-", ignore_cleanup_errors=True) as folder:
         for part in rt.rtlib.PARTS:
             if os.path.isdir(os.path.join(crate.folder, part)):
                 shutil.copytree(os.path.join(crate.folder, part), os.path.join(folder, part))

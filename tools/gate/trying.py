@@ -293,7 +293,7 @@ def crates_with_edits(crates):
 
 def try_crate(crate, functions, edits, is_kept=False, is_proved=False, limit=None):
     """Tries a crate's edits over a folder of kept work."""
-    with tempfile.TemporaryDirectory(prefix="wrong-bodies-") as folder:
+    with tempfile.TemporaryDirectory(prefix="wrong-bodies-", ignore_cleanup_errors=True) as folder:
         if is_kept:
             checked, folder = (os.path.join(crate.folder, "out", it) for it in ("incremental", "edits"))
             if os.path.isdir(checked) and not os.path.isdir(folder):
