@@ -14,6 +14,8 @@ import tempfile
 
 MIB = 1 << 20
 FILE_LIMIT = 16 * MIB
+# The largest file that is tried, so that a script of one event with it is not too long. (try_limits tries the others.)
+LARGEST = FILE_LIMIT - 128
 GROWTH = 2.4
 # Times and memory below these are not compared: they are those of a program that does nothing, and what a clock can tell.
 LEAST_SECONDS = 0.1
@@ -415,7 +417,7 @@ def try_case(measurer, programs, case, sizes, names):
     title, make, number, way = case
     found, faults, beside = [], [], None
     for size in sizes:
-        job = way(make(size), number, names)
+        job = way(make(min(size, LARGEST)), number, names)
         seconds, memory, fault = measured(measurer, programs[0], job, 2)
         found.append((seconds, memory))
         faults += [f"{title}, {size} bytes: {fault}"] if fault else []
