@@ -15,7 +15,7 @@ from gate.said import Said
 from gate.source import functions_of
 from gate.stand_ins import stand_ins_of
 from gate.trying import Crate, Limit, Tried, are_refused, trouble_in
-from gate.turns import PROVED, changed_crates, try_as_proved, try_in_spite_of_faults, turns_of
+from gate.turns import PROVED, changed_crates, try_as_proved, try_or_name_the_fault, turns_of
 from gate.twins import Proofs, Twin
 
 SOURCE = """\
@@ -355,7 +355,7 @@ class Faults(unittest.TestCase):
         crate, before = types.SimpleNamespace(name="tiny"), types.SimpleNamespace(refused=refused)
         said = io.StringIO()
         with contextlib.redirect_stdout(said):
-            found = try_in_spite_of_faults(crate, [], edits, before, Limit(), pause=0)
+            found = try_or_name_the_fault(crate, [], edits, before, Limit(), pause=0)
             passes = are_refused(found)
         return passes, said.getvalue(), len([*answers])
 
@@ -364,10 +364,11 @@ class Faults(unittest.TestCase):
         self.assertTrue(passes)
         self.assertTrue(said.endswith("\n2 refused, 0 not\n"))
 
-    def test_what_the_machine_refuses_twice_is_counted_and_does_not_fail(self):
+    def test_what_the_machine_refuses_twice_fails_by_its_name(self):
         passes, said, _ = self.tried_with(OSError("no room"), OSError("no room"))
-        self.assertTrue(passes)
-        self.assertTrue(said.endswith("\n2 not tried\n0 refused, 0 not\n"))
+        self.assertFalse(passes)
+        self.assertIn("NOT REFUSED: one: OSError at refused, line ", said)
+        self.assertTrue(said.endswith("\n0 refused, 2 not\n"))
 
     def test_a_fault_of_the_tool_fails_by_its_name_and_at_once(self):
         passes, said, left = self.tried_with(KeyError("text"), OSError("no room"))

@@ -4,8 +4,8 @@ The wrong bodies of a crate are tried once rt ci has said that the crate is prov
 ready come first those that the commit changes, then those above them, then the others, whose order begins
 at another crate for each commit: where the time never suffices for all, each crate comes first some time.
 Edits that an earlier run on this machine saw refused are not tried again (kept.py). Once the time is up no
-check begins. What was not tried by then is counted and fails nothing. So is what the machine refuses twice
-(no room on the disk, no memory for a process). A fault of this tool fails each edit of the crate, by its name.
+check begins. What was not tried by then is counted and fails nothing. A fault of this tool or of the machine
+fails each edit of the crate, by its name.
 """
 
 import concurrent.futures
@@ -76,29 +76,26 @@ def try_what_is_new(crate, functions, edits, before, limit):
     return found
 
 
-def try_in_spite_of_faults(crate, functions, edits, before, limit, pause=60):
-    """Tries what is new of a crate. What the machine refuses is tried a second time, after a pause in seconds."""
+def try_or_name_the_fault(crate, functions, edits, before, limit, pause=60):
+    """Tries what is new of a crate, and once more, after a pause in seconds, where the machine refuses a file
+    or a process. A fault that stays fails each edit of the crate, by its name."""
     for is_second in (False, True):
         try:
             return try_what_is_new(crate, functions, edits, before, limit)
-        except OSError as error:
-            what, is_tried = f"the machine refused: {error}", False
         except Exception as error:
             at = traceback.extract_tb(error.__traceback__)[-1]
-            what, is_tried = f"{type(error).__name__} at {at.name}, line {at.lineno}: {error}", True
-        say(f"{crate.name}: {what}")
-        if is_tried:
-            break
-        if not is_second:
+            what = f"{type(error).__name__} at {at.name}, line {at.lineno}: {error}"
+            say(f"{crate.name}: {what}")
+            if is_second or not isinstance(error, OSError):
+                return [Tried(it, False, what) for it in edits]
             time.sleep(pause)
-    return [Tried(it, False, what, is_tried=is_tried) for it in edits]
 
 
 def try_ready(ready, limit):
     """Tries the edits of crates that come ready, one crate after another, until `None` comes for a crate."""
     found = []
     while (it := ready.get()[-1]) is not None:
-        found += try_in_spite_of_faults(*it, limit)
+        found += try_or_name_the_fault(*it, limit)
     return found
 
 
