@@ -1,5 +1,6 @@
 //! Maps with texts as keys.
-ghost use Rattle.std.specs.Prelude.{◌≡◌, ◌<◌, ◌^◌, ◌↔◌, ℕ, List, IsTrue, OnOk, OnErr, IfOk, false, option_copied};
+ghost use Rattle.std.specs.Prelude.{◌≡◌, ◌<◌, ◌^◌, ◌↔◌, ℕ, List, IsTrue, false, is_some, option_copied};
+ghost use Rattle.std.specs.Prelude.{OnOk, OnErr, IfOk};
 ghost use Rattle.std.specs.Prelude.{map as mapped};
 ghost use Rattle.std.specs.FinMap as map;
 ghost use Rattle.std.specs.List.{list_any};
@@ -80,9 +81,11 @@ impl<V: Drop> TextMap<V> {
         self.table.get(key)
     }
 
-    /// The index at which the map has the key now, for [`TextMap::get_near`]. A removal of a key may move
-    /// another one.
-    pub fn index_of(&self, key: &str) -> Option<usize> {
+    /// The index at which the map has the key now, for [`TextMap::get_near`], or `None` if the map lacks the
+    /// key. A removal of a key may move another one.
+    pub fn index_of(&self, key: &str) -> Option<usize>
+        ensures { is_some result ≡ map.contains_key self.now key.now }
+    {
         self.table.get_index_of(key)
     }
 

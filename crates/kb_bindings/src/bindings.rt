@@ -127,7 +127,8 @@ impl Bindings {
         stroke: Keystroke,
         scopes: &Scopes,
     ) -> Result<Pressed<'b>, NoMemory>
-        ensures step { IfOk result (λ does. step_of does ≡ pressed chord.old stroke scopes.now.seen self.now) }
+        ensures step { IfOk result (λ does.
+            step_of does ≡ pressed chord.old stroke scopes.now.seen self.now) }
         ensures pressed { OnOk result (chord.new ≡ still_pressed chord.old stroke scopes.now.seen self.now) }
         ensures err { OnErr result (chord.new ≡ chord.old) }
         ensures memory { IfErr result (λ _. MayAskPatterns (chord.old ++ stroke ∷ [])

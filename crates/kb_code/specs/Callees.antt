@@ -1,6 +1,7 @@
 -- The callees of a handler: the operands of `Call` at reachable places. The definition visits each
 -- instruction once, in order, and so follows only jumps to later places.
-use Rattle.std.specs.Prelude.{ℕ, suc, Bool, nat_lt, ◌==◌, ◌||◌, ◌&&◌, List, [], ◌∷◌, ◌++◌, length, if◌then◌else◌}
+use Rattle.std.specs.Prelude.{ℕ, suc, Bool, nat_lt, ◌==◌, ◌||◌, ◌&&◌, if◌then◌else◌}
+use Rattle.std.specs.Prelude.{List, [], ◌∷◌, ◌++◌, length}
 use Rattle.kb_code.specs.declared.instr.Instr.{Instr}
 use Rattle.kb_code.specs.declared.instr.Instr.TheVariants as i
 use Rattle.kb_code.specs.Blocks.{is_inside}

@@ -28,4 +28,5 @@ first_fault version place (instr ∷ code) =
 
 -- the first fault of an instruction, and then the one of the blocks
 abbrev pub code_fault : Version → List Instr → Option CodeFault
-code_fault version instrs = earlier (first_fault version 0 instrs) (option_map BadBlock (bad_block 0 [] instrs))
+code_fault version instrs =
+    earlier (first_fault version 0 instrs) (option_map BadBlock (bad_block 0 [] instrs))

@@ -25,7 +25,8 @@ allowed place operand instr None = if operand_of instr == operand then Ok instr 
 -- the instruction found for an opcode, if the version has it and it allows the operand
 abbrev pub with_operand : Version → ℕ → ℕ → Option Instr → Result Instr CodeFault
 with_operand version place operand None = Err (BadOpcode place)
-with_operand version place operand (Some instr) = allowed place operand instr (instr_fault version place instr)
+with_operand version place operand (Some instr) =
+    allowed place operand instr (instr_fault version place instr)
 
 -- the instruction at a place, by its opcode and operand
 unfoldable pub instr_at : Version → ℕ → ℕ → ℕ → Result Instr CodeFault
@@ -45,7 +46,8 @@ code_of version bytes = if length bytes % 3 == 0 then code_from version 0 bytes 
 
 -- what version 1 reads, version 2 reads as the same instructions
 abbrev pub ReadsTheSame : Type 0
-ReadsTheSame = (bytes : List ℕ) (code : List Instr) → code_of One bytes ≡ Ok code → code_of Two bytes ≡ Ok code
+ReadsTheSame =
+    (bytes : List ℕ) (code : List Instr) → code_of One bytes ≡ Ok code → code_of Two bytes ≡ Ok code
 
 -- the failure after a refused allocation: the first fault, or `NoMemory` if there is none
 abbrev pub failure_of : Result (List Instr) CodeFault → Failure CodeFault

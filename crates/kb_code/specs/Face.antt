@@ -1,5 +1,6 @@
 -- What handlers declare: their names and signatures.
-use Rattle.std.specs.Prelude.{◌≡◌, ℕ, Bool, true, false, not, ◌&&◌, List, [], ◌∷◌, Option, Some, None, is_some}
+use Rattle.std.specs.Prelude.{◌≡◌, ℕ, Bool, true, false, not, ◌&&◌, List, [], ◌∷◌}
+use Rattle.std.specs.Prelude.{Option, Some, None, is_some}
 use Rattle.std.specs.Prelude.{option_map}
 use Rattle.kb_core.specs.Declaration.{Declaration}
 use Rattle.kb_code.specs.Handler.{HandlerData, handler_named}
@@ -22,7 +23,8 @@ are_distinct (h ∷ hs) = not (is_some (handler_named h.command hs)) && are_dist
 -- whether each handler has a counterpart among the others, which declares the same
 abbrev pub each_declared : List HandlerData → List HandlerData → Bool
 each_declared [] others = true
-each_declared (h ∷ hs) others = declares (declared_among others h.command) h.signature && each_declared hs others
+each_declared (h ∷ hs) others =
+    declares (declared_among others h.command) h.signature && each_declared hs others
 
 -- whether both declare the same commands, each once, with equal signatures
 abbrev pub same_face : List HandlerData → List HandlerData → Bool

@@ -104,8 +104,8 @@ fn instr_at(version: Version, place: usize, opcode: u8, operand: u16) -> Result<
 #[tactic(auto, using(crate::proofs::CodingLemmas::all_read_again))]
 pub fn encode(alloc: Global, code: &[Instr]) -> Result<Seq<u8>, NoMemory>
     ensures bytes { IfOk result (λ bytes. bytes ≡ flat_map bytes_of code.now) }
-    ensures read_again { IfOk result (λ bytes. (version : TheVersion) → first_fault version 0 code.now ≡ None →
-        code_of version bytes ≡ Ok code.now) }
+    ensures read_again { IfOk result (λ bytes. (version : TheVersion)
+        → first_fault version 0 code.now ≡ None → code_of version bytes ≡ Ok code.now) }
 {
     let mut bytes = Vec::new(alloc);
     for instr in code {

@@ -147,8 +147,8 @@ impl Scopes {
         self.tree.value_in_seat(self.flat.get_text(key), key)
     }
 
-    /// The value of a key that is visible from the focus, as `get` has it. If the flat map is up to date, it is
-    /// found by the hash that comes with the key.
+    /// The value of a key that is visible from the focus, as `get` has it. If the flat map is up to date, it
+    /// is found by the hash that comes with the key.
     pub fn get_hashed(&self, key: &HashedText) -> Option<&ContextValue>
         ensures value { option_copied result ≡ map.get (context self.now.seen) key.now }
         ensures whole { ReachesRoot self.now.seen }
@@ -172,7 +172,8 @@ impl Scopes {
         value: ContextValue,
     ) -> Result<(), Failure<ScopeFault>>
         ensures allowed { OnOk result (set_fault self.old.seen scope.now key.now ≡ None) }
-        ensures ok { OnOk result (self.new ≡ revised self.old (with_value self.old.seen scope.now key.now value)) }
+        ensures ok { OnOk result
+            (self.new ≡ revised self.old (with_value self.old.seen scope.now key.now value)) }
         ensures err { IfErr result (IsRefusalOrMemory (set_fault self.old.seen scope.now key.now)) }
         ensures unchanged { OnErr result (self.new ≡ self.old) }
         ensures absent { OnErr result (value_in self.old.seen scope.now key.now ≡ None) }
@@ -205,7 +206,8 @@ impl Scopes {
     /// `UnknownScope` (20) if no scope has the name.
     pub fn unset(&mut self, scope: &str, key: &str) -> Result<(), UnknownScope>
         ensures known { OnOk result (IsSome (place_of scope.now self.old.seen.scopes)) }
-        ensures ok { OnOk result (self.new ≡ revised self.old (without_value self.old.seen scope.now key.now)) }
+        ensures ok { OnOk result
+            (self.new ≡ revised self.old (without_value self.old.seen scope.now key.now)) }
         ensures unknown { OnErr result (place_of scope.now self.old.seen.scopes ≡ None) }
         ensures unchanged { OnErr result (self.new ≡ self.old) }
         ensures change { OnOk result (ChangesOnlyIn self.old.seen self.new.seen scope.now key.now None) }

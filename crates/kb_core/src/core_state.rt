@@ -1,7 +1,8 @@
 //! What commands change: the text buffer, and the scopes of context keys.
 ghost use Rattle.std.specs.Prelude.{◌≡◌, None, Some, OnOk, OnErr, IfErr, IsSome};
 ghost use Rattle.kb_base.specs.Failure.{IsRefusalOrMemory};
-ghost use Rattle.kb_context.specs.Scopes.{place_of, set_fault, value_in, with_focus, with_value, without_value};
+ghost use Rattle.kb_context.specs.Scopes.{place_of, set_fault, value_in};
+ghost use Rattle.kb_context.specs.Scopes.{with_focus, with_value, without_value};
 ghost use Rattle.kb_core.specs.Core.{new_core, with_scopes};
 
 use crate::buffer::Buffer;

@@ -108,7 +108,8 @@ fn edit_text(native: Native, buffer: &mut Buffer, args: &[Arg]) -> Result<(), No
 /// scopes are then unchanged.
 fn set_context(scopes: &mut Scopes, args: Args) -> Result<(), NoMemory>
     requires { IsTrue (fits (parameters_of SetContext) args) }
-    ensures ok { OnOk result (scopes.new.seen ≡ with_root_key (text_of args) (value_of args) scopes.old.seen) }
+    ensures ok { OnOk result
+        (scopes.new.seen ≡ with_root_key (text_of args) (value_of args) scopes.old.seen) }
     ensures err { OnErr result (scopes.new ≡ scopes.old) }
     ensures allowed { OnErr result (set_fault_at scopes.old.seen 0 (text_of args) ≡ None) }
     ensures absent { OnErr result (value_at scopes.old.seen 0 (text_of args) ≡ None) }

@@ -132,7 +132,8 @@ MustRead Handlers held = IsThere held
 abbrev pub FailsReadingIn : DirFile → Held → Bor (List ℕ) → Failure CannotRead → Type 0
 FailsReadingIn file held dir NoMemory = ⊤
 FailsReadingIn file held dir (Fault (InDirectory at which)) = (at ≡ dir) × (which ≡ file)
-    × MustRead file held × ((fault : ReadFault) × HasRead {B = List ℕ} held (λ bytes. bytes) (Err (Fault fault)))
+    × MustRead file held
+    × ((fault : ReadFault) × HasRead {B = List ℕ} held (λ bytes. bytes) (Err (Fault fault)))
 FailsReadingIn file held dir (Fault (File path)) = ⊥
 
 -- the bytes of the manifest of a directory

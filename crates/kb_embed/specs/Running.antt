@@ -14,7 +14,8 @@ use Rattle.kb_script.specs.Shelf as shelf
 use Rattle.kb_script.specs.Shelf.{Stand, beside, move}
 use Rattle.kb_session.specs.Inspect.{finish_of}
 use Rattle.kb_session.specs.Session.{Halts, Seen, halt}
-use Rattle.kb_session.specs.State.{Answered, State, Told, did, gave, halted, happens, next, refused, step, ticket}
+use Rattle.kb_session.specs.State.{Answered, State, Told, did, gave, halted, happens, next, refused, step}
+use Rattle.kb_session.specs.State.{ticket}
 use Rattle.kb_stream.specs.Fold.{Traced, after, after_all}
 use Rattle.kb_trace.specs.declared.event.Event.{Event}
 

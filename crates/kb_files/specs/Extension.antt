@@ -47,4 +47,5 @@ extension_in unread number platform bytes = seen (extension_by unread number pla
 -- all patterns of an extension are listed as unread exactly where `regex` rejects them
 abbrev pub IsRightlyMarked : List ℕ → Extension → Type 0
 IsRightlyMarked bytes e =
-    AreRightlyMarked e.rules × IsRightBy (told_in (origin.Extension e.number) (unread_in e)) (outline_in bytes)
+    AreRightlyMarked e.rules
+    × IsRightBy (told_in (origin.Extension e.number) (unread_in e)) (outline_in bytes)

@@ -19,7 +19,8 @@ pub record IsGroup (names : Names) (links : List Links) (handlers : List Handler
   pub found : FindsFirst names handlers handlers
 
 -- the handler at the place has the name
-pub record IsNamedAt (name : List ℕ) (handlers : List HandlerData) (place : ℕ) (h : HandlerData) : Type 0 where
+pub record IsNamedAt
+    (name : List ℕ) (handlers : List HandlerData) (place : ℕ) (h : HandlerData) : Type 0 where
   pub there : slice_get handlers place ≡ Some h
   pub its : h.command ≡ name
 

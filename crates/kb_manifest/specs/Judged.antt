@@ -32,7 +32,8 @@ module _ {X : Type 0} (judged_at : List ClausePattern → ℕ → Data → Judge
   abbrev pub unread_from : Origin → Part → ℕ → List Data → List UnreadPattern
   unread_from origin part place [] = []
   unread_from origin part place (d ∷ ds) =
-      placed origin part place (judged_at (told place) place d).unread ++ unread_from origin part (place + 1) ds
+      placed origin part place (judged_at (told place) place d).unread
+      ++ unread_from origin part (place + 1) ds
 
   abbrev pub notes_of : Origin → Part → List Data → Notes
   notes_of origin part ds =

@@ -26,5 +26,6 @@ code_disposal_fault extension live = option_map (λ user. InUse) (user_of extens
 -- other commands than before take precedence over a missing callee
 abbrev pub exchange_fault : ℕ → CodesData → Live → Option RegistryFault
 exchange_fault extension codes live =
-    if same_face (handlers_of extension live.code) codes.handlers then callee_fault (missing_callee codes live)
+    if same_face (handlers_of extension live.code) codes.handlers
+    then callee_fault (missing_callee codes live)
     else Some SignatureChanged

@@ -98,8 +98,9 @@ impl Resolver {
             ≡ resolved pressed.now (context scopes.now.seen) (enablement_in enablements.now) self.now) }
 
         // The same as `value`, in terms of positions.
-        ensures greatest { IsGreatest pressed.now (context scopes.now.seen) (enablement_in enablements.now)
-            self.now (resolved pressed.now (context scopes.now.seen) (enablement_in enablements.now) self.now) }
+        ensures greatest { let keys = context scopes.now.seen in
+            let enabled = enablement_in enablements.now in
+            IsGreatest pressed.now keys enabled self.now (resolved pressed.now keys enabled self.now) }
 
         // A rule has at most four keystrokes, so one more keystroke can be pressed.
         ensures fits { IfOk result (λ found.

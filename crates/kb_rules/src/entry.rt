@@ -10,8 +10,8 @@ ghost use Rattle.kb_when.specs.ClauseText.{clause_in};
 ghost use Rattle.serde_json.specs.View.{view, members_view};
 ghost use Rattle.kb_rules.specs.Entry.{by_number, failure_by_number, text_of, required_text, removed_command};
 ghost use Rattle.kb_rules.specs.Entry.{chord_in, keystrokes_of, removed_keystrokes_of, when_of, condition_of};
-ghost use Rattle.kb_rules.specs.Entry.{args_of, key_member, found_in, found_of, binding_of, bound_to, terms_of};
-ghost use Rattle.kb_rules.specs.Entry.{made, completed, element_of, entry_of};
+ghost use Rattle.kb_rules.specs.Entry.{args_of, key_member, found_in, found_of, binding_of, bound_to};
+ghost use Rattle.kb_rules.specs.Entry.{terms_of, made, completed, element_of, entry_of};
 ghost use Rattle.kb_rules.specs.Unread.{tree_in, marked_entry};
 
 use crate::json::Json;

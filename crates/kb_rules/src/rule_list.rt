@@ -5,7 +5,8 @@ ghost use Rattle.kb_base.specs.Reading.{seen};
 ghost use Rattle.kb_base.specs.declared.note.Part.TheVariants.{Keybindings};
 ghost use Rattle.kb_when.specs.Placed.{placed};
 ghost use Rattle.kb_rules.specs.Entry.{entry_of};
-ghost use Rattle.kb_rules.specs.RuleList.{no_elements, listed, dropped_in, with_warning, with_unread, warning_at, judged};
+ghost use Rattle.kb_rules.specs.RuleList.{no_elements, listed, dropped_in, judged};
+ghost use Rattle.kb_rules.specs.RuleList.{with_warning, with_unread, warning_at};
 ghost use Rattle.kb_rules.specs.RuleList.{with_read, AreRightlyMarked, IsWhole, IsRight};
 ghost use Rattle.kb_rules.specs.Unread.{marked_when, marked_entry, unread_when, IsRightlyMarked};
 

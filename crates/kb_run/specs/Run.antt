@@ -160,7 +160,8 @@ pub record HasFiles (held : List ℕ → Held) (given : Options) (files : Files)
 
 -- all files were read or opened, and the script was run over what they hold
 pub record FilesRun (verification : Verification) (held : List ℕ → Held) (given : Options)
-    (closures : Closures) (input : Option (List ℕ)) (o : Outputs) (end : Result (Unit {0}) Stop) : Type 0 where
+    (closures : Closures) (input : Option (List ℕ)) (o : Outputs) (end : Result (Unit {0}) Stop)
+    : Type 0 where
   pub files : Files
   pub script : Option (List ℕ)
   pub files_had : HasFiles held given files

@@ -80,7 +80,8 @@ IsChecked v = (commands : Commands) × IsAccepted commands v.handler × AreCalle
 -- each handler was accepted against some commands, and `all` has its callees with the signatures that
 -- those declare
 abbrev pub EachChecked : List HandlerData → List (List Callee) → Type 0
-EachChecked handlers all = AllZip (λ h callees. IsChecked (record { handler = h; callees = callees })) handlers all
+EachChecked handlers all =
+    AllZip (λ h callees. IsChecked (record { handler = h; callees = callees })) handlers all
 
 -- handlers with the callees of each
 abbrev pub together : List HandlerData → List (List Callee) → List CheckedHandler

@@ -50,8 +50,8 @@ pub record AreCosts (commands : Commands) (h : HandlerData) (costs : List ℕ) :
   pub each : (p : ℕ) → IsDearest commands h costs p
 
 -- a most expensive path from a place
-pub record IsDearestFrom (commands : Commands) (h : HandlerData) (costs : List ℕ) (place : ℕ) (steps : Steps) :
-    Type 0 where
+pub record IsDearestFrom
+    (commands : Commands) (h : HandlerData) (costs : List ℕ) (place : ℕ) (steps : Steps) : Type 0 where
   pub cost : ℕ
   pub is_path : Path commands h place steps cost
   pub is_dearest : capped cost ≡ slice_index costs place

@@ -1,6 +1,7 @@
 -- The meaning of a run, defined with recursion for calls: without frames and without a count of the
 -- cost.
-use Rattle.std.specs.Prelude.{◌≡◌, ℕ, zero, suc, ◌-◌, nat_le, nat_lt, ◌&&◌, if◌then◌else◌, List, [], ◌∷◌, ◌++◌}
+use Rattle.std.specs.Prelude.{◌≡◌, ℕ, zero, suc, ◌-◌, nat_le, nat_lt, ◌&&◌, if◌then◌else◌}
+use Rattle.std.specs.Prelude.{List, [], ◌∷◌, ◌++◌}
 use Rattle.std.specs.Prelude.{length, Option, Some, None, option_map, slice_get}
 use Rattle.kb_core.specs.declared.arg.Arg.{Arg}
 use Rattle.kb_core.specs.declared.native.Native.{Native}

@@ -12,7 +12,8 @@ use Rattle.kb_vm.specs.Position.{Position, moved}
 -- what follows from an effect where a jump may go to each later place
 abbrev pub plain_follow : Runner → HandlerData → List Arg → ℕ → Position → World → Effect → Answer
 plain_follow run h args left at w (Goto to operands) =
-    if nat_lt at.place to then run h args left (moved at to operands) w else Stuck BadCode h.command at.place w
+    if nat_lt at.place to then run h args left (moved at to operands) w
+    else Stuck BadCode h.command at.place w
 plain_follow run h args left at w e = follow run h args left at w e
 
 abbrev pub plain_step : Table → Runner → Runner

@@ -56,7 +56,8 @@ impl Turns {
     /// Closes the innermost block, and returns its remaining iterations.
     #[inline]
     pub(crate) fn pop(&mut self) -> Option<u16>
-        ensures turns { MatchOption result ((self.old ≡ []) × (self.new ≡ [])) (λ n. self.old ≡ n ∷ self.new) }
+        ensures turns { MatchOption result
+            ((self.old ≡ []) × (self.new ≡ [])) (λ n. self.old ≡ n ∷ self.new) }
         ensures few { IfSome result (λ _. length self.new < 8) }
     {
         if self.count == 0 {

@@ -162,7 +162,8 @@ pub(crate) fn context<'a>(
     scopes: &Scopes,
     key: &str,
 ) -> Result<Operand<'a>, NoMemory>
-    ensures { IfOk result (λ made. arg_of made ≡ context_arg (fin_map.get (context scopes.now.seen) key.now)) }
+    ensures { IfOk result (λ made.
+        arg_of made ≡ context_arg (fin_map.get (context scopes.now.seen) key.now)) }
 {
     match scopes.get(key) {
         None => Ok(Operand::Truth(false)),

@@ -6,7 +6,8 @@ use crate::operator::Operator;
 use kb_base::{HashedText, Text};
 use kb_pattern::Pattern;
 
-/// An atom with its own texts, and its keys with their hashes. The tree and the flat form of a clause share it.
+/// An atom with its own texts, and its keys with their hashes. The tree and the flat form of a clause share
+/// it.
 #[derive(Debug, Drop)]
 pub enum Leaf {
     /// A key alone.
