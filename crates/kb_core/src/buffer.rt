@@ -4,6 +4,7 @@ ghost use Rattle.kb_core.specs.Buffer as buffer;
 
 use kb_base::{NoMemory, Text};
 use std::alloc::Global;
+use std::mem::swap;
 
 /// The text before the caret and the text after it.
 #[derive(Debug, Drop)]
@@ -86,8 +87,9 @@ impl Buffer {
         ensures ok { OnOk result (self.new ≡ buffer.at_top self.old) }
         ensures err { OnErr result (self.new ≡ self.old) }
     {
-        self.after = self.whole()?;
-        self.before.clear();
+        self.before.push_str(self.after.as_str())?;
+        self.after.clear();
+        swap(&mut self.before, &mut self.after);
         Ok(())
     }
 
@@ -99,13 +101,5 @@ impl Buffer {
         self.before.push_str(self.after.as_str())?;
         self.after.clear();
         Ok(())
-    }
-
-    fn whole(&self) -> Result<Text, NoMemory>
-        ensures { IfOk result (λ text. text ≡ self.now.before ++ self.now.after) }
-    {
-        let mut whole = self.before.copied()?;
-        whole.push_str(self.after.as_str())?;
-        Ok(whole)
     }
 }
