@@ -121,7 +121,9 @@ def types_with_memory(texts):
         text = re.sub(r"(?m)^\s*//.*$|^\s*ghost .*$", "", text)
         for name, held_by_it in [*TYPE.findall(text), *ALIAS.findall(text)]:
             # (the name of a variant is no type)
-            types = re.sub(r"(?m)^ {4}(\w+)(?=[,({])", lambda it: it[1] if it[1] in MEMORY else "", held_by_it)
+            types = re.sub(
+                r"(?m)^ {4}(\w+)(?=[,({])", lambda it: it[1] if it[1] in MEMORY else "", held_by_it
+            )
             held[name] |= {*re.findall(r"\w+", types)}
     found = {*MEMORY}
     while more := {name for name, words in held.items() if words & found} - found:
@@ -137,7 +139,8 @@ def says_memory(function, types):
 
 
 def callee_at(words, at):
-    """The name, the type or module before it, and whether it is a method's, of the call with this argument."""
+    """The name, the type or module before it, and whether it is a method's, of the call with this
+    argument."""
     depth = 0
     while at > 0:
         at -= 1
@@ -242,8 +245,8 @@ def mark(functions, imports):
 
 
 def violations(top):
-    """A line for each function that allocates and whose result can't say that memory was refused, and for each
-    exception that is none."""
+    """A line for each function that allocates and whose result can't say that memory was refused, and for
+    each exception that is none."""
     functions, texts, imports = [], [], {}
     for file in sorted(glob.glob(os.path.join(top, "crates/*/src/**/*.rt"), recursive=True)):
         with open(file, encoding="utf-8") as text:
