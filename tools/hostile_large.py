@@ -1,7 +1,7 @@
 """The large files of tools/hostile-files: what they hold, which answers they get, and what they cost.
 
-Run as a program it is the process that measures others: its own memory is small, and a started process counts the memory of
-the one that started it.
+Run as a program it is the process that measures others: its own memory is small, and a started process counts
+the memory of the one that started it.
 """
 
 import collections
@@ -14,18 +14,23 @@ import tempfile
 
 MIB = 1 << 20
 FILE_LIMIT = 16 * MIB
-# The largest file that is tried, so that a script of one event with it is not too long. (try_limits tries the others.)
+# The largest file that is tried, so that a script of one event with it is not too long. (try_limits tries the
+# others.)
 LARGEST = FILE_LIMIT - 128
 GROWTH = 2.4
-# Times and memory below these are not compared: they are those of a program that does nothing, and what a clock can tell.
+# Times and memory below these are not compared: they are those of a program that does nothing, and what a
+# clock can tell.
 LEAST_SECONDS = 0.1
 LEAST_MEMORY = 24 * MIB
 MARK, MARKED = b"key f19\n", b"key f19: unbound\n"
 MANIFEST = b'{"publisher":"p","name":"e"}'
-TYPE = b'{"command":"x.hi","budget":1004,"depth":1,"texts":["hi"],"calls":["type"],"code":"010000300000000000"}'
+TYPE = (
+    b'{"command":"x.hi","budget":1004,"depth":1,"texts":["hi"],"calls":["type"],"code":"010000300000000000"}'
+)
 ONE_HANDLER = b'{"version":1,"handlers":[' + TYPE + b"]}"
 
-# A run: the files, the words of the command line, the script, and what its outputs have to be (their ends, where they are long).
+# A run: the files, the words of the command line, the script, and what its outputs have to be (their ends,
+# where they are long).
 Job = collections.namedtuple("Job", "files words script status out err")
 
 
@@ -120,7 +125,11 @@ TOKENS = [
     ("objects", lambda n: filled(n, b"[", b"{},", b"{}]"), 0),
     ("trailing commas", lambda n: filled(n, b"[", b"[0,],", b"]"), 0),
     ("members of one name", lambda n: filled(n, b"[{", b'"a":0,', b'"a":0}]'), 0),
-    ("members of different names", lambda n: b'[{"key":"a","command":"x","args":{' + members(n - 64) + b"}}]", 0),
+    (
+        "members of different names",
+        lambda n: b'[{"key":"a","command":"x","args":{' + members(n - 64) + b"}}]",
+        0,
+    ),
     ("blanks", lambda n: b" " * n, 0),
     ("line ends", lambda n: b"\n" * n, 0),
     ("a line comment", lambda n: filled(n, b"//", b"x"), 0),
@@ -206,7 +215,10 @@ def code_of(count):
 
 def some_handlers(sizes):
     """A handlers.json with a handler of each of these numbers of instructions."""
-    made = (b'{"command":"x.h%d","budget":20000,"depth":1,"code":"%s"}' % (at, code_of(size)) for at, size in enumerate(sizes))
+    made = (
+        b'{"command":"x.h%d","budget":20000,"depth":1,"code":"%s"}' % (at, code_of(size))
+        for at, size in enumerate(sizes)
+    )
     return b'{"version":1,"handlers":[' + b",".join(made) + b"]}"
 
 
@@ -222,7 +234,11 @@ def most_handlers(n):
 
 def with_member(member, before, piece, after):
     """One handler that has one long member."""
-    rest = TYPE[1:-1].replace(b'"texts":["hi"],' if member == b"texts" else b"", b"", 1) if member == b"texts" else TYPE[1:-1]
+    rest = (
+        TYPE[1:-1].replace(b'"texts":["hi"],' if member == b"texts" else b"", b"", 1)
+        if member == b"texts"
+        else TYPE[1:-1]
+    )
     if member == b"code":
         rest = rest.replace(b',"code":"010000300000000000"', b"")
     head = b'{"version":1,"handlers":[{' + rest + b',"' + member + b'":'
@@ -234,21 +250,55 @@ HANDLERS = [
     ("1,000 handlers", most_handlers, {"load": 0, "update": 95}),
     ("one text", with_member(b"texts", b'["', b"x", b'"]'), {"load": 0, "update": 0}),
     ("too many texts", with_member(b"texts", b"[", b'"",', b'""]'), {"load": 44, "update": 44}),
-    ("code that is too long", with_member(b"code", b'"', b"020001050000", b'000000"'), {"load": 44, "update": 44}),
+    (
+        "code that is too long",
+        with_member(b"code", b'"', b"020001050000", b'000000"'),
+        {"load": 44, "update": 44},
+    ),
     ("code that is no hexadecimal text", with_member(b"code", b'"', b"zz", b'"'), {"load": 42, "update": 42}),
     ("an unknown member", with_member(b"more", b"[", b"0,", b"0]"), {"load": 0, "update": 0}),
-    ("too many handlers", lambda n: filled(n, b'{"version":1,"handlers":[', b"0,", b"0]}"), {"load": 44, "update": 44}),
+    (
+        "too many handlers",
+        lambda n: filled(n, b'{"version":1,"handlers":[', b"0,", b"0]}"),
+        {"load": 44, "update": 44},
+    ),
 ]
 
 # ---- manifests and layouts
 
 MANIFESTS = [
-    ("commands", lambda n: filled(n, b'{"name":"e","contributes":{"commands":[', b'{"command":"x","title":"y"},', b"]}}"), 0),
+    (
+        "commands",
+        lambda n: filled(
+            n, b'{"name":"e","contributes":{"commands":[', b'{"command":"x","title":"y"},', b"]}}"
+        ),
+        0,
+    ),
     ("dropped entries", lambda n: filled(n, b'{"name":"e","contributes":{"commands":[', b"0,", b"0]}}"), 0),
-    ("key rules", lambda n: filled(n, b'{"name":"e","contributes":{"keybindings":[', b'{"command":"x","key":"a"},', b"]}}"), 0),
-    ("removals", lambda n: filled(n, b'{"name":"e","contributes":{"keybindings":[', b'{"command":"-x"},', b"]}}"), 0),
-    ("palette items", lambda n: filled(n, b'{"name":"e","contributes":{"menus":{"commandPalette":[', b'{"command":"x"},', b"]}}}"), 0),
-    ("dependencies", lambda n: filled(n, b'{"name":"e","extensionDependencies":[', b'"p.x",', b'"p.x"]}'), 90),
+    (
+        "key rules",
+        lambda n: filled(
+            n, b'{"name":"e","contributes":{"keybindings":[', b'{"command":"x","key":"a"},', b"]}}"
+        ),
+        0,
+    ),
+    (
+        "removals",
+        lambda n: filled(n, b'{"name":"e","contributes":{"keybindings":[', b'{"command":"-x"},', b"]}}"),
+        0,
+    ),
+    (
+        "palette items",
+        lambda n: filled(
+            n, b'{"name":"e","contributes":{"menus":{"commandPalette":[', b'{"command":"x"},', b"]}}}"
+        ),
+        0,
+    ),
+    (
+        "dependencies",
+        lambda n: filled(n, b'{"name":"e","extensionDependencies":[', b'"p.x",', b'"p.x"]}'),
+        90,
+    ),
     ("a name", lambda n: filled(n, b'{"name":"', b"e", b'"}'), 0),
 ]
 LAYOUTS = [
@@ -274,8 +324,8 @@ def multiplied(a, b):
 
 
 def names_of_one_hash(count):
-    """Names that all have one hash in a `HashMap` whose hasher isn't given a seed: their second block of 16 bytes begins with
-    the hasher's state, so that it is multiplied by 0."""
+    """Names that all have one hash in a `HashMap` whose hasher isn't given a seed: their second block of 16
+    bytes begins with the hasher's state, so that it is multiplied by 0."""
     chance = random.Random(1)
     while True:
         block = bytes(chance.choice(PLAIN) for _ in range(16))
@@ -294,16 +344,32 @@ def listed(size, before, piece, after):
 def compared(content, number, names):
     """As many default rules as removals of the user, of one command and key, with different clauses."""
     count = len(content) // 90
-    rules = b"[" + b",".join(b'{"key":"a","command":"x","when":"k%d && l"}' % it for it in range(count)) + b"]"
-    removals = b"[" + b",".join(b'{"key":"a","command":"-x","when":"k%d && m"}' % it for it in range(count)) + b"]"
+    rules = (
+        b"[" + b",".join(b'{"key":"a","command":"x","when":"k%d && l"}' % it for it in range(count)) + b"]"
+    )
+    removals = (
+        b"[" + b",".join(b'{"key":"a","command":"-x","when":"k%d && m"}' % it for it in range(count)) + b"]"
+    )
     return Job({"d": rules, "u": removals}, ["--defaults", "d", "--user", "u"], MARK, 0, MARKED, b"")
 
 
 COMMANDS = b'{"name":"e","contributes":{"commands":['
 OPEN = [
-    ("manifest: commands of one hash", lambda n: listed(n, COMMANDS, b'{"command":"%s","title":"t"}', b"]}}"), by_manifest),
-    ("rules, load: removals of one hash", lambda n: listed(n, b"[", b'{"command":"-%s"}', b"]"), RULES["load"]),
-    ("layout: keys of one hash", lambda n: listed(n, b'{"scopes":[{"name":"a","keys":{', b'"%s":0', b"}}]}"), LAYOUT["load"]),
+    (
+        "manifest: commands of one hash",
+        lambda n: listed(n, COMMANDS, b'{"command":"%s","title":"t"}', b"]}}"),
+        by_manifest,
+    ),
+    (
+        "rules, load: removals of one hash",
+        lambda n: listed(n, b"[", b'{"command":"-%s"}', b"]"),
+        RULES["load"],
+    ),
+    (
+        "layout: keys of one hash",
+        lambda n: listed(n, b'{"scopes":[{"name":"a","keys":{', b'"%s":0', b"}}]}"),
+        LAYOUT["load"],
+    ),
     ("rules and removals of one key", lambda n: b" " * n, compared),
 ]
 
@@ -345,7 +411,9 @@ class Measurer:
     """Runs programs in a process of its own, which has little memory."""
 
     def __init__(self):
-        self.process = subprocess.Popen([sys.executable, "-S", os.path.abspath(__file__)], stdin=subprocess.PIPE, stdout=subprocess.PIPE)
+        self.process = subprocess.Popen(
+            [sys.executable, "-S", os.path.abspath(__file__)], stdin=subprocess.PIPE, stdout=subprocess.PIPE
+        )
 
     def run(self, words, folder):
         """The status, the seconds of processor time and the peak memory of a run."""
@@ -362,7 +430,9 @@ def serve():
     """The process that measures: for each line the words of a program and its folder."""
     for line in sys.stdin:
         words, folder = json.loads(line)
-        opened = [os.open(os.path.join(folder, it), os.O_RDWR | os.O_CREAT) for it in ("script", "out", "err")]
+        opened = [
+            os.open(os.path.join(folder, it), os.O_RDWR | os.O_CREAT) for it in ("script", "out", "err")
+        ]
         child = os.fork()
         if child == 0:
             os.chdir(folder)
@@ -372,7 +442,12 @@ def serve():
         _, status, usage = os.wait4(child, 0)
         for file in opened:
             os.close(file)
-        print(json.dumps([os.waitstatus_to_exitcode(status), usage.ru_utime + usage.ru_stime, usage.ru_maxrss * 1024]), flush=True)
+        print(
+            json.dumps(
+                [os.waitstatus_to_exitcode(status), usage.ru_utime + usage.ru_stime, usage.ru_maxrss * 1024]
+            ),
+            flush=True,
+        )
 
 
 def end_of(path, count):
@@ -384,7 +459,11 @@ def end_of(path, count):
 def fault_of(job, status, folder):
     """What is wrong with the answer of a run, or None. Warnings may come before the end of standard error."""
     out, err = (end_of(os.path.join(folder, it), 4096) for it in ("out", "err"))
-    lines = [it for it in err.split(b"\n")[1:] if it] if len(err) == 4096 else [it for it in err.split(b"\n") if it]
+    lines = (
+        [it for it in err.split(b"\n")[1:] if it]
+        if len(err) == 4096
+        else [it for it in err.split(b"\n") if it]
+    )
     others = [it for it in lines if not it.startswith(b"warning ")]
     if status == job.status and out == job.out and b"".join(it + b"\n" for it in others) == job.err:
         return None
@@ -426,7 +505,11 @@ def try_case(measurer, programs, case, sizes, names):
     for before, after in zip(found, found[1:]):
         if fault := growth_fault(before, after):
             faults.append(f"{title}: {fault}")
-    line = "| %s | %s | %s |" % (title, " ".join("%.2f" % it[0] for it in found), " ".join("%d" % (it[1] // MIB) for it in found))
+    line = "| %s | %s | %s |" % (
+        title,
+        " ".join("%.2f" % it[0] for it in found),
+        " ".join("%d" % (it[1] // MIB) for it in found),
+    )
     if beside:
         same = "" if beside[2] is None else " (another answer)"
         line += " %.2f | %d%s |" % (beside[0], beside[1] // MIB, same)

@@ -1,5 +1,6 @@
-"""Plain programs of the files' formats (docs/FORMATS.md), to compare the built programs with: which numbers of faults a file
-may be refused with, none where it is accepted. Written for being read, not for speed; nothing of it is taken from the sources.
+"""Plain programs of the files' formats (docs/FORMATS.md), to compare the built programs with: which numbers
+of faults a file may be refused with, none where it is accepted. Written for being read, not for speed;
+nothing of it is taken from the sources.
 """
 
 import json
@@ -120,7 +121,10 @@ def layout(value):
     require(isinstance(scopes, list) and all(isinstance(it, dict) for it in scopes), 41)
     for scope in scopes:
         require(isinstance(scope["name"], str) and isinstance(scope.get("parent", ""), str), 41)
-        require(isinstance(scope.get("keys", {}), dict) and all(map(is_context, scope.get("keys", {}).values())), 41)
+        require(
+            isinstance(scope.get("keys", {}), dict) and all(map(is_context, scope.get("keys", {}).values())),
+            41,
+        )
     require(isinstance(value.get("focus", ""), str), 41)
     names = [scope["name"] for scope in scopes]
     require(scopes and len(names) <= 1000 and len(set(names)) == len(names), 21)

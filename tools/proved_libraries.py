@@ -1,4 +1,5 @@
-"""The libraries below a static library as rt ci proved them from these sources, and its archive as it was built.
+"""The libraries below a static library as rt ci proved them from these sources, and its archive as it was
+built.
 
 A newer kit's rt ci keeps each library on the machine, by a sum of all that its proof read. What is in
 crates/*/out behind its run may be of other sources: rt puts back what was there before. With a kit that keeps
@@ -42,7 +43,8 @@ def over_proved_libraries(crate, room):
 
 
 class Archive:
-    """The archive of a static library that a run on this machine built, by a sum of the kit and of all sources."""
+    """The archive of a static library that a run on this machine built, by a sum of the kit and of all
+    sources."""
 
     # An older one is removed.
     MOST = 2

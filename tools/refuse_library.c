@@ -1,5 +1,6 @@
-/* Preloaded, this counts the calls of malloc and realloc that libpafjirn.so makes, and refuses the one whose number
-   REFUSE_ALLOCATION says and all behind it. At the end it writes the count to the file that COUNT_ALLOCATIONS names. */
+/* Preloaded, this counts the calls of malloc and realloc that libpafjirn.so makes, and refuses the one whose
+   number REFUSE_ALLOCATION says and all behind it. At the end it writes the count to the file that
+   COUNT_ALLOCATIONS names. */
 #define _GNU_SOURCE
 #include <dlfcn.h>
 #include <errno.h>

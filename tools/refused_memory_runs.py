@@ -15,8 +15,8 @@ class Run:
     files: dict = dataclasses.field(default_factory=dict)
     # The status of the complete run.
     status: int = 0
-    # How many of its allocations aren't needed: those for the flat map of context keys, without which a key is found by a
-    # search, and those of what reads a file after its fault is known.
+    # How many of its allocations aren't needed: those for the flat map of context keys, without which a key
+    # is found by a search, and those of what reads a file after its fault is known.
     spare: int = 0
 
 
@@ -29,12 +29,20 @@ def handler(command, budget, depth, code, **more):
     return {"command": command, "budget": budget, "depth": depth, "code": code.replace(" ", ""), **more}
 
 
-EXAMPLES = ["--layout", "examples/layout.json", "--defaults", "examples/defaults.json", "--user", "examples/keybindings.json"]
+EXAMPLES = [
+    "--layout",
+    "examples/layout.json",
+    "--defaults",
+    "examples/defaults.json",
+    "--user",
+    "examples/keybindings.json",
+]
 BOTH = ["examples/notes", "examples/brackets"]
 
 HI = handler("x.hi", 1004, 1, "010000 300000 000000", texts=["hi"], calls=["type"])
 HI_FILES = {
-    "e/package.json": b'{"publisher":"p","name":"e","contributes":{"commands":{"command":"x.hi","title":"Hi"}}}',
+    "e/package.json": b'{"publisher":"p","name":"e",'
+    b'"contributes":{"commands":{"command":"x.hi","title":"Hi"}}}',
     "e/handlers.json": handlers(HI),
     "user": b'[{"key":"h","command":"x.hi"}]',
 }
@@ -60,7 +68,9 @@ NESTED = {
     "user": b'[{"key":"h","command":"x.a"},{"key":"b","command":"x.bad"}]',
     "e/package.json": b'{"publisher":"p","name":"e"}',
     "e/handlers.json": handlers(
-        handler("x.a", 100000, 3, "010000 400001 160000 150000 300000 000000", texts=["<", "dirty"], calls=["x.b"]),
+        handler(
+            "x.a", 100000, 3, "010000 400001 160000 150000 300000 000000", texts=["<", "dirty"], calls=["x.b"]
+        ),
         handler(
             "x.b",
             50000,
@@ -156,12 +166,22 @@ enable p.e
 enable q.f
 key h
 """
-ALL_USER = b"""[{"key":"ctrl+k ctrl+c","command":"type"},{"key":"n","command":""},{"key":"h","command":"x.hi"},
+ALL_USER = b"""[{"key":"ctrl+k ctrl+c","command":"type"},{"key":"n","command":""},\
+{"key":"h","command":"x.hi"},
 {"key":"l","command":"type","args":"l","when":"text in list || text in names || text =~ /^A.c$/i"},
-{"key":"s","command":"setContext","args":{"key":"made","value":"by a command"}},{"key":"w","command":"type","args":{"text":5}},
+{"key":"s","command":"setContext","args":{"key":"made","value":"by a command"}},\
+{"key":"w","command":"type","args":{"text":5}},
 {"key":"a","command":"no.such"},
-{"key":"r","command":"runCommands","args":{"commands":[{"command":"type","args":"a"},"cursorLeft","no.such","type"]}}]"""
-ALL = Run("a line of each kind", "keyrun", [*HI_WORDS, "@f"], ALL_LINES, {**HI_FILES, **FOLLOWER, "user": ALL_USER}, spare=21)
+{"key":"r","command":"runCommands","args":{"commands":[{"command":"type","args":"a"},\
+"cursorLeft","no.such","type"]}}]"""
+ALL = Run(
+    "a line of each kind",
+    "keyrun",
+    [*HI_WORDS, "@f"],
+    ALL_LINES,
+    {**HI_FILES, **FOLLOWER, "user": ALL_USER},
+    spare=21,
+)
 
 UPDATES = b"\n".join(
     b"update " + line
@@ -193,7 +213,8 @@ RUNS = [
         "runCommands, disposal and registration",
         "keyrun",
         [],
-        b'reload [{"key":"r","command":"runCommands","args":{"commands":["cursorLeft",{"command":"type","args":"hi"}]}}]\n'
+        b'reload [{"key":"r","command":"runCommands",'
+        b'"args":{"commands":["cursorLeft",{"command":"type","args":"hi"}]}}]\n'
         b"key r\ndispose 1\nkey r\nregister type\nregister type\ndispose 10\nregister buffer.top\nkey r\n",
     ),
     Run("examples/session.txt", "keyrun", [*EXAMPLES, "--script", "examples/session.txt", *BOTH], spare=2),
@@ -202,15 +223,33 @@ RUNS = [
         "palettes over the examples",
         "keyrun",
         BOTH,
-        b"palette no STRASSE\nchoose 2\nchoose 1\npalette br pair\nchoose 1\npalette\ndisable acme.notes\nchoose 2\npalette\n",
+        b"palette no STRASSE\nchoose 2\nchoose 1\npalette br pair\nchoose 1\npalette\n"
+        b"disable acme.notes\nchoose 2\npalette\n",
     ),
-    Run("repeated blocks", "keyrun", ["examples/rulers"], b"key ctrl+alt+6\nkey ctrl+alt+7\nkey ctrl+alt+7\n"),
-    Run("raw handlers", "rawrun", ["--user", "crates/kb_rawrun/data/user.json", "crates/kb_rawrun/data"], b"key h\nkey h\n"),
+    Run(
+        "repeated blocks", "keyrun", ["examples/rulers"], b"key ctrl+alt+6\nkey ctrl+alt+7\nkey ctrl+alt+7\n"
+    ),
+    Run(
+        "raw handlers",
+        "rawrun",
+        ["--user", "crates/kb_rawrun/data/user.json", "crates/kb_rawrun/data"],
+        b"key h\nkey h\n",
+    ),
     Run("what keycheck says of handlers", "keycheck", ["handlers", *BOTH]),
-    Run("what keycheck says of handlers, as JSON", "keycheck", ["handlers", "--json", "@e", "@f"], files=UNACCEPTED, status=1),
+    Run(
+        "what keycheck says of handlers, as JSON",
+        "keycheck",
+        ["handlers", "--json", "@e", "@f"],
+        files=UNACCEPTED,
+        status=1,
+    ),
     Run("what keycheck says of files", "keycheck", ["check", *EXAMPLES, *BOTH], status=1),
     Run("what keycheck says of a key press", "keycheck", ["explain", "ctrl+s", *EXAMPLES, *BOTH]),
-    Run("what keycheck says of the palette, as JSON", "keycheck", ["palette", "no", "--json", *EXAMPLES, *BOTH]),
+    Run(
+        "what keycheck says of the palette, as JSON",
+        "keycheck",
+        ["palette", "no", "--json", *EXAMPLES, *BOTH],
+    ),
     Run(
         "a reload with patterns that leaves a chord, and broken files",
         "keyrun",
@@ -232,8 +271,13 @@ RUNS = [
         "an extension that another one needs, and an update",
         "keyrun",
         [*HI_WORDS, "@f"],
-        b"disable p.e\ndisable q.f\ndisable p.e\nenable q.f\ndispose 1\ndispose 1\nregister type\ndispose 1\nenable p.e\n"
-        + b"update p.e " + handlers({**HI, "budget": 2000}) + b"\nupdate p.e " + handlers({**HI, "texts": ["yo"]}) + b"\nkey h\n",
+        b"disable p.e\ndisable q.f\ndisable p.e\nenable q.f\ndispose 1\ndispose 1\nregister type\ndispose 1\n"
+        + b"enable p.e\n"
+        + b"update p.e "
+        + handlers({**HI, "budget": 2000})
+        + b"\nupdate p.e "
+        + handlers({**HI, "texts": ["yo"]})
+        + b"\nkey h\n",
         {**HI_FILES, **FOLLOWER},
     ),
     Run("updates that are refused", "keyrun", HI_WORDS, UPDATES + b"\nkey h\n", HI_FILES, spare=3),
@@ -248,15 +292,37 @@ RUNS = [
         "chords that are left",
         "keyrun",
         ["--user", "@user"],
-        b'set window ok true\nkey ctrl+k\nset window ok false\nkey ctrl+c\nset window ok true\nkey ctrl+k\nfocus window\n'
+        b"set window ok true\nkey ctrl+k\nset window ok false\nkey ctrl+c\nset window ok true\nkey ctrl+k\n"
+        b"focus window\n"
         b"key ctrl+k\nfocus nowhere\nkey ctrl+c\nkey ctrl+k\nunset window ok\nkey ctrl+c\n",
         {"user": b'[{"key":"ctrl+k ctrl+c","command":"cursorRight","when":"ok"}]'},
     ),
     ALL,
-    Run("nested handlers", "keyrun", NESTED_WORDS, b"key h\nset window dirty \"x\"\nkey h\n", {
-        **NESTED, "e/handlers.json": handlers(*json.loads(NESTED["e/handlers.json"])["handlers"][:3])}, spare=6),
-    Run("nested raw handlers", "rawrun", NESTED_WORDS, b"key h\nset window dirty \"x\"\nkey h\n", NESTED, spare=6),
-    Run("a raw handler that traps", "rawrun", NESTED_WORDS, b"key h\nkey b\nkey h\n", NESTED, status=5, spare=5),
+    Run(
+        "nested handlers",
+        "keyrun",
+        NESTED_WORDS,
+        b'key h\nset window dirty "x"\nkey h\n',
+        {**NESTED, "e/handlers.json": handlers(*json.loads(NESTED["e/handlers.json"])["handlers"][:3])},
+        spare=6,
+    ),
+    Run(
+        "nested raw handlers",
+        "rawrun",
+        NESTED_WORDS,
+        b'key h\nset window dirty "x"\nkey h\n',
+        NESTED,
+        spare=6,
+    ),
+    Run(
+        "a raw handler that traps",
+        "rawrun",
+        NESTED_WORDS,
+        b"key h\nkey b\nkey h\n",
+        NESTED,
+        status=5,
+        spare=5,
+    ),
     Run("a handler that is refused", "keyrun", NESTED_WORDS, b"key h\n", NESTED, status=3),
     Run(
         "a layout that is refused",

@@ -1,5 +1,5 @@
-/* Preloaded, this makes each read and write take at most STREAM_STEP bytes. Standard output takes OUTPUT_ROOM bytes in all, and
-   then none: a write answers 0. */
+/* Preloaded, this makes each read and write take at most STREAM_STEP bytes. Standard output takes OUTPUT_ROOM
+   bytes in all, and then none: a write answers 0. */
 #define _GNU_SOURCE
 #include <dlfcn.h>
 #include <stdlib.h>
@@ -21,7 +21,8 @@ ssize_t read(int file, void *to, size_t count) {
 
 ssize_t write(int file, const void *from, size_t count) {
     static size_t taken;
-    ssize_t (*real)(int, const void *, size_t) = (ssize_t (*)(int, const void *, size_t))dlsym(RTLD_NEXT, "write");
+    ssize_t (*real)(int, const void *, size_t) =
+        (ssize_t (*)(int, const void *, size_t))dlsym(RTLD_NEXT, "write");
     count = least(count, number("STREAM_STEP", count));
     if (file == 1) {
         count = least(count, number("OUTPUT_ROOM", taken + count) - taken);

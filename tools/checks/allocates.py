@@ -4,7 +4,8 @@ The convention: a function whose result names neither `NoMemory` nor `Failure`, 
 one, allocates nothing. In Rattle a call that allocates takes the allocator, or is made on a growing value
 and returns a `Result`. So a function allocates where its body makes such a call, or calls a function of the
 repository that allocates. `X::new(alloc)` of an empty value allocates nothing. Calls are found by their
-names, so look at each finding: it may be the method of another type that has the same name.
+names, so look at each finding: it may be the method of another type that has the same name. Functions that
+are meant to be so are in EXCEPTIONS.
 """
 
 import collections
@@ -20,10 +21,33 @@ MEMORY = {"NoMemory", "Failure", "AllocError", "Fail", "TryReserveError", "anyho
 MEMORY_MODULES = {"io", "fmt"}
 # Methods of the standard library, whose calls are not taken for those of the crate.
 COMMON = {"parse", "get", "next", "len", "from", "into", "push", "insert", "clone", "write", "read", "call"}
+COMMON |= {"fill", "take"}
 # Methods that allocate, if what they return is asked for a failure.
 GROWS = {"push", "push_str", "push_back", "insert", "reserve", "sort", "sort_by", "sort_by_key", "extend"}
 GROWS |= {"extend_from_slice", "clone", "to_owned", "to_string", "to_vec", "append", "resize", "collect"}
 MADE = {("Box", "new"), ("Rc", "new"), ("BufWriter", "new"), ("BufReader", "new")}
+# Calls of the standard library that take the allocator and allocate nothing.
+FREE = {("Box", "from_raw")}
+LANGUAGE = {"let", "if", "match", "while", "for", "in", "return", "fn", "move"}
+# The functions that allocate all the same, by their crates.
+EXCEPTIONS = {
+    # They turn refused memory into an exit status, a number or a text.
+    "kb_c": ["pafjirn_new"],
+    "kb_keycheck": ["keycheck", "run_line", "run_words", "obey", "obey_command", "obey_check"]
+    + ["obey_question", "obey_handlers", "say_stop", "reason_of", "unread_reason"],
+    "kb_program": ["run_host", "run_program"],
+    "kb_run": ["run_and_report", "run_on_system"],
+    **{it: ["main"] for it in ("kb_example_host", "kb_keycheck_main", "kb_main", "kb_rawrun")},
+    # They do the same in tests.
+    "kb_golden_code": ["handlers_in"],
+    "kb_refused_calls": ["main", "answer"],
+    # They hand a value back.
+    "kb_handler_table": ["CodeTable::put", "CodeTable::prepare_exchange"],
+    "kb_registry": ["Registry::admit"],
+    "kb_vm": ["Callers::suspend", "begin"],
+    # A chord's keystrokes are inline.
+    "kb_keys": ["Chord::copied"],
+}
 BEFORE_ITEMS = {"}", ";", "]", "pub", "unsafe", ")", "{"}
 TYPE = re.compile(r"(?ms)^(?:pub(?:\([^)]*\))? )?(?:enum|struct) (\w+)(.*?)(?:^}|;$)")
 ALIAS = re.compile(r"(?m)^(?:pub(?:\([^)]*\))? )?type (\w+)([^;]*);")
@@ -36,6 +60,7 @@ class Function:
     def __init__(self, crate, file, line, name, owner, signature, body):
         self.crate, self.file, self.line, self.name, self.owner = crate, file, line, name, owner
         self.result = signature[signature.index("->") :] if "->" in signature else []
+        self.takes_alloc = "alloc" in signature
         self.body = body
         if "where" in self.result:
             self.result = self.result[: self.result.index("where")]
@@ -95,7 +120,11 @@ def types_with_memory(texts):
     for text in texts:
         text = re.sub(r"(?m)^\s*//.*$|^\s*ghost .*$", "", text)
         for name, held_by_it in [*TYPE.findall(text), *ALIAS.findall(text)]:
-            held[name] |= {*re.findall(r"\w+", held_by_it)}
+            # (the name of a variant is no type)
+            types = re.sub(
+                r"(?m)^ {4}(\w+)(?=[,({])", lambda it: it[1] if it[1] in MEMORY else "", held_by_it
+            )
+            held[name] |= {*re.findall(r"\w+", types)}
     found = {*MEMORY}
     while more := {name for name, words in held.items() if words & found} - found:
         found |= more
@@ -110,7 +139,8 @@ def says_memory(function, types):
 
 
 def callee_at(words, at):
-    """The name, and the type or module before it, of the call that has the word here as an argument."""
+    """The name, the type or module before it, and whether it is a method's, of the call with this
+    argument."""
     depth = 0
     while at > 0:
         at -= 1
@@ -118,8 +148,9 @@ def callee_at(words, at):
         if depth < 0:
             break
     if words[at] != "(" or not re.match(r"\w", words[at - 1]):
-        return "", ""
-    return words[at - 1], words[at - 4] if words[at - 3 : at - 1] == [":", ":"] else ""
+        return "", "", False
+    owner = words[at - 4] if words[at - 3 : at - 1] == [":", ":"] else ""
+    return words[at - 1], owner, words[at - 2] == "."
 
 
 def is_asked(words, at):
@@ -137,11 +168,12 @@ def own_calls(function, tree):
     words = function.body
     for at, word in enumerate(words):
         if word == "alloc" and words[at + 1 : at + 2] not in ([":"], ["("]):
-            name, owner = callee_at(words, at)
+            name, owner, is_method = callee_at(words, at)
             # (an empty value takes no memory, and what a function of the repository does is looked at
             # there)
-            is_empty = name == "new" and (owner, name) not in MADE
-            if name and not is_empty and name[0].islower() and not [*tree.named(function, name, owner)]:
+            is_free = name in LANGUAGE or name == "new" and (owner, name) not in MADE or (owner, name) in FREE
+            is_ours = is_method and name in tree.methods or tree.named(function, name, owner)
+            if name and not is_free and name[0].islower() and not is_ours:
                 return f"gives the allocator to `{owner and owner + '::'}{name}`"
         if words[at + 1 : at + 2] == ["("] and word in GROWS and words[at - 1] == "." and is_asked(words, at):
             return f"calls `{word}`"
@@ -156,6 +188,7 @@ class Tree:
     def __init__(self, functions, imports):
         self.imports = imports
         self.own, self.all = collections.defaultdict(list), collections.defaultdict(list)
+        self.methods = {it.name for it in functions if it.owner}
         for it in functions:
             self.own[it.crate, it.name].append(it)
             self.all[it.name].append(it)
@@ -181,7 +214,9 @@ class Tree:
             if words[at + 1 : at + 2] != ["("] or word not in self.all:
                 continue
             if words[at - 1] == ".":
+                has_alloc = "alloc" in words[at : closing([(0, it) for it in words], at + 1, "(", ")")]
                 methods = [it for it in self.own[function.crate, word] if it.owner]
+                methods = [it for it in methods if has_alloc or not it.takes_alloc]
                 of_self = [it for it in methods if words[at - 2] == "self" and it.owner == function.owner]
                 yield from of_self or (methods if len(methods) == 1 and word not in COMMON else [])
             else:
@@ -210,7 +245,8 @@ def mark(functions, imports):
 
 
 def violations(top):
-    """A line for each function that allocates and whose result can't say that memory was refused."""
+    """A line for each function that allocates and whose result can't say that memory was refused, and for
+    each exception that is none."""
     functions, texts, imports = [], [], {}
     for file in sorted(glob.glob(os.path.join(top, "crates/*/src/**/*.rt"), recursive=True)):
         with open(file, encoding="utf-8") as text:
@@ -221,4 +257,8 @@ def violations(top):
     mark(functions, imports)
     types = types_with_memory(texts)
     found = [it for it in functions if it.why and not says_memory(it, types)]
-    return [f"{it.file}:{it.line}: `{it.full_name()}` {it.why}" for it in found]
+    known = {(crate, name) for crate, names in EXCEPTIONS.items() for name in names}
+    others = [it for it in found if (it.crate, it.full_name()) not in known]
+    idle = sorted(known - {(it.crate, it.full_name()) for it in found})
+    lines = [f"{it.file}:{it.line}: `{it.full_name()}` {it.why}" for it in others]
+    return lines + [f"tools/checks/allocates.py: `{name}` of {crate} is no exception" for crate, name in idle]

@@ -1,9 +1,9 @@
 """What earlier runs of the gate on this machine found of wrong bodies.
 
 An edit that was refused is refused again where the edit, its crate, those below it, the kit and this tool are
-the same. So are the tool's own tests. Nothing else is kept: an edit that passed, or that says little, is tried
-again. The files are in a folder beside what rt ci keeps, or in the user's cache with a kit whose rt ci keeps
-nothing. Each edit is a file, so that a run that is stopped keeps what it has done.
+the same. So are the tool's own tests. Nothing else is kept: an edit that passed, or that says little, is
+tried again. The files are in a folder beside what rt ci keeps, or in the user's cache with a kit whose rt ci
+keeps nothing. Each edit is a file, so that a run that is stopped keeps what it has done.
 """
 
 import contextlib

@@ -192,6 +192,7 @@ def write(path, text):
     with open(path, "w", encoding="utf-8") as file:
         file.write(text)
 
+
 def made_crate(top):
     """A repository of one crate, with its edits."""
     write(f"{top}/crates.txt", "tiny:\n")
@@ -343,7 +344,8 @@ Named = collections.namedtuple("Named", "path name")
 
 class Faults(unittest.TestCase):
     def tried_with(self, *faults):
-        """What is found of two edits where the calls meet these faults in turn, and how many calls there were."""
+        """What is found of two edits where the calls meet these faults in turn, and how many calls there
+        were."""
         answers = iter(faults)
 
         def refused():

@@ -180,7 +180,8 @@ class Crate:
         return (not names or is_proved(names)) and (not self.alone or is_proved(()))
 
     def checked(self, texts, names):
-        """Checks these functions, or all, of a copy with these files, and returns the functions of the copy."""
+        """Checks these functions, or all, of a copy with these files, and returns the functions of the
+        copy."""
         with room_with(self.crate, texts) as room:
             words = [word for it in names for word in ("--only", it)]
             try:
