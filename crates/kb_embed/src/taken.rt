@@ -129,7 +129,7 @@ fn taken_by_rule(
 ) -> Result<Taken, NoMemory>
     ensures { IfOk result (TakesRule session.now.state chord rule.now) }
 {
-    let command = rule.command.copied()?;
+    let command = Text::from_str(alloc, rule.command.as_str())?;
     let arguments = arguments_text(alloc, rule.args.as_ref())?;
     let source = Text::from_str(alloc, session.source(rule.origin))?;
     Ok(Taken {

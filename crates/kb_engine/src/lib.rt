@@ -8,8 +8,10 @@
 
 // Sessions: files, events, and what a session returns.
 pub use kb_context::ContextValue;
+pub use kb_execute::Finish;
 pub use kb_files::{ExtensionFiles, Inputs, LoadFault, LoadFile, read_context_text};
 pub use kb_keys::{Chord, KeyFault, Keystroke, Platform};
+pub use kb_resolve::Resolved;
 pub use kb_session::{Handled, Session, SessionFault};
 pub use kb_stream::{Lines, WriteRefused, write_whole};
 pub use kb_trace::{Answer, Event};

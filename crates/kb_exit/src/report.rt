@@ -80,8 +80,8 @@ pub fn ending(end: &Result<(), Stop<'_>>) -> u8
 }
 
 /// Shows the line on standard error of a load's warning, without a line feed: its number, the name of its
-/// source (`kb_bindings::Bindings::source`), the part of the file that its entry is in, and the entry's
-/// place.
+/// source (`defaults`, `user` or an extension's identifier), the part of the file that its entry is in, and
+/// the entry's place.
 #[derive(Clone, Copy, Debug)]
 pub struct WarningLine<'a> {
     pub source: &'a str,

@@ -1,6 +1,6 @@
 -- The enablements of commands, by identifier.
 use Rattle.std.specs.Prelude.{ℕ, List, [], ◌∷◌, if◌then◌else◌, Option, None, unwrap_or, bytes_eq}
-use Rattle.std.specs.HashMap.{get_by_text}
+use Rattle.std.specs.FinMap.{get}
 use Rattle.kb_when.specs.Marks.{MarkedClause}
 use Rattle.kb_resolve.specs.declared.enablements.Contribution.{Contribution}
 use Rattle.kb_resolve.specs.declared.enablements.Enablements.{Enablements}
@@ -17,4 +17,4 @@ enablement_of (c ∷ cs) command =
 
 -- the enablement of a command in a table
 unfoldable pub enablement_in : Enablements → Enabling
-enablement_in enablements command = unwrap_or (get_by_text enablements.table command) None
+enablement_in enablements command = unwrap_or (get enablements.table command) None

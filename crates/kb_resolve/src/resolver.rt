@@ -220,7 +220,7 @@ fn may_start(rule: &Rule, scopes: &Scopes, enablements: &Enablements) -> Result<
     if !Clause::optional_holds(rule.when.as_ref(), scopes)? {
         return Ok(false);
     }
-    match enablements.of(rule.command.as_str()) {
+    match enablements.of_hashed(&rule.command) {
         Some(enablement) => enablement.as_clause().holds(scopes),
         None => Ok(true),
     }

@@ -18,7 +18,7 @@ use crate::json::Json;
 use crate::removal::Removal;
 use crate::rule::Rule;
 use crate::whole::has_whole_numbers;
-use kb_base::{Failure, NoMemory, Origin, Text, is_blank_text};
+use kb_base::{Failure, HashedText, NoMemory, Origin, Text, is_blank_text};
 use kb_json::{FileFault, members_in, take_member};
 use kb_keys::{Chord, Platform};
 use kb_when::{Clause, WhenFault};
@@ -148,7 +148,7 @@ fn made(
     match binding {
         Binding::Starts(command, chord) => Entry::Starts(Rule {
             chord,
-            command,
+            command: HashedText::new(command),
             when,
             args,
             origin,

@@ -1,6 +1,6 @@
 //! One key rule.
 use crate::json::Json;
-use kb_base::{Origin, Text};
+use kb_base::{HashedText, Origin};
 use kb_keys::Chord;
 use kb_when::Clause;
 
@@ -11,8 +11,9 @@ pub struct Rule {
     /// The keystrokes, one after another.
     pub chord: Chord,
     /// The identifier of the command, which need not exist. The empty one starts nothing: such a
-    /// rule takes its keystrokes from the rules above it (VS Code's documentation).
-    pub command: Text,
+    /// rule takes its keystrokes from the rules above it (VS Code's documentation). It has its hash, by which
+    /// a search finds the command's enablement.
+    pub command: HashedText,
     /// The condition on the context. A rule without one counts in any context (VS Code's
     /// documentation).
     pub when: Option<Clause>,

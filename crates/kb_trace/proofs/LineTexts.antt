@@ -1,13 +1,16 @@
 -- The canonical text of a chord with one more keystroke.
 use Rattle.std.proofs.Common.{◌≡◌, ℕ, List, [], ◌∷◌, ◌++◌, refl, sym, ap, ◌∙◌, append_assoc, append-nil}
-use Rattle.std.proofs.Common.{length, ◌<◌, arith}
+use Rattle.std.proofs.Common.{length, ◌<◌, arith, true}
 use Rattle.kb_keys.specs.declared.keystroke.Keystroke.{Keystroke}
 use Rattle.kb_keys.specs.Keystroke.{spelling}
 use Rattle.kb_keys.specs.Chord.{chord_spelling}
+use Rattle.kb_keys.proofs.KeyNameLemmas.{and_both}
 use Rattle.std.specs.Prelude.{codes}
 use Rattle.json.specs.Print.{print, print_from}
 use Rattle.json.specs.Token as token
-use Rattle.kb_trace.specs.Lines.{key_text, json_string}
+use Rattle.kb_trace.specs.Lines.{key_text, json_string, has_itself}
+use Rattle.std.specs.List.{list_all}
+use Rattle.json.specs.Print.{escape, escape_byte}
 
 pub chord_spelling_first : (key : Keystroke) → chord_spelling (key ∷ []) ≡ spelling key
 chord_spelling_first key = refl
@@ -42,3 +45,20 @@ pub ruleset key_texts = (key_text_first, key_text_more)
 pub print_string : (text : List ℕ) → print (token.string text ∷ []) ≡ json_string text
 unfolding print_from
 print_string text = append-nil (json_string text)
+
+-- JSON has a plain byte as it is
+plain_byte : (x : ℕ) → has_itself x ≡ true → escape_byte x ≡ x ∷ []
+unfolding escape_byte
+plain_byte x plain = grind arith
+
+-- JSON has a plain text as it is
+plain_escape : (text : List ℕ) → list_all has_itself text ≡ true → escape text ≡ text
+plain_escape [] all = refl
+plain_escape (x ∷ xs) all =
+    let both = and_both (has_itself x) (list_all has_itself xs) all in
+    ap (λ (l : List ℕ). l ++ escape xs) (plain_byte x both.0)
+    ∙ ap (λ (l : List ℕ). x ∷ l) (plain_escape xs both.1)
+
+pub plain_string : (text : List ℕ) → list_all has_itself text ≡ true
+    → 34 ∷ (text ++ 34 ∷ []) ≡ json_string text
+plain_string text all = ap (λ (l : List ℕ). 34 ∷ (l ++ 34 ∷ [])) (sym (plain_escape text all))

@@ -1,5 +1,6 @@
 -- The lines of a trace, as bytes.
 use Rattle.std.specs.Prelude.{ℕ, List, [], ◌∷◌, ◌++◌, Option, Some, None, codes, decimal}
+use Rattle.std.specs.Prelude.{Bool, nat_le, not, ◌==◌, ◌&&◌}
 use Rattle.serde_json.specs.Data.{string}
 use Rattle.serde_json.specs.Written.{compact_text}
 use Rattle.kb_keys.specs.declared.keystroke.Keystroke.{Keystroke}
@@ -102,6 +103,10 @@ trap_line number command place =
 -- a text as a JSON string
 abbrev pub json_string : List ℕ → List ℕ
 json_string text = compact_text (string text)
+
+-- JSON has this byte as it is: it is no control character, quote or backslash
+abbrev pub has_itself : ℕ → Bool
+has_itself byte = nat_le 32 byte && not (byte == 34) && not (byte == 92)
 
 -- done "before" "after"
 abbrev pub done_line : Buffer → List ℕ

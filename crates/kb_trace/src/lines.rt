@@ -1,7 +1,9 @@
 //! The lines of a trace. Each function writes its line into the text of `Lines::begin_line`, which reuses
 //! memory, and adds it to the trace. Error: `NoMemory`; the trace is then unchanged.
 ghost use Rattle.std.specs.Prelude.{◌≡◌, [], ◌∷◌, ◌++◌, IfOk, OnOk, OnErr, string_bytes, codes, decimal};
+ghost use Rattle.std.specs.List.{list_all};
 ghost use Rattle.kb_trace.specs.Lines as line;
+ghost use Rattle.kb_trace.specs.Lines.{has_itself};
 
 use json::Writer;
 use kb_base::{NoMemory, Refusal, fault_name};
@@ -301,10 +303,52 @@ fn done_text(text: String, buffer: &Buffer) -> Result<String, NoMemory>
     with_json(text, buffer.after.as_str())
 }
 
-/// Appends a text as a JSON string. It uses `json::Writer`, with which `serde_json` prints, since
-/// `serde_json` itself would need a value and a text of its own. Error: `NoMemory`.
-#[tactic(auto, using(crate::proofs::LineTexts::print_string))]
+/// Appends a text as a JSON string. Error: `NoMemory`.
+#[tactic(auto, using(crate::proofs::LineTexts::plain_string))]
 fn with_json(text: String, value: &str) -> Result<String, NoMemory>
+    ensures { IfOk result (λ made. string_bytes made ≡ string_bytes text ++ line.json_string value.now) }
+{
+    if is_plain(value.as_bytes()) {
+        return quoted(text, value);
+    }
+    escaped(text, value)
+}
+
+/// Whether JSON escapes no byte of a text. There is no end before that of the text, so that the loop is
+/// compiled to instructions that look at many bytes at once.
+fn is_plain(text: &[u8]) -> bool
+    ensures { result ≡ list_all has_itself text.now }
+{
+    let mut plain = true;
+    for byte in text {
+        plain = plain && is_plain_byte(*byte);
+    }
+    plain
+}
+
+/// Whether JSON has a byte as it is.
+fn is_plain_byte(byte: u8) -> bool
+    ensures { result ≡ has_itself byte }
+{
+    byte >= 32 && byte != b'"' && byte != b'\\'
+}
+
+/// Appends a text between quotes.
+fn quoted(text: String, value: &str) -> Result<String, NoMemory>
+    ensures { IfOk result (λ made.
+        string_bytes made ≡ string_bytes text ++ (34 ∷ (value.now ++ 34 ∷ []))) }
+{
+    let mut text = text;
+    text.push('"')?;
+    text.push_str(value)?;
+    text.push('"')?;
+    Ok(text)
+}
+
+/// Appends a text as a JSON string with its escapes. It uses `json::Writer`, with which `serde_json` prints,
+/// since `serde_json` itself would need a value and a text of its own. Error: `NoMemory`.
+#[tactic(auto, using(crate::proofs::LineTexts::print_string))]
+fn escaped(text: String, value: &str) -> Result<String, NoMemory>
     ensures { IfOk result (λ made. string_bytes made ≡ string_bytes text ++ line.json_string value.now) }
 {
     let mut writer = Writer::new(text.into_bytes());

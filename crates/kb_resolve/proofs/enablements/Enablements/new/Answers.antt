@@ -1,10 +1,11 @@
 use Rattle.std.proofs.Common.{◌≡◌, ◌∙◌, [], ap, sym, arith, unwrap_or, List, length}
 use Rattle.std.proofs.lemmas.List.{nil_from_length}
-use Rattle.std.proofs.lemmas.Map.Text.{text_keys}
-use Rattle.std.specs.HashMap.{get_by_text}
+use Rattle.std.specs.FinMap.{get}
+use Rattle.std.specs.Str.{bytes_eq}
 use Rattle.std.specs.Vec.Iter.{into_iter_items}
 use Rattle.kb_resolve.specs.Enablements.{enablement_in, enablement_of}
 use Rattle.kb_resolve.specs.declared.enablements.Contribution.{Contribution}
+use Rattle.kb_resolve.proofs.EnablementLemmas.{first_counts}
 use Rattle.kb_resolve.proofs.enablements.Enablements.new.Goals as goal
 
 pub loop-contribution-preserved : goal.loop-contribution-preserved
@@ -15,7 +16,16 @@ loop-contribution-preserved c = (
     c.in-Some.ensures.steps.1,
     ap length c.in-Some.ensures.steps.0,
   ),
-  λ command. grind (arith, text_keys, c.loop-contribution.invariant.1 command),
+  λ command.
+      let table = c.loop-contribution.table in
+      let one = c.in-Some.contribution in
+      let rest = into_iter_items c.next.new.self in
+      ap (λ o. unwrap_or o (enablement_of rest command)) (c.in_ok-add_first.ensures command)
+      ∙ first_counts (get table command) (bytes_eq command one.command) one.enablement
+      (enablement_of rest command)
+      ∙ ap (λ (cs : List Contribution). unwrap_or (get table command) (enablement_of cs command))
+      (sym c.in-Some.ensures.steps.0)
+      ∙ c.loop-contribution.invariant.1 command,
 )
 
 pub returns : goal.returns
@@ -25,6 +35,6 @@ returns c =
     let none : left ≡ [] =
     nil_from_length left (c.loop-contribution.invariant.0 ∙ c.in-None.ensures.steps.0) in
     λ i command.
-    (ap (λ (cs : List Contribution). unwrap_or (get_by_text c.loop-contribution.table command)
+    (ap (λ (cs : List Contribution). unwrap_or (get c.loop-contribution.table command)
     (enablement_of cs command)) (sym none)
     ∙ c.loop-contribution.invariant.1 command) i

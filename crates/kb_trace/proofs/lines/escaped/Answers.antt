@@ -1,7 +1,7 @@
 use Rattle.std.proofs.Common.{◌∙◌, sym, ap, subst}
 use Rattle.std.specs.Str.{IsUtf8}
 use Rattle.std.proofs.lemmas.Str.{IsUtf8-append, IsUtf8-had}
-use Rattle.kb_trace.proofs.lines.with_json.Goals as goal
+use Rattle.kb_trace.proofs.lines.escaped.Goals as goal
 
 pub unwrap-requires : goal.unwrap-requires
 unwrap-requires c =
