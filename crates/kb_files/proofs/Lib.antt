@@ -1,3 +1,4 @@
+pub mod ContextLemmas
 pub mod Elements
 pub mod ExtensionLemmas
 pub mod ExtensionsLemmas

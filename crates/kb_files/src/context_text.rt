@@ -10,10 +10,23 @@ use kb_manifest::read_context;
 use std::alloc::Global;
 
 /// The value of a context key that a text is: JSON with comments, as in a file (`read_context` says
-/// which values there are). A blank text reads as the empty list.
+/// which values there are). A blank text reads as the empty list. `true` and `false`, which most keys have,
+/// are read without memory.
 ///
 /// Errors: the text's fault (1 to 4), or another shape (41); or `NoMemory`.
+#[tactic(auto, using(crate::proofs::ContextLemmas::true_read, crate::proofs::ContextLemmas::false_read))]
 pub fn read_context_text(alloc: Global, text: &str) -> Result<ContextValue, Failure<Refusal>>
+    ensures { Gives (λ value. value) result (context_in text.now) }
+{
+    match text {
+        "true" => Ok(ContextValue::Truth(true)),
+        "false" => Ok(ContextValue::Truth(false)),
+        _ => read_json(alloc, text),
+    }
+}
+
+/// The value that a text is, read as JSON.
+fn read_json(alloc: Global, text: &str) -> Result<ContextValue, Failure<Refusal>>
     ensures { Gives (λ value. value) result (context_in text.now) }
 {
     let value = read_value(alloc, text.as_bytes())?;

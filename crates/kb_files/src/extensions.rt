@@ -1,5 +1,6 @@
 //! The extensions of a load, read from their files, with the first fault in load order.
-ghost use Rattle.std.specs.Prelude.{◌≡◌, ◌≤◌, [], ◌∷◌, ◌++◌, length, map, option_map, IfOk, OnOk};
+ghost use Rattle.std.specs.Prelude.{◌≡◌, ◌≤◌, [], ◌∷◌, ◌++◌, length, map, option_map, IfOk, IfErr, OnOk};
+ghost use Rattle.kb_base.specs.declared.failure.Failure.TheVariants.{NoMemory};
 ghost use Rattle.kb_base.specs.Failure.{Gives};
 ghost use Rattle.kb_files.specs.Extension.{outline_in, IsRightlyMarked};
 ghost use Rattle.kb_files.specs.Extensions.{extension_bytes, manifests, handlers_in_file, extension_held};
@@ -73,6 +74,9 @@ pub fn read_extensions(
         (extensions_held (map extension_bytes extensions.now)) }
     ensures right { IfOk result (λ all.
         AllRightlyMarked (manifests (map extension_bytes extensions.now)) all.extensions) }
+
+    // Too many extensions are refused before memory is asked for.
+    ensures few { IfErr result (λ failure. failure ≡ NoMemory → length extensions.now ≤ 100) }
 {
     if extensions.len() > EXTENSION_LIMIT {
         return Err(Failure::Fault(LoadFault {

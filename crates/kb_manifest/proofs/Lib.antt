@@ -1,3 +1,4 @@
 pub mod CommandTableLemmas
 pub mod JudgedLemmas
 pub mod KeysLemmas
+pub mod ShapeLemmas

@@ -62,6 +62,14 @@ scope_in ms = do
 unfoldable pub scope_of : Data → Option LayoutScope
 scope_of d = as_object d >>= scope_in
 
+-- a text by its member's name
+abbrev pub text_at : List ℕ → Data → Option (List ℕ)
+text_at name d = get name d >>= as_str
+
+-- the scopes that a layout lists
+abbrev pub scopes_at : Data → Option (List LayoutScope)
+scopes_at d = list_at (codes "scopes") d >>= each scope_of
+
 -- the name of the first scope, or the empty text where there is none
 abbrev pub first_name : List LayoutScope → List ℕ
 first_name [] = []

@@ -1,11 +1,12 @@
 //! Layouts, read from JSON.
-ghost use Rattle.std.specs.Prelude.{◌≡◌, IfOk, None, option_map, codes};
+ghost use Rattle.std.specs.Prelude.{◌≡◌, IfOk, IfErr, None, option_map, codes};
+ghost use Rattle.std.specs.Result.{result_err};
 ghost use Rattle.std.specs.List.{list_any};
 ghost use Rattle.std.specs.FinMap.{empty, insert};
 ghost use Rattle.serde_json.specs.Data.{object};
 ghost use Rattle.serde_json.specs.Find.{as_str, get_member};
 ghost use Rattle.serde_json.specs.View.{view, items_view, members_view};
-ghost use Rattle.kb_base.specs.Failure.{Gives};
+ghost use Rattle.kb_base.specs.Failure.{Gives, IsRefusalOrMemory};
 ghost use Rattle.kb_base.specs.Reading.{or_fault, seen};
 ghost use Rattle.kb_json.specs.declared.fault.FileFault.TheVariants.{WrongShape};
 ghost use Rattle.kb_json.specs.Parts.{each, optional, listed};
@@ -15,6 +16,7 @@ ghost use Rattle.kb_manifest.specs.Layout.{names_of, scope_in, scope_of};
 ghost use Rattle.kb_manifest.specs.Layout.{first_name, record_in, record_of, layout_of};
 
 use crate::context::read_context;
+use crate::shape::is_layout;
 use kb_base::{Failure, NoMemory, Seq, Text, TextMap};
 use kb_context::{ContextValue, Layout, LayoutScope};
 use kb_json::{FileFault, elements_in, members_in, take_member, text_in};
@@ -31,12 +33,18 @@ use std::alloc::Global;
 /// Errors: `MissingMember` (40) where `scopes` or a `name` is absent, with or without other faults; what is
 /// no object or no list lacks nothing. Then `WrongShape` (41) where the layout, a scope or `keys` is no
 /// object, `scopes` no list, a `name`, a `parent` or the `focus` no text, or a key's value no context value:
-/// `null` is there, and is none of these; or `NoMemory`.
+/// `null` is there, and is none of these. `NoMemory` only if none of these applies.
 pub fn read_layout(alloc: Global, value: Value) -> Result<Layout, Failure<FileFault>>
-    ensures { Gives (λ layout. layout) result (layout_of (view value)) }
+    ensures layout { Gives (λ layout. layout) result (layout_of (view value)) }
+
+    // The shape is looked at before memory is asked for.
+    ensures memory { IfErr result (IsRefusalOrMemory (result_err (layout_of (view value)))) }
 {
     if lacks_member(&value) {
         return Err(Failure::Fault(FileFault::MissingMember));
+    }
+    if !is_layout(&value) {
+        return Err(Failure::Fault(FileFault::WrongShape));
     }
     read_record(alloc, value)
 }

@@ -13,6 +13,7 @@ pub mod manifest;
 pub mod notes;
 pub mod palette_item;
 mod points;
+mod shape;
 
 pub use command::Command;
 pub use command_table::{CommandTable, Named};

@@ -1,0 +1,11 @@
+use Rattle.std.proofs.Common.{◌≡◌, is_some}
+use Rattle.serde_json.specs.View.{members_view}
+use Rattle.kb_json.specs.Parts.{each, pairs_of}
+use Rattle.kb_manifest.specs.Layout.{key_of}
+use Rattle.kb_manifest.proofs.shape.all_values.Given as goal
+
+-- those that are left decide
+abbrev pub invariant-loop-name : goal.invariant-loop-name
+invariant-loop-name l =
+    is_some (each key_of (pairs_of (members_view l._name-iterator)))
+    ≡ is_some (each key_of (pairs_of (members_view l.members.entries)))
