@@ -14,7 +14,6 @@ use std::alloc::Global;
 /// are read without memory.
 ///
 /// Errors: the text's fault (1 to 4), or another shape (41); or `NoMemory`.
-#[tactic(auto, using(crate::proofs::ContextLemmas::true_read, crate::proofs::ContextLemmas::false_read))]
 pub fn read_context_text(alloc: Global, text: &str) -> Result<ContextValue, Failure<Refusal>>
     ensures { Gives (λ value. value) result (context_in text.now) }
 {
