@@ -1,6 +1,6 @@
 -- Bytes that are a text, the first line of bytes, and texts that are numbers.
 use Rattle.std.proofs.Common.{◌≡◌, ℕ, Bool, true, false, List, [], ◌∷◌, length, refl, sym, ap, ◌∙◌}
-use Rattle.std.proofs.Common.{cond, zero, suc}
+use Rattle.std.proofs.Common.{cond, zero, suc, codes, ◌++◌}
 use Rattle.std.proofs.Common.{arith, take, drop, ◌+◌, ◌-◌, ◌<◌, ◌^◌, subst}
 use Rattle.std.specs.Prelude.{Some, None, position, Result, Ok, Err, not, ◌&&◌, nat_eq, nat_lt}
 use Rattle.std.specs.List.{slice_split, onto_first, list_all}
@@ -16,6 +16,7 @@ use Rattle.std.proofs.lemmas.Bool.{ltb-true, ltb-false, lt-ltb, ne_eqb, false≢
 use Rattle.std.proofs.lemmas.List.Elements.{All-from_get_or}
 use Rattle.std.proofs.lemmas.List.Sums.{fails_before_first}
 use Rattle.kb_script.specs.Script.{number_of, lines_of, is_line_feed, without_return, without_returns}
+use Rattle.kb_script.specs.Script.{event_said, key_event, split_word, words_said}
 
 pub is_text : (bs : List ℕ) → IsUtf8 bs → is_utf8 bs ≡ true
 is_text bs h = is_utf8-from_IsUtf8 bs h
@@ -122,3 +123,16 @@ no_number digits none =
     (Some (digits_value 10 digits)) None) (sym none)
 
 pub ruleset numbers = (number, no_number)
+
+-- ---- key presses
+
+split_key : (rest : List ℕ) → split_word (codes "key " ++ rest) ≡ Some (codes "key", rest)
+split_key rest =
+    ap (λ (b : Bool). cond b (Some (codes "key", rest)) None)
+    (lt-ltb 3 (suc (suc (suc (suc (length rest))))) (omega arith))
+
+pub key_said : (text rest : List ℕ) → text ≡ codes "key " ++ rest
+    → event_said (key_event rest) ≡ words_said text (split_word text)
+key_said text rest e =
+    sym (ap (λ (t : List ℕ). words_said t (split_word t)) e
+    ∙ ap (words_said (codes "key " ++ rest)) (split_key rest))

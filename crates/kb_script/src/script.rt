@@ -105,8 +105,31 @@ fn text_of(line: &[u8]) -> Option<&str>
     }
 }
 
-/// Parses a line: one of several words by its first word, or one of a single word.
+/// Parses a line: one of several words by its first word, or one of a single word. Key presses, which most
+/// lines are, are told by their first bytes.
+#[tactic(auto, using(crate::proofs::LineLemmas::key_said))]
 fn read_words<'a>(alloc: Global, text: &'a str) -> Result<Option<ScriptLine<'a>>, NoMemory>
+    ensures { IfOk result (λ said. option_map said_by said
+        ≡ script.words_said text.now (script.split_word text.now)) }
+{
+    match text.strip_prefix("key ") {
+        Some(key) => Ok(key_line(key)),
+        None => read_other(alloc, text),
+    }
+}
+
+/// The press that the line `key KEY` is.
+fn key_line<'a>(key: &str) -> Option<ScriptLine<'a>>
+    ensures { option_map said_by result ≡ script.event_said (script.key_event key.now) }
+{
+    match read_key(key) {
+        Some(event) => Some(ScriptLine::Event(event)),
+        None => None,
+    }
+}
+
+/// Parses any line, as `read_words` does.
+fn read_other<'a>(alloc: Global, text: &'a str) -> Result<Option<ScriptLine<'a>>, NoMemory>
     ensures { IfOk result (λ said. option_map said_by said
         ≡ script.words_said text.now (script.split_word text.now)) }
 {
