@@ -50,7 +50,7 @@ impl Model for HostFiles {
 }
 
 impl HostFiles {
-    /// No files, on Linux. It takes no memory.
+    /// No files, on Linux.
     pub fn new(alloc: Global) -> HostFiles
         ensures { result ≡ no_files }
     {

@@ -18,7 +18,7 @@ pub enum Outcome {
     NoMemory,
     /// A key's text is no key. Nothing changed.
     NoKey,
-    /// A text isn't UTF-8, or a text of JSON is no context value. Nothing changed.
+    /// A text isn't UTF-8. Nothing changed.
     NoText,
     /// No live command has the identifier: it is a command of the host's own, which runs it. The trace has
     /// its lines.

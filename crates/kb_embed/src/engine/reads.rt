@@ -13,7 +13,7 @@ use crate::taken::{TakenKind, entry_at};
 use kb_palette::Entry;
 
 impl Engine {
-    /// A text for the host. It takes no memory.
+    /// A text for the host.
     pub fn part(&self, part: Part) -> &[u8]
         ensures { result.now ≡ part_of part self.now }
     {
