@@ -129,10 +129,7 @@ impl<C: HostCommand> Session<C> {
         if lines::disposed_line(&mut self.trace, native.name(), ticket.0).is_err() {
             return Err(self.halted());
         }
-        match self.registry.dispose(ticket) {
-            Ok(command) => Ok(command),
-            Err(_) => unreachable!(),
-        }
+        Ok(self.registry.dispose_allowed(ticket))
     }
 
     /// Adds the line of a refusal, and returns the refusal.
