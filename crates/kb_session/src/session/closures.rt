@@ -111,9 +111,9 @@ impl<C: HostCommand> Session<C> {
         if lines::registered_line(&mut self.trace, name, number).is_err() {
             return Err((command, self.halted()));
         }
-        match self.registry.register(command) {
+        match self.registry.register_allowed(command) {
             Ok(ticket) => Ok(ticket),
-            Err((command, _)) => Err((command, self.halted_at(mark))),
+            Err(command) => Err((command, self.halted_at(mark))),
         }
     }
 
