@@ -151,7 +151,6 @@ impl<C: HostCommand> Registry<C> {
     /// Registers a closure for its native command, and returns its ticket. On an error the closure is
     /// returned and the registry is unchanged: the fault of `registration_fault` (70 or 71), or
     /// `NoMemory`. Earlier tickets keep their meaning.
-    #[tactic(auto, using(crate::proofs::Tickets::holder_lasts))]
     pub fn register(&mut self, command: C) -> Result<Ticket, (C, Failure<RegistryFault>)>
         ensures allowed { OnOk result (registration_fault (C.stands_for command) self.old ≡ None) }
         ensures ticket { IfOk result (λ ticket. ticket.0 ≡ self.old.made + 1) }
@@ -162,15 +161,30 @@ impl<C: HostCommand> Registry<C> {
         ensures back { IfErr result (λ e. e.0 ≡ command) }
         ensures err { OnErr result (self.new ≡ self.old) }
     {
-        let native = command.native();
-        match self.registration_fault(native) {
+        match self.registration_fault(command.native()) {
             Some(fault) => Err((command, Failure::Fault(fault))),
-            None => match native.signature(self.alloc) {
-                Ok(signature) => self
-                    .admit(native, signature, command)
-                    .map_err(|command| (command, Failure::NoMemory)),
-                Err(_) => Err((command, Failure::NoMemory)),
-            },
+            None => self
+                .register_allowed(command)
+                .map_err(|command| (command, Failure::NoMemory)),
+        }
+    }
+
+    /// Registers a closure for its native command as `register` does, if `registration_fault` was asked
+    /// before, and returns its ticket. On refused memory the closure is returned and the registry is
+    /// unchanged.
+    #[tactic(auto, using(crate::proofs::Tickets::holder_lasts, crate::proofs::Allowed::is_free, crate::proofs::Allowed::has_room))]
+    pub fn register_allowed(&mut self, command: C) -> Result<Ticket, C>
+        requires { registration_fault (C.stands_for command) self.old ≡ None }
+        ensures ticket { IfOk result (λ ticket. ticket.0 ≡ self.old.made + 1) }
+        ensures ok { OnOk result (self.new ≡ registered (C.stands_for command) self.old) }
+        ensures lasting { OnOk result ((t : ℕ) → t ≤ self.old.made → holder t self.new ≡ holder t self.old) }
+        ensures back { IfErr result (λ back. back ≡ command) }
+        ensures err { OnErr result (self.new ≡ self.old) }
+    {
+        let native = command.native();
+        match native.signature(self.alloc) {
+            Ok(signature) => self.admit(native, signature, command),
+            Err(_) => Err(command),
         }
     }
 
@@ -259,13 +273,14 @@ impl<C: HostCommand> Registry<C> {
     {
         match self.disposal_fault(ticket) {
             Some(fault) => Err(fault),
-            None => Ok(self.take(ticket)),
+            None => Ok(self.dispose_allowed(ticket)),
         }
     }
 
-    /// Removes the closure with a ticket.
-    fn take(&mut self, ticket: Ticket) -> C
-        requires { IsSome (holder ticket.0 self.old) }
+    /// Ends the registration with a ticket as `dispose` does, if `disposal_fault` was asked before, and
+    /// returns its closure.
+    pub fn dispose_allowed(&mut self, ticket: Ticket) -> C
+        requires { disposal_fault ticket.0 self.old ≡ None }
         ensures closure { holder ticket.0 self.old ≡ Some (C.stands_for result) }
         ensures ok { self.new ≡ disposed ticket.0 self.old }
         ensures stale { holder ticket.0 self.new ≡ None }
@@ -309,7 +324,18 @@ impl<C: HostCommand> Registry<C> {
         ensures native { option_map (λ c. C.stands_for c.now) result ≡ live_native command.now self.now }
         ensures live { IfSome result (λ c. IsTrue (is_live (C.stands_for c.now) self.now)) }
     {
-        match self.entry_of(command) {
+        match Native::named(command) {
+            Some(native) => self.closure(native),
+            None => None,
+        }
+    }
+
+    /// The registered closure of a native command, or `None` if it has none.
+    pub fn closure(&self, native: Native) -> Option<&C>
+        ensures native { option_map (λ c. C.stands_for c.now) result ≡ where_live (Some native) self.now }
+        ensures live { IfSome result (λ c. IsTrue (is_live (C.stands_for c.now) self.now)) }
+    {
+        match self.entry(native) {
             Some(entry) => Some(&entry.command),
             None => None,
         }
@@ -518,18 +544,6 @@ impl<C: HostCommand> Registry<C> {
         ensures { self.new ≡ with_switched extension live self.old }
     {
         self.code.switch(extension, live);
-    }
-
-    /// The entry of the native command with an identifier, or `None` if it has no registered closure.
-    fn entry_of(&self, command: &str) -> Option<&Entry<C>>
-        ensures live { IfSome result (λ e. IsTrue (is_live (C.stands_for e.now.command) self.now)) }
-        ensures native { option_map (λ e. C.stands_for e.now.command) result
-            ≡ live_native command.now self.now }
-    {
-        match Native::named(command) {
-            Some(native) => self.entry(native),
-            None => None,
-        }
     }
 
     /// The live command with an identifier, found by its resolved target.

@@ -1,13 +1,14 @@
--- The start of a handler, with and without a first instruction that can be paid for.
-use Rattle.std.proofs.Common.{◌≡◌, ◌∙◌, ℕ, zero, suc, true, List, [], ◌∷◌, ◌++◌, Option, Some, None}
-use Rattle.std.proofs.Common.{sym, ap, subst}
+-- The start of a handler, with and without code.
+use Rattle.std.proofs.Common.{◌≡◌, ◌∙◌, ◌≤◌, ℕ, zero, suc, true, List, [], ◌∷◌, ◌++◌, Option, Some, None}
+use Rattle.std.proofs.Common.{sym, ap, subst, refl, arith, false, length, nat_eq}
 use Rattle.std.proofs.Common.{true≢false}
-use Rattle.std.specs.Prelude.{slice_get, is_ok, Err}
+use Rattle.std.proofs.lemmas.Bool.Decides.{Decides-eqb}
+use Rattle.std.specs.Prelude.{slice_get, is_ok}
 use Rattle.kb_core.specs.declared.arg.Arg.{Arg}
 use Rattle.kb_code.specs.declared.instr.Instr.{Instr}
 use Rattle.kb_code.specs.Handler.{HandlerData}
 use Rattle.kb_code.specs.Commands.{Table}
-use Rattle.kb_vm.specs.declared.trap.Trap.{Trap}
+use Rattle.kb_vm.specs.declared.trap.Trap.TheVariants.{BadCode}
 use Rattle.kb_vm.specs.Effect.{effect}
 use Rattle.kb_vm.specs.Meaning.{Event, StepBegun, LineWritten, NativeRun, Step, World, core_of, steps_among}
 use Rattle.kb_vm.specs.Meaning.{after_event, Answer, Done, Stuck, fetched, follow, with_step, run}
@@ -17,7 +18,6 @@ use Rattle.kb_vm.specs.Position.{outset}
 use Rattle.kb_vm.specs.State.{fetched_at}
 use Rattle.kb_vm.proofs.Bound.{run_step}
 use Rattle.kb_vm.proofs.Frames.{follow_keeps, run_keeps}
-use Rattle.kb_vm.proofs.Runs.{trap_in}
 
 grows : (xs : List Step) (s : Step) → xs ++ s ∷ [] ≡ [] → ⊥
 grows [] s e = cc
@@ -34,6 +34,11 @@ begun_after : (a : Answer) (s : Step) (w : World) → Precedes (after_event (Ste
 begun_after (Done v) s w p = tt
 begun_after (Stuck trap command place v) s w p =
     λ none. stays p.past.0 s w.past (sym (ap steps_among p.past.1) ∙ none)
+
+empty : (code : List Instr) → nat_eq (length code) 0 ≡ true → code ≡ []
+empty [] none = refl
+empty (instr ∷ rest) none =
+    let e : suc (length rest) ≡ 0 = (Decides-eqb (suc (length rest)) 0).0 none in absurd (omega arith)
 
 module _ (table : Table) (h : HandlerData) (args : List Arg) (w : World) where
   abbrev at_first : Option Instr → ℕ → Answer
@@ -57,15 +62,15 @@ module _ (table : Table) (h : HandlerData) (args : List Arg) (w : World) where
       subst IsBegun (sym (run_step table h args h.signature.budget outset w))
       (begun_by (slice_get h.code 0) h.signature.budget ok)
 
-  stuck_by : (o : Option Instr) (left : ℕ) (trap : Trap) → Err trap ≡ fetched_at o left
-      → at_first o left ≡ Stuck trap h.command 0 w
-  unfolding trap_in
-  stuck_by None left trap e = ap (λ t. Stuck t h.command 0 w) (sym (ap (trap_in trap) e))
-  stuck_by (Some instr) zero trap e = ap (λ t. Stuck t h.command 0 w) (sym (ap (trap_in trap) e))
-  stuck_by (Some instr) (suc left) trap e = absurd (true≢false (sym (ap is_ok e)))
+  -- without code the handler traps
+  pub no_code : nat_eq (length h.code) 0 ≡ true → run table h args h.signature.budget outset w ≡ Stuck BadCode h.command 0 w
+  no_code none =
+      run_step table h args h.signature.budget outset w
+      ∙ ap (λ code. at_first (slice_get code 0) h.signature.budget) (empty h.code none)
 
-  -- without one the handler traps
-  pub first_stuck : (trap : Trap) → Err trap ≡ fetched_at (slice_get h.code 0) h.signature.budget
-      → run table h args h.signature.budget outset w ≡ Stuck trap h.command 0 w
-  first_stuck trap e =
-      run_step table h args h.signature.budget outset w ∙ stuck_by (slice_get h.code 0) h.signature.budget trap e
+-- a handler with code and a budget has a first instruction that can be paid for
+pub some_code : (code : List Instr) (left : ℕ) → nat_eq (length code) 0 ≡ false → 1 ≤ left
+    → is_ok (fetched_at (slice_get code 0) left) ≡ true
+some_code [] left some paid = absurd (true≢false some)
+some_code (instr ∷ rest) zero some paid = absurd (omega arith)
+some_code (instr ∷ rest) (suc left) some paid = refl

@@ -1,13 +1,16 @@
 -- The start of a command in which nothing runs.
-use Rattle.std.proofs.Common.{◌≡◌, inl, ℕ, List, [], Bool, false, refl, sym, ap, arith, if◌then◌else◌, ◌∙◌}
+use Rattle.std.proofs.Common.{◌≡◌, inl, ℕ, List, [], Bool, true, false, refl, sym, ap, arith, if◌then◌else◌, ◌∙◌}
+use Rattle.std.proofs.Common.{Some, option_map}
 use Rattle.kb_core.specs.declared.arg.Arg.{Arg}
 use Rattle.kb_core.specs.Core.{Core}
 use Rattle.kb_core.specs.Signature.{fits}
 use Rattle.kb_vm.specs.declared.machine.Outcome.{Outcome}
 use Rattle.kb_vm.specs.declared.machine.End.TheVariants as end
 use Rattle.kb_vm.specs.declared.trap.Trap.TheVariants.{WrongArgument}
-use Rattle.kb_code.specs.Commands.{Callee, Table, declared_by}
-use Rattle.kb_vm.specs.Meaning.{World, Answer, Stuck, run_callee, run, first_world, start_callee}
+use Rattle.kb_code.specs.Commands.{Callee, Coded, Table, declared_by}
+use Rattle.kb_code.specs.Handler.{HandlerData}
+use Rattle.kb_vm.specs.Meaning.{World, Answer, Stuck, run_callee, run, first_world, start_callee, start_of}
+use Rattle.kb_vm.specs.Position.{outset}
 use Rattle.kb_vm.specs.Memory.{IsBegun}
 use Rattle.kb_vm.specs.Outcome.{Shows, Precedes, Ends, world_of}
 
@@ -28,6 +31,14 @@ unspent_shows core after lines spent c l s = record {
   at_least = omega arith;
   at_most = omega (arith, s);
 }
+
+-- the start of a live handler, with arguments that fit it, runs it
+pub coded_start : (table : Table) (name : List ℕ) (h : HandlerData) (args : List Arg) (core : Core)
+    → table name ≡ Some (Coded h) → fits h.signature.params args ≡ true
+    → start_of table name args core ≡ Some (run table h args h.signature.budget outset (first_world core))
+coded_start table name h args core live fit =
+    ap (option_map (λ callee. start_callee table name callee args (first_world core))) live
+    ∙ ap (λ b. Some (start_if table name (Coded h) args (first_world core) b)) fit
 
 -- memory is refused before anything is done
 pub lacks_first : (core : Core) (a : Answer) (o : Outcome) → o.core ≡ core → o.lines ≡ [] → o.spent ≡ 0

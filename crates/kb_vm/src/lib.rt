@@ -15,5 +15,5 @@ pub mod trap;
 mod values;
 
 pub use machine::{End, Outcome};
-pub use starting::start;
+pub use starting::{start, start_coded};
 pub use trap::Trap;

@@ -1,9 +1,9 @@
 //! The start of a command.
-ghost use Rattle.std.specs.Prelude.{◌≡◌, ◌≤◌, [], IfSome, true, is_ok, slice_get};
+ghost use Rattle.std.specs.Prelude.{◌≡◌, ◌≤◌, [], IfSome, Some, true, is_ok, slice_get};
 ghost use Rattle.kb_core.specs.Native.{budget_of, parameters_of};
 ghost use Rattle.kb_core.specs.Signature.{fits};
 ghost use Rattle.kb_vm.specs.Action.{IsCallable};
-ghost use Rattle.kb_code.specs.Commands.{IsLive, declared_by};
+ghost use Rattle.kb_code.specs.Commands.{Coded, IsLive, declared_by};
 ghost use Rattle.kb_code.specs.Found.{callee_of};
 ghost use Rattle.kb_vm.specs.Meaning.{Done, first_world, native_called, run, start_callee, start_of};
 ghost use Rattle.kb_vm.specs.Outcome.{Ends, Gives};
@@ -12,7 +12,7 @@ ghost use Rattle.kb_vm.specs.State.{fetched_at};
 
 use crate::arena::Arena;
 use crate::given::{Given, args_fit};
-use crate::machine::{End, Outcome, fetch, run_handler};
+use crate::machine::{End, Outcome, run_handler};
 use crate::trap::Trap;
 use kb_code::{Commands, Found, Linked, Target};
 use kb_core::{Args, Core, Native, Ran};
@@ -42,6 +42,23 @@ pub fn start<'r, L: Commands>(
         Some(callee) => start_found(alloc, commands, command, callee, args, core),
         None => unspent(alloc, core, End::NotFound),
     }
+}
+
+/// Runs a live handler with arguments that fit it, as `start` runs the command of its name. Nothing is
+/// looked up, and the arguments aren't compared with its parameters again.
+pub fn start_coded<'r, L: Commands>(
+    alloc: Global,
+    commands: &'r L,
+    handler: Linked<'r>,
+    args: Args,
+    core: Core,
+) -> Outcome<'r>
+    requires live { L.live commands.now handler.command ≡ Some (Coded handler) }
+    requires fit { fits handler.signature.params args ≡ true }
+    ensures answer { Gives (start_of (L.live commands.now) handler.entry.command args core) core result }
+    ensures bound { result.spent ≤ handler.entry.signature.budget }
+{
+    start_handler(alloc, commands, handler, args, core)
 }
 
 /// The outcome of a run in which nothing was executed.
@@ -95,13 +112,12 @@ fn start_handler<'r, L: Commands>(
     ensures bound { result.spent ≤ handler.entry.signature.budget }
 {
     let begun = handler.handler();
-    match fetch(begun.code().instrs(), 0, begun.signature().budget()) {
-        Ok(_) => start_begun(alloc, commands, handler, args, core),
-        Err(trap) => {
-            let command = handler.handler().command().as_str();
-            unspent(alloc, core, End::Trap(trap, command, 0))
-        }
+    prove!(begun.signature().budget() > 0);
+    if begun.code().instrs().is_empty() {
+        let command = begun.command().as_str();
+        return unspent(alloc, core, End::Trap(Trap::BadCode, command, 0));
     }
+    start_begun(alloc, commands, handler, args, core)
 }
 
 /// Runs a handler whose first instruction exists and is within its budget.

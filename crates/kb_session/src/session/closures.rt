@@ -111,9 +111,9 @@ impl<C: HostCommand> Session<C> {
         if lines::registered_line(&mut self.trace, name, number).is_err() {
             return Err((command, self.halted()));
         }
-        match self.registry.register(command) {
+        match self.registry.register_allowed(command) {
             Ok(ticket) => Ok(ticket),
-            Err((command, _)) => Err((command, self.halted_at(mark))),
+            Err(command) => Err((command, self.halted_at(mark))),
         }
     }
 
@@ -129,10 +129,7 @@ impl<C: HostCommand> Session<C> {
         if lines::disposed_line(&mut self.trace, native.name(), ticket.0).is_err() {
             return Err(self.halted());
         }
-        match self.registry.dispose(ticket) {
-            Ok(command) => Ok(command),
-            Err(_) => unreachable!(),
-        }
+        Ok(self.registry.dispose_allowed(ticket))
     }
 
     /// Adds the line of a refusal, and returns the refusal.

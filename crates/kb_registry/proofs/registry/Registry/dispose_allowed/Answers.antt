@@ -1,10 +1,11 @@
 use Rattle.std.proofs.Common.{◌∙◌, Some, IsSome, true≢false, sym, ap, subst}
 use Rattle.kb_registry.specs.Live.{holder, holder_in, disposed}
 use Rattle.kb_registry.specs.Sound.{plain_entries}
+use Rattle.kb_registry.proofs.Allowed.{is_held}
 use Rattle.kb_registry.proofs.Entries.{holder-at, holder-none, without-at}
 use Rattle.kb_registry.proofs.Sounds.{sound_removed}
 use Rattle.kb_registry.proofs.Tickets.{holder_gone, holder_of_another}
-use Rattle.kb_registry.proofs.registry.Registry.take.Goals as goal
+use Rattle.kb_registry.proofs.registry.Registry.dispose_allowed.Goals as goal
 
 pub invariant_of-self : goal.invariant_of-self
 invariant_of-self g c =
@@ -63,4 +64,5 @@ pub unreachable-requires : goal.unreachable-requires
 unreachable-requires g c =
     true≢false (sym (subst IsSome
     (sym (ap (holder c.args.ticket.0) c.self.view_is)
-    ∙ holder-none (λ e. e.ticket) c.args.ticket.0 c.self.inside.table.entries c.in-None.ensures.place) c.requires))
+    ∙ holder-none (λ e. e.ticket) c.args.ticket.0 c.self.inside.table.entries c.in-None.ensures.place)
+    (is_held c.args.ticket.0 c.args.self.now c.requires)))
