@@ -15,8 +15,8 @@ pub record IsLonger (strokes : List Keystroke) (rule : Rule) : Type 0 where
   pub whole : rule.chord ≡ strokes ++ rest
   pub more : length strokes < length rule.chord
 
--- a rule at a position takes its keystrokes from another one at a place, if that has these and more: it is below
--- that one, and may start wherever that one may
+-- a rule at a position takes its keystrokes from another one at a place, if that has these and more: it is
+-- below that one, and may start wherever that one may
 abbrev pub IsTakenAt : Enabling → ℕ → Rule → ℕ → Rule → Type 0
 IsTakenAt enablement position rule place other =
     IsLonger rule.chord other → (place < position) × Covers enablement rule other
@@ -33,7 +33,8 @@ pub record IsTaking (enablement : Enabling) (rules : List Rule) (by : ℕ) : Typ
   pub at : slice_get rules by ≡ Some lower
   pub takes_all : TakesAll enablement rules by lower
 
--- the rule at a position has the keystrokes of a lower one and more, and that one takes them from all such rules
+-- the rule at a position has the keystrokes of a lower one and more, and that one takes them from all such
+-- rules
 pub record IsCutOff (enablement : Enabling) (rules : List Rule) (position by : ℕ) : Type 0 where
   pub rule : Rule
   pub lower : Rule
