@@ -189,11 +189,17 @@ module _ {A : Type 0} (f : A → CauseData) (keys : Keys) (found : Option A) (m 
       ∙ ap (λ (c : MarkedClause). when_holds keys (Some c)) b
 
   pub cause_fails : Fails keys (Some clause) (option_map f found)
+  unfolding Fails
   cause_fails =
       subst (Fails keys (Some clause)) (sym e)
       (subst (λ (c : MarkedClause). Fails keys (Some c) (cause_in keys true m)) b
       (explains_same keys (λ others. marked_value others m) (λ others. when_holds others (Some (beside m)))
       (λ others. sym (value_beside others m)) (cause_in keys true m) (explains_in keys true m)))
+
+-- an absent clause never fails
+pub fails_none : (keys : Keys) → Fails keys None None
+unfolding Fails
+fails_none keys = tt {0}
 
 -- the same of what a call answers, where it answers
 module _ {A E : Type 0} (f : A → CauseData) (keys : Keys) (m : Marked) (clause : MarkedClause)

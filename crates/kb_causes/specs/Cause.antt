@@ -81,7 +81,7 @@ Explains keys test (Some never) = (others : Keys) → test others ≡ false
 Explains keys test (Some (literal atom wanted)) = agrees wanted (marked_value keys atom) ≡ false
 
 -- the same of a clause
-abbrev pub Fails : Keys → Option MarkedClause → Option CauseData → Type 0
+unfoldable pub Fails : Keys → Option MarkedClause → Option CauseData → Type 0
 Fails keys clause c = Explains keys (λ others. when_holds others clause) c
 
 -- why a clause fails, by its tree with the marks of its patterns

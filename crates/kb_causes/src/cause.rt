@@ -155,7 +155,7 @@ pub fn cause_in<'c>(
 }
 
 /// Why a clause fails, if it does; an absent one never fails. `NoMemory` only from a pattern.
-#[tactic(auto, using(crate::proofs::CauseLemmas::is_cause))]
+#[tactic(auto, using(crate::proofs::CauseLemmas::is_cause, crate::proofs::CauseLemmas::fails_none))]
 pub fn cause_of_clause<'c>(
     alloc: Global,
     clause: Option<&'c Clause>,
