@@ -46,12 +46,13 @@ pub record IsCutOff (enablement : Enabling) (rules : List Rule) (position by : �
 
 -- pressed keystrokes that wait for more: each of their beginnings opened or kept a chord in some context
 abbrev pub Wait : Enabling → List Rule → List Keystroke → Type 0
-Wait enablement rules pressed = (strokes after : List Keystroke) → pressed ≡ strokes ++ after → 0 < length strokes
-    → (keys : Keys) × IsGreatest strokes keys enablement rules more
+Wait enablement rules pressed = (strokes after : List Keystroke) → pressed ≡ strokes ++ after
+    → 0 < length strokes → (keys : Keys) × IsGreatest strokes keys enablement rules more
 
 -- in no state that key presses lead to, and in no context, the next keystroke finds a rule that is cut off
 abbrev pub CutOffNeverStart : Type 0
 CutOffNeverStart = (enablement : Enabling) (rules : List Rule) (position by : ℕ)
     → IsCutOff enablement rules position by → (pressed : List Keystroke) (key : Keystroke) (keys : Keys)
-    → Wait enablement rules pressed → (chosen : IsChosenAt enablement rules position (pressed ++ key ∷ []) keys)
+    → Wait enablement rules pressed
+    → (chosen : IsChosenAt enablement rules position (pressed ++ key ∷ []) keys)
     → ¬ (chosen.rule.chord ≡ pressed ++ key ∷ [])
