@@ -1,10 +1,9 @@
 -- A cause is given exactly where a clause fails, and a literal that it names doesn't hold.
-use Rattle.std.proofs.Common.{◌≡◌, Bool, true, false, not, List, [], ◌∷◌, Option, None, Some, refl, sym, ap, ◌∙◌, map, subst}
+use Rattle.std.proofs.Common.{◌≡◌, Bool, true, false, not, Option, None, Some, refl, sym, ap, ◌∙◌, subst}
 use Rattle.std.specs.Prelude.{◌&&◌, ◌||◌, is_none, option_map, Result, Ok, Err, IfOk}
-use Rattle.std.specs.Option.{option_or}
 use Rattle.kb_context.specs.Scopes.{Keys}
-use Rattle.kb_causes.specs.Cause.{CauseData, literal, agrees, unless, either, both, cause_of_atom, cause_in}
-use Rattle.kb_causes.specs.Cause.{first_cause, cause_of_all, Fails, IsCauseOf, led_by}
+use Rattle.kb_causes.specs.Cause.{CauseData, never, literal, agrees, unless, either, both, cause_in}
+use Rattle.kb_causes.specs.Cause.{first_cause, cause_of_all, Explains, Fails, IsCauseOf}
 use Rattle.kb_causes.specs.Cause as causes
 use Rattle.kb_when.specs.Marked as marked
 use Rattle.kb_when.specs.Marked.{Marked, Markeds, marked_value, all_marked_hold, any_marked_holds}
@@ -22,7 +21,8 @@ none_either (Some c) b = refl
 none_both : (a b : Option CauseData) → is_none (both a b) ≡ (is_none a || is_none b)
 none_both None b = refl
 none_both (Some c) None = refl
-none_both (Some c) (Some d) = refl
+none_both (Some never) (Some d) = refl
+none_both (Some (literal m w)) (Some d) = refl
 
 not_and : (a b : Bool) → (not a || not b) ≡ not (a && b)
 not_and true b = refl
@@ -81,50 +81,96 @@ mutual
       ∙ (λ i. none_in keys false m i && any_first keys ms i)
       ∙ not_or (marked_value keys m) (any_marked_holds keys ms)
 
--- ---- a literal that is named doesn't hold
+-- ---- a literal that is named doesn't hold, and a clause without one is false in every context
 
-fails_atom : (keys : Keys) (w : Bool) (m : Marked) (b : Bool) → agrees w (marked_value keys m) ≡ b
-    → Fails keys (unless b (literal m w))
-fails_atom keys w m true e = tt {0}
-fails_atom keys w m false e = e
+explains_atom : (keys : Keys) (test : Keys → Bool) (w : Bool) (m : Marked) (b : Bool)
+    → agrees w (marked_value keys m) ≡ b → Explains keys test (unless b (literal m w))
+explains_atom keys test w m true e = tt {0}
+explains_atom keys test w m false e = e
 
-fails_constant : (keys : Keys) (b : Bool) → Fails keys (unless b causes.never)
-fails_constant keys true = tt {0}
-fails_constant keys false = tt {0}
+explains_constant : (keys : Keys) (b : Bool) → Explains keys (λ _. b) (unless b never)
+explains_constant keys true = tt {0}
+explains_constant keys false = λ _. refl
 
-fails_either : (keys : Keys) (a b : Option CauseData) → Fails keys a → Fails keys b → Fails keys (either a b)
-fails_either keys None b h k = k
-fails_either keys (Some c) b h k = h
+-- tests that are the same have the same causes
+explains_same : (keys : Keys) (p q : Keys → Bool) → ((others : Keys) → p others ≡ q others)
+    → (c : Option CauseData) → Explains keys p c → Explains keys q c
+explains_same keys p q e None h = tt {0}
+explains_same keys p q e (Some never) h = λ others. sym (e others) ∙ h others
+explains_same keys p q e (Some (literal m w)) h = h
 
-fails_both : (keys : Keys) (a b : Option CauseData) → Fails keys a → Fails keys (both a b)
-fails_both keys None b h = tt {0}
-fails_both keys (Some c) None h = tt {0}
-fails_both keys (Some c) (Some d) h = h
+false_behind : (b : Bool) → (b && false) ≡ false
+false_behind true = refl
+false_behind false = refl
+
+explains_either : (keys : Keys) (p q : Keys → Bool) (a b : Option CauseData) → Explains keys p a
+    → Explains keys q b → Explains keys (λ others. p others && q others) (either a b)
+explains_either keys p q None None h k = tt {0}
+explains_either keys p q None (Some never) h k =
+    λ others. ap (λ (x : Bool). p others && x) (k others) ∙ false_behind (p others)
+explains_either keys p q None (Some (literal m w)) h k = k
+explains_either keys p q (Some never) b h k = λ others. ap (λ (x : Bool). x && q others) (h others)
+explains_either keys p q (Some (literal m w)) b h k = h
+
+explains_both : (keys : Keys) (p q : Keys → Bool) (a b : Option CauseData) → Explains keys p a
+    → Explains keys q b → Explains keys (λ others. p others || q others) (both a b)
+explains_both keys p q None b h k = tt {0}
+explains_both keys p q (Some c) None h k = tt {0}
+explains_both keys p q (Some never) (Some never) h k = λ others i. h others i || k others i
+explains_both keys p q (Some never) (Some (literal m w)) h k = k
+explains_both keys p q (Some (literal m w)) (Some d) h k = h
 
 mutual
-  pub fails_in : (keys : Keys) (w : Bool) (m : Marked) → Fails keys (cause_in keys w m)
-  fails_in keys w marked.always = fails_constant keys (agrees w true)
-  fails_in keys w marked.never = fails_constant keys (agrees w false)
-  fails_in keys w (marked.key k) = fails_atom keys w (marked.key k) _ refl
-  fails_in keys w (marked.equals k v) = fails_atom keys w (marked.equals k v) _ refl
-  fails_in keys w (marked.compare k o n) = fails_atom keys w (marked.compare k o n) _ refl
-  fails_in keys w (marked.matches k p) = fails_atom keys w (marked.matches k p) _ refl
-  fails_in keys w (marked.member k other) = fails_atom keys w (marked.member k other) _ refl
-  fails_in keys w (marked.not_of m) = fails_in keys (not w) m
-  fails_in keys true (marked.all_of ms) = fails_first keys true ms
-  fails_in keys false (marked.all_of ms) = fails_all keys false ms
-  fails_in keys true (marked.any_of ms) = fails_all keys true ms
-  fails_in keys false (marked.any_of ms) = fails_first keys false ms
+  pub explains_in : (keys : Keys) (w : Bool) (m : Marked)
+      → Explains keys (λ others. agrees w (marked_value others m)) (cause_in keys w m)
+  explains_in keys w marked.always = explains_constant keys (agrees w true)
+  explains_in keys w marked.never = explains_constant keys (agrees w false)
+  explains_in keys w (marked.key k) = explains_atom keys _ w (marked.key k) _ refl
+  explains_in keys w (marked.equals k v) = explains_atom keys _ w (marked.equals k v) _ refl
+  explains_in keys w (marked.compare k o n) = explains_atom keys _ w (marked.compare k o n) _ refl
+  explains_in keys w (marked.matches k p) = explains_atom keys _ w (marked.matches k p) _ refl
+  explains_in keys w (marked.member k other) = explains_atom keys _ w (marked.member k other) _ refl
+  explains_in keys w (marked.not_of m) =
+      explains_same keys (λ others. agrees (not w) (marked_value others m)) (λ others. agrees w (not (marked_value others m)))
+      (λ others. agrees_not w (marked_value others m)) (cause_in keys (not w) m) (explains_in keys (not w) m)
+  explains_in keys true (marked.all_of ms) = explains_all_first keys ms
+  explains_in keys false (marked.all_of ms) = explains_all_none keys ms
+  explains_in keys true (marked.any_of ms) = explains_any_none keys ms
+  explains_in keys false (marked.any_of ms) = explains_any_first keys ms
 
-  fails_first : (keys : Keys) (w : Bool) (ms : Markeds) → Fails keys (first_cause keys w ms)
-  fails_first keys w marked.no_clauses = tt {0}
-  fails_first keys w (marked.clause m ms) =
-      fails_either keys (cause_in keys w m) (first_cause keys w ms) (fails_in keys w m) (fails_first keys w ms)
+  explains_all_first : (keys : Keys) (ms : Markeds)
+      → Explains keys (λ others. all_marked_hold others ms) (first_cause keys true ms)
+  explains_all_first keys marked.no_clauses = tt {0}
+  explains_all_first keys (marked.clause m ms) =
+      explains_either keys (λ others. marked_value others m) (λ others. all_marked_hold others ms)
+      (cause_in keys true m) (first_cause keys true ms) (explains_in keys true m) (explains_all_first keys ms)
 
-  fails_all : (keys : Keys) (w : Bool) (ms : Markeds) → Fails keys (cause_of_all keys w ms)
-  fails_all keys w marked.no_clauses = tt {0}
-  fails_all keys w (marked.clause m ms) =
-      fails_both keys (cause_in keys w m) (cause_of_all keys w ms) (fails_in keys w m)
+  explains_all_none : (keys : Keys) (ms : Markeds)
+      → Explains keys (λ others. not (all_marked_hold others ms)) (cause_of_all keys false ms)
+  explains_all_none keys marked.no_clauses = λ _. refl
+  explains_all_none keys (marked.clause m ms) =
+      explains_same keys (λ others. not (marked_value others m) || not (all_marked_hold others ms))
+      (λ others. not (marked_value others m && all_marked_hold others ms))
+      (λ others. not_and (marked_value others m) (all_marked_hold others ms)) (cause_of_all keys false (marked.clause m ms))
+      (explains_both keys (λ others. not (marked_value others m)) (λ others. not (all_marked_hold others ms))
+      (cause_in keys false m) (cause_of_all keys false ms) (explains_in keys false m) (explains_all_none keys ms))
+
+  explains_any_none : (keys : Keys) (ms : Markeds)
+      → Explains keys (λ others. any_marked_holds others ms) (cause_of_all keys true ms)
+  explains_any_none keys marked.no_clauses = λ _. refl
+  explains_any_none keys (marked.clause m ms) =
+      explains_both keys (λ others. marked_value others m) (λ others. any_marked_holds others ms)
+      (cause_in keys true m) (cause_of_all keys true ms) (explains_in keys true m) (explains_any_none keys ms)
+
+  explains_any_first : (keys : Keys) (ms : Markeds)
+      → Explains keys (λ others. not (any_marked_holds others ms)) (first_cause keys false ms)
+  explains_any_first keys marked.no_clauses = tt {0}
+  explains_any_first keys (marked.clause m ms) =
+      explains_same keys (λ others. not (marked_value others m) && not (any_marked_holds others ms))
+      (λ others. not (marked_value others m || any_marked_holds others ms))
+      (λ others. not_or (marked_value others m) (any_marked_holds others ms)) (first_cause keys false (marked.clause m ms))
+      (explains_either keys (λ others. not (marked_value others m)) (λ others. not (any_marked_holds others ms))
+      (cause_in keys false m) (first_cause keys false ms) (explains_in keys false m) (explains_any_first keys ms))
 
 -- ---- a clause, by its tree
 
@@ -142,21 +188,18 @@ module _ {A : Type 0} (f : A → CauseData) (keys : Keys) (found : Option A) (m 
       sym (none_mapped f found) ∙ ap is_none e ∙ none_in keys true m ∙ sym (value_beside keys m)
       ∙ ap (λ (c : MarkedClause). when_holds keys (Some c)) b
 
-  pub cause_fails : Fails keys (option_map f found)
-  cause_fails = subst (Fails keys) (sym e) (fails_in keys true m)
+  pub cause_fails : Fails keys (Some clause) (option_map f found)
+  unfolding Fails
+  cause_fails =
+      subst (Fails keys (Some clause)) (sym e)
+      (subst (λ (c : MarkedClause). Fails keys (Some c) (cause_in keys true m)) b
+      (explains_same keys (λ others. marked_value others m) (λ others. when_holds others (Some (beside m)))
+      (λ others. sym (value_beside others m)) (cause_in keys true m) (explains_in keys true m)))
 
--- ---- one operand after another
-
-pub led_step : (first found : Option CauseData) (others : Option CauseData) (d : CauseData) → found ≡ Some d
-    → led_by first (both found others) ≡ led_by (option_or first found) others
-led_step None found others d e = rw (e) refl
-led_step (Some c) found None d e = rw (e) refl
-led_step (Some c) found (Some o) d e = rw (e) refl
-
-pub led_none : (first found : Option CauseData) (others : Option CauseData) → found ≡ None
-    → led_by first (both found others) ≡ None
-led_none None found others e = rw (e) refl
-led_none (Some c) found others e = rw (e) refl
+-- an absent clause never fails
+pub fails_none : (keys : Keys) → Fails keys None None
+unfolding Fails
+fails_none keys = tt {0}
 
 -- the same of what a call answers, where it answers
 module _ {A E : Type 0} (f : A → CauseData) (keys : Keys) (m : Marked) (clause : MarkedClause)
@@ -167,6 +210,6 @@ module _ {A E : Type 0} (f : A → CauseData) (keys : Keys) (m : Marked) (clause
   holds_where_ok (Err why) e = tt {0}
 
   pub fails_where_ok : (r : Result (Option A) E) → IfOk r (λ found. option_map f found ≡ cause_in keys true m)
-      → IfOk r (λ found. Fails keys (option_map f found))
+      → IfOk r (λ found. Fails keys (Some clause) (option_map f found))
   fails_where_ok (Ok found) e = cause_fails f keys found m clause b e
   fails_where_ok (Err why) e = tt {0}

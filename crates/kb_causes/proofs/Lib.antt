@@ -1,2 +1,3 @@
+pub mod SeenLemmas
 pub mod CauseLemmas
 pub mod OverlapLemmas

@@ -6,7 +6,7 @@ use Rattle.kb_causes.specs.declared.cause.Cause.TheVariants as cause
 use Rattle.kb_when.specs.Leaf.{marked_of_leaf}
 use Rattle.kb_when.specs.Marked as marked
 use Rattle.kb_when.specs.Marked.{Marked, Markeds, marked_value}
-use Rattle.kb_when.specs.Marks.{MarkedClause, beside}
+use Rattle.kb_when.specs.Marks.{MarkedClause, beside, when_holds}
 
 -- a cause as plain data: a constant, or an atom with the value that is wanted of it
 pub data CauseData : Type 0 where
@@ -35,15 +35,22 @@ abbrev pub either : Option CauseData → Option CauseData → Option CauseData
 either None second = second
 either (Some c) second = Some c
 
--- the first cause of two, if there are two
+-- of two causes the first that names a literal
+abbrev pub shown : Option CauseData → Option CauseData → Option CauseData
+shown None second = second
+shown (Some never) second = second
+shown (Some (literal atom wanted)) second = Some (literal atom wanted)
+
+-- the first cause of two that names a literal, if there are two
 abbrev pub both : Option CauseData → Option CauseData → Option CauseData
 both None second = None
 both (Some c) None = None
-both (Some c) (Some d) = Some c
+both (Some c) (Some d) = shown (Some c) (Some d)
 
 abbrev mutual
   -- why a clause isn't what is wanted, if it isn't: negations are pushed inward; of operands that all have to
-  -- hold the first that fails counts, and of operands of which one has to hold, which all fail, the first
+  -- hold the first that fails counts, and of operands of which one has to hold, which all fail, the first that
+  -- isn't constant
   pub cause_in : Keys → Bool → Marked → Option CauseData
   cause_in keys wanted marked.always = unless (agrees wanted true) never
   cause_in keys wanted marked.never = unless (agrees wanted false) never
@@ -66,11 +73,16 @@ abbrev mutual
   cause_of_all keys wanted marked.no_clauses = Some never
   cause_of_all keys wanted (marked.clause m ms) = both (cause_in keys wanted m) (cause_of_all keys wanted ms)
 
--- a cause that is a literal doesn't hold
-abbrev pub Fails : Keys → Option CauseData → Type 0
-Fails keys None = Unit {0}
-Fails keys (Some never) = Unit {0}
-Fails keys (Some (literal atom wanted)) = agrees wanted (marked_value keys atom) ≡ false
+-- what a cause says of a test of contexts: the literal that it names doesn't hold; where it names none, the test
+-- is false in every context
+abbrev pub Explains : Keys → (Keys → Bool) → Option CauseData → Type 0
+Explains keys test None = Unit {0}
+Explains keys test (Some never) = (others : Keys) → test others ≡ false
+Explains keys test (Some (literal atom wanted)) = agrees wanted (marked_value keys atom) ≡ false
+
+-- the same of a clause
+unfoldable pub Fails : Keys → Option MarkedClause → Option CauseData → Type 0
+Fails keys clause c = Explains keys (λ others. when_holds others clause) c
 
 -- why a clause fails, by its tree with the marks of its patterns
 abbrev pub IsCauseOf : Keys → Option MarkedClause → Option CauseData → Type 0

@@ -1,7 +1,7 @@
 //! Why a clause fails: the literal at which it does.
 ghost use Rattle.std.specs.Prelude.{◌≡◌, IfOk, true, map, is_none, option_copied, option_map};
 ghost use Rattle.kb_context.specs.Scopes.{context};
-ghost use Rattle.kb_causes.specs.Cause.{agrees, cause_data, unless, Fails, IsCauseOf};
+ghost use Rattle.kb_causes.specs.Cause.{agrees, cause_data, shown, unless, Fails, IsCauseOf};
 ghost use Rattle.kb_causes.specs.Cause as causes;
 ghost use Rattle.kb_when.specs.Leaf.{marked_of_leaf};
 ghost use Rattle.kb_when.specs.Marked.{marked_value};
@@ -85,7 +85,18 @@ fn first_cause<'c>(
     Ok(None)
 }
 
-/// Why none of these trees is what is wanted, if none is: the cause of the first.
+/// Of the causes of two operands that both fail the one to name: the first that has a literal.
+pub fn first_shown<'c>(first: Option<Cause<'c>>, second: Option<Cause<'c>>) -> Option<Cause<'c>>
+    ensures { option_map cause_data result
+        ≡ shown (option_map cause_data first.entry) (option_map cause_data second.entry) }
+{
+    match first {
+        Some(Cause::Literal(literal)) => Some(Cause::Literal(literal)),
+        Some(Cause::Never) | None => second,
+    }
+}
+
+/// Why none of these trees is what is wanted, if none is: the first literal among their causes.
 #[cycle(causes)]
 fn cause_of_all<'c>(
     alloc: Global,
@@ -102,7 +113,7 @@ fn cause_of_all<'c>(
         if found.is_none() {
             return Ok(None);
         }
-        first = first.or(found);
+        first = first_shown(first, found);
     }
     Ok(Some(first.unwrap_or(Cause::Never)))
 }
@@ -110,7 +121,7 @@ fn cause_of_all<'c>(
 /// Why a tree doesn't have the value that is wanted, if it hasn't, for the keys that the focus sees. It is
 /// the first literal, in the order of the text and with negations pushed inward, that doesn't hold in an
 /// operand that fails: of operands that all have to hold the first that fails, and of operands of which one
-/// has to hold the first. `NoMemory` only from a pattern.
+/// has to hold the first that isn't constant. `NoMemory` only from a pattern.
 #[cycle(causes)]
 pub fn cause_in<'c>(
     alloc: Global,
@@ -144,7 +155,7 @@ pub fn cause_in<'c>(
 }
 
 /// Why a clause fails, if it does; an absent one never fails. `NoMemory` only from a pattern.
-#[tactic(auto, using(crate::proofs::CauseLemmas::is_cause))]
+#[tactic(auto, using(crate::proofs::CauseLemmas::is_cause, crate::proofs::CauseLemmas::fails_none))]
 pub fn cause_of_clause<'c>(
     alloc: Global,
     clause: Option<&'c Clause>,
@@ -157,8 +168,9 @@ pub fn cause_of_clause<'c>(
     ensures holds { IfOk result (λ found.
         is_none found ≡ when_holds (context scopes.now.seen) (option_copied clause.entry)) }
 
-    // A literal that is named doesn't hold.
-    ensures fails { IfOk result (λ found. Fails (context scopes.now.seen) (option_map cause_data found)) }
+    // A literal that is named doesn't hold; where none is, the clause is false in every context.
+    ensures fails { IfOk result (λ found.
+        Fails (context scopes.now.seen) (option_copied clause.entry) (option_map cause_data found)) }
 {
     match clause {
         Some(clause) => cause_in(alloc, clause.tree(), true, scopes),

@@ -6,6 +6,6 @@ pub mod cause;
 pub mod overlap;
 pub mod seen;
 
-pub use cause::{Cause, Literal, cause_in, cause_of_clause};
+pub use cause::{Cause, Literal, cause_in, cause_of_clause, first_shown};
 pub use overlap::contradict;
 pub use seen::{Seen, keys_seen, scope_of};

@@ -1,7 +1,7 @@
 //! What the focus sees, key by key.
-ghost use Rattle.std.specs.Prelude.{All, IfOk, OnOk};
-ghost use Rattle.kb_context.specs.Scopes.{context};
-ghost use Rattle.kb_causes.specs.Seen.{IsSeen};
+ghost use Rattle.std.specs.Prelude.{◌≡◌, All, IfOk, IfSome, OnOk, length, option_map};
+ghost use Rattle.kb_context.specs.Scopes.{seat_from};
+ghost use Rattle.kb_causes.specs.Seen.{holder, IsSeen};
 
 use kb_base::NoMemory;
 use kb_context::{ContextValue, Scope, Scopes};
@@ -18,87 +18,101 @@ pub struct Seen<'s> {
     pub scope: &'s str,
 }
 
-/// Whether one of these scopes has a key.
-fn has_key(scopes: &[&Scope], key: &str) -> bool {
-    for scope in scopes {
-        if scope.keys.contains_key(key) {
-            return true;
+/// The index of the innermost scope that has a key, from the one at an index outward.
+#[tactic(auto, using(crate::proofs::SeenLemmas::seat_outside, crate::proofs::SeenLemmas::seat_here, crate::proofs::SeenLemmas::seat_nowhere, crate::proofs::SeenLemmas::seat_further))]
+fn seat(all: &[Scope], from: usize, key: &str) -> Option<usize>
+    ensures { result ≡ seat_from all.now (length all.now) from key.now }
+{
+    let mut at = from;
+    for _ in 0..all.len() {
+        match all.get(at) {
+            Some(scope) => {
+                if scope.keys.contains_key(key) {
+                    return Some(at);
+                }
+                match scope.parent {
+                    Some(parent) => at = parent,
+                    None => return None,
+                }
+            }
+            None => return None,
         }
     }
-    false
+    None
 }
 
-/// Adds the keys of a scope that none of the inner ones has, by name.
+/// The name of the scope that has the value of a key that the focus sees, if it sees one.
+pub fn scope_of<'s>(scopes: &'s Scopes, key: &str) -> Option<&'s str>
+    ensures { option_map (λ name. name.now) result ≡ holder scopes.entry.now.seen key.now }
+{
+    let all = scopes.scopes();
+    match seat(all, scopes.focused(), key) {
+        Some(place) => match all.get(place) {
+            Some(scope) => Some(scope.name.as_str()),
+            None => None,
+        },
+        None => None,
+    }
+}
+
+/// What the focus sees of a key, if it sees it.
+fn seen_of<'s>(scopes: &'s Scopes, key: &'s str) -> Option<Seen<'s>>
+    ensures { IfSome result (IsSeen scopes.entry.now.seen) }
+{
+    match (scopes.get(key), scope_of(scopes, key)) {
+        (Some(value), Some(scope)) => Some(Seen { key, value, scope }),
+        _ => None,
+    }
+}
+
+/// Adds the keys of the scope at an index that none of the inner ones has, by name.
 fn add_keys<'s>(
     alloc: Global,
     scopes: &'s Scopes,
-    scope: &'s Scope,
-    inner: &[&'s Scope],
+    place: usize,
     seen: &mut Vec<Seen<'s>>,
 ) -> Result<(), NoMemory>
-    ensures { OnOk result (All (IsSeen (context scopes.entry.now.seen)) seen.old.items
-        → All (IsSeen (context scopes.entry.now.seen)) seen.new.items) }
+    ensures { OnOk result (All (IsSeen scopes.entry.now.seen) seen.old.items
+        → All (IsSeen scopes.entry.now.seen) seen.new.items) }
 {
+    let Some(scope) = scopes.scopes().get(place) else {
+        return Ok(());
+    };
     let mut keys = scope.keys.keys(alloc)?;
     keys.sort_unstable();
     for key in keys {
-        if has_key(inner, key) {
+        if seat(scopes.scopes(), scopes.focused(), key) != Some(place) {
             continue;
         }
-        if let Some(value) = scopes.get(key) {
-            seen.push(Seen {
-                key,
-                value,
-                scope: scope.name.as_str(),
-            })?;
+        if let Some(one) = seen_of(scopes, key) {
+            seen.push(one)?;
         }
     }
     Ok(())
 }
 
-/// The scopes from the focused one outward.
-fn path<'s>(alloc: Global, scopes: &'s Scopes) -> Result<Vec<&'s Scope>, NoMemory> {
-    let all = scopes.scopes();
-    let mut path = Vec::new(alloc);
-    let mut at = Some(scopes.focused());
-    for _ in 0..all.len() {
-        let Some(place) = at else {
-            return Ok(path);
-        };
-        let Some(scope) = all.get(place) else {
-            return Ok(path);
-        };
-        path.push(scope)?;
-        at = scope.parent;
-    }
-    Ok(path)
-}
-
 /// The context keys that the focus sees, those of the innermost scope first, and of one scope by name. Error:
 /// `NoMemory`.
 pub fn keys_seen<'s>(alloc: Global, scopes: &'s Scopes) -> Result<Vec<Seen<'s>>, NoMemory>
-    // The focus sees each key with its value.
-    ensures { IfOk result (λ made. All (IsSeen (context scopes.entry.now.seen)) made.items) }
+    // The focus sees each key with its value, which is that of the scope.
+    ensures { IfOk result (λ made. All (IsSeen scopes.entry.now.seen) made.items) }
 {
-    let mut inner = Vec::new(alloc);
     let mut made = Vec::new(alloc);
-    for scope in path(alloc, scopes)? {
-        add_keys(alloc, scopes, scope, inner.as_slice(), &mut made)?;
-        inner.push(scope)?;
+    let mut at = Some(scopes.focused());
+    for _ in 0..scopes.scopes().len() {
+        let Some(place) = at else {
+            return Ok(made);
+        };
+        add_keys(alloc, scopes, place, &mut made)?;
+        at = parent_of(scopes.scopes(), place);
     }
     Ok(made)
 }
 
-/// The name of the scope that has the value of a key that the focus sees, if it sees one. Error: `NoMemory`.
-pub fn scope_of<'s>(
-    alloc: Global,
-    scopes: &'s Scopes,
-    key: &str,
-) -> Result<Option<&'s str>, NoMemory> {
-    for scope in path(alloc, scopes)? {
-        if scope.keys.contains_key(key) {
-            return Ok(Some(scope.name.as_str()));
-        }
+/// The index of the scope around the one at an index.
+fn parent_of(all: &[Scope], place: usize) -> Option<usize> {
+    match all.get(place) {
+        Some(scope) => scope.parent,
+        None => None,
     }
-    Ok(None)
 }

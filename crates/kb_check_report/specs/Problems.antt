@@ -1,6 +1,7 @@
--- What the problems of some files say of the load: they refuse exactly what it refuses, for the same fault, and
--- have each of its warnings once.
-use Rattle.std.specs.Prelude.{◌≡◌, ◌⊎◌, ◌↔◌, List, [], ◌∷◌, map, Bool, false, IsTrue, Option, Some, None, Ok, Err}
+-- What the problems of some files say of the load: they refuse exactly what it refuses, for the same fault,
+-- and have each of its warnings once.
+use Rattle.std.specs.Prelude.{◌≡◌, ◌⊎◌, ◌↔◌, List, [], ◌∷◌, map, Bool, false, IsTrue}
+use Rattle.std.specs.Prelude.{Option, Some, None, Ok, Err}
 use Rattle.std.specs.List.{All, filter_map}
 use Rattle.kb_base.specs.declared.failure.Failure.TheVariants.{Fault}
 use Rattle.kb_base.specs.declared.note.Warning.{Warning}
@@ -50,8 +51,8 @@ pub record TellsRefusal (files : Files) (problems : List Problem) : Type 0 where
   pub refuses : Loads files natives (Err (Fault fault))
   pub only : IsRefusal fault problems
 
--- the load accepts the files, its warnings are among the problems, each once and in their order, and each rule of
--- which a problem says that it can never start can't
+-- the load accepts the files, its warnings are among the problems, each once and in their order, and each
+-- rule of which a problem says that it can never start can't
 pub record TellsWarnings (files : Files) (problems : List Problem) : Type 0 where
   pub session : Seen
   pub accepts : Loads files natives (Ok session)

@@ -34,8 +34,8 @@ says_never (Refused file number) = false
 says_never (Warned warning) = false
 says_never (Linted lint) = is_never lint
 
--- the problem is in the file of a rule in force that no search chooses, as the laws of the lints say: a lower rule
--- takes its keystrokes, or the first of them, or has them and more
+-- the problem is in the file of a rule in force that no search chooses, as the laws of the lints say: a lower
+-- rule takes its keystrokes, or the first of them, or has them and more
 pub record NeverStarts (enablement : Enabling) (rules : List Rule) (problem : Problem) : Type 0 where
   pub position : ℕ
   pub by : ℕ

@@ -27,8 +27,8 @@ const HANDLER: [&str; 7] = [
 /// The known members of a parameter.
 const PARAM: [&str; 2] = ["name", "kind"];
 
-/// Adds the members of a layout and of its scopes that are next to known ones. The context keys of a scope may
-/// have any name.
+/// Adds the members of a layout and of its scopes that are next to known ones. The context keys of a scope
+/// may have any name.
 pub fn add_layout(
     alloc: Global,
     file: Option<SourceFile<'_>>,
@@ -51,7 +51,8 @@ pub fn add_layout(
     Ok(())
 }
 
-/// Adds the members of a file of handlers, of its handlers and of their parameters that are next to known ones.
+/// Adds the members of a file of handlers, of its handlers and of their parameters that are next to known
+/// ones.
 pub fn add_handlers(
     alloc: Global,
     name: LoadFile,

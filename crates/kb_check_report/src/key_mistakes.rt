@@ -1,7 +1,7 @@
 //! What is wrong with the text of keystrokes.
 use kb_base::NoMemory;
 use kb_keys::Keystroke;
-use kb_lints::{alias_of, is_near};
+use kb_lints::is_near;
 use std::alloc::Global;
 
 /// Long names of keys and modifiers, also those that people write otherwise, which are easily misspelled.
@@ -32,6 +32,39 @@ const NAMES: [&str; 25] = [
     "return",
     "option",
 ];
+
+/// The key name that people mean by another one.
+fn alias_of(name: &str) -> Option<&'static str> {
+    match name {
+        "esc" => Some("escape"),
+        "return" | "cr" => Some("enter"),
+        "del" => Some("delete"),
+        "ins" => Some("insert"),
+        "bs" | "back" => Some("backspace"),
+        "spacebar" => Some("space"),
+        "pgup" | "page_up" | "prior" => Some("pageup"),
+        "pgdn" | "pgdown" | "page_down" | "next" => Some("pagedown"),
+        "arrowleft" | "leftarrow" => Some("left"),
+        "arrowright" | "rightarrow" => Some("right"),
+        "arrowup" | "uparrow" => Some("up"),
+        "arrowdown" | "downarrow" => Some("down"),
+        "pause" | "break" => Some("pausebreak"),
+        "caps" => Some("capslock"),
+        "minus" | "hyphen" | "dash" => Some("-"),
+        "plus" | "equal" | "equals" => Some("="),
+        "comma" => Some(","),
+        "period" | "dot" => Some("."),
+        "slash" => Some("/"),
+        "backslash" => Some("\\"),
+        "semicolon" => Some(";"),
+        "quote" => Some("'"),
+        "backquote" | "backtick" | "grave" => Some("`"),
+        "option" | "opt" => Some("alt"),
+        "control" | "ctl" => Some("ctrl"),
+        "command" | "super" | "windows" => Some("meta"),
+        _ => None,
+    }
+}
 
 /// The name that is meant where one edit makes a known one of it.
 fn near_name(name: &str) -> Option<&'static str> {

@@ -155,8 +155,8 @@ fn sentence_of(alloc: Global, name: &str, wrong: &Wrong<'_>) -> Result<String, N
             "`keys` of the scope `{name}` has to be an object with the context keys"
         ),
         Wrong::Key(key) => format!(in alloc;
-            "the value of `{key}` in the scope `{name}` has to be true, false, a whole number, a text, a list of \
-                texts or an object"
+            "the value of `{key}` in the scope `{name}` has to be true, false, a whole number, a text, \
+                a list of texts or an object"
         ),
         Wrong::Repeated(name) => format!(in alloc; "an earlier scope has the name `{name}`"),
         Wrong::FirstWithParent => format!(in alloc;

@@ -1,7 +1,7 @@
 //! What a check of files says: why a load refuses them, its warnings, and lints, each with its place.
 //!
-//! [`find_problems`] loads the files by the engine's own calls, and gives each problem as a value. [`check`] also
-//! writes them, as text with the line of the file or as JSON.
+//! [`find_problems`] loads the files by the engine's own calls, and gives each problem as a value. [`check`]
+//! also writes them, as text with the line of the file or as JSON.
 #![tactic(auto)]
 
 pub mod cause;

@@ -133,8 +133,8 @@ fn add_no_list(
     ensures { OnOk result (never_said problems.new.items ≡ never_said problems.old.items) }
 {
     let sentence = format!(in alloc;
-        "the command `runCommands` takes an object whose member `commands` is a list of at most 32 commands; each \
-            is a text, or an object with `command` and `args`, and none is `runCommands`"
+        "the command `runCommands` takes an object whose member `commands` is a list of at most 32 \
+            commands; each is a text, or an object with `command` and `args`, and none is `runCommands`"
     )?;
     let problem = rule_problem(alloc, files, rule, Lint::WrongArguments, "args", sentence)?;
     push_other(problem, problems)?;

@@ -17,7 +17,8 @@ pub fn text_meaning(number: u32) -> &'static str {
 pub fn clause_meaning(number: u32) -> &'static str {
     match number {
         30 => {
-            "the clause has a part that is no token: a lone =, & or |, or a quote or a pattern without its end"
+            "the clause has a part that is no token: a lone =, & or |, or a quote or a pattern without \
+                its end"
         }
         31 => "the clause has a word or a sign, or ends, where the grammar doesn't allow it",
         32 => "more than 64 ( and ! enclose a part of the clause",

@@ -187,15 +187,15 @@ fn sentence_of(
         Taking::ButForOrder(place) => {
             let spot = spot_at(alloc, files, targets, place)?;
             format!(in alloc;
-                "this removal takes no rule: the clause of the rule at {spot} has its operands in another order; \
-                    write it as there"
+                "this removal takes no rule: the clause of the rule at {spot} has its operands in another \
+                    order; write it as there"
             )
         }
         Taking::OtherRule(place) => {
             let spot = spot_at(alloc, files, targets, place)?;
             format!(in alloc;
-                "this removal takes no rule: the rule of `{command}` at {spot} has other keystrokes or another \
-                    clause"
+                "this removal takes no rule: the rule of `{command}` at {spot} has other keystrokes or \
+                    another clause"
             )
         }
         Taking::NoRule | Taking::Rules => no_rule_sentence(alloc, command, known),
@@ -212,8 +212,8 @@ fn no_rule_sentence(
         && let Some(near) = known.near(command)
     {
         return format!(in alloc;
-            "this removal takes no rule: neither the default rules nor an extension have a rule of `{command}`; is \
-                `{near}` meant?"
+            "this removal takes no rule: neither the default rules nor an extension have a rule of \
+                `{command}`; is `{near}` meant?"
         );
     }
     format!(in alloc;

@@ -265,11 +265,12 @@ fn extended_sentence(
     let keys = by.chord.text(alloc)?;
     match &by.when {
         None => format!(in alloc;
-            "this rule can never start: its keystrokes open the chord {keys} of the rule at {spot}, which has no clause"
+            "this rule can never start: its keystrokes open the chord {keys} of the rule at {spot}, \
+                which has no clause"
         ),
         Some(_) => format!(in alloc;
-            "this rule can never start: its keystrokes open the chord {keys} of the rule at {spot}, which has the same \
-                clause"
+            "this rule can never start: its keystrokes open the chord {keys} of the rule at {spot}, \
+                which has the same clause"
         ),
     }
 }

@@ -71,15 +71,18 @@ module _ {X : Type 0} (f : X → Rule) (pressed : List Keystroke) (keys : Keys) 
 module _ (keys : Keys) (en : Enabling) (rule : Rule) (found : Option Cause) (when : Option MarkedClause)
     (w : when ≡ rule.when) (h : is_none found ≡ when_holds keys when) where
   pub clause_is_obstacle : (c : Cause) → found ≡ Some c → IsCauseOf keys when (option_map cause_data found)
-      → Fails keys (option_map cause_data found) → IsFirstObstacle keys en rule (Some (Clause c))
+      → Fails keys when (option_map cause_data found) → IsFirstObstacle keys en rule (Some (Clause c))
   clause_is_obstacle c e a f =
       let fails : when_holds keys rule.when ≡ false =
       ap (when_holds keys) (sym w) ∙ sym h ∙ ap is_none e in
       let cause : IsCauseOf keys rule.when (Some (cause_data c)) =
       subst (λ (o : Option MarkedClause). IsCauseOf keys o (Some (cause_data c))) w
-      (subst (λ (o : Option Cause). IsCauseOf keys when (option_map cause_data o)) e a) in (
+      (subst (λ (o : Option Cause). IsCauseOf keys when (option_map cause_data o)) e a) in
+      let shown : Fails keys rule.when (Some (cause_data c)) =
+      subst (λ (o : Option MarkedClause). Fails keys o (Some (cause_data c))) w
+      (subst (λ (o : Option Cause). Fails keys when (option_map cause_data o)) e f) in (
         ap (λ (b : Bool). b && when_holds keys (en rule.command)) fails,
-        (cause, fails, subst (λ (o : Option Cause). Fails keys (option_map cause_data o)) e f),
+        (cause, fails, shown),
       )
 
   pub clause_holds : found ≡ None → when_holds keys rule.when ≡ true
@@ -89,15 +92,18 @@ module _ (keys : Keys) (en : Enabling) (rule : Rule) (holds : when_holds keys ru
     (found : Option Cause) (enablement : Option MarkedClause) (w : enablement ≡ en rule.command)
     (h : is_none found ≡ when_holds keys enablement) where
   pub enablement_is_obstacle : (c : Cause) → found ≡ Some c → IsCauseOf keys enablement (option_map cause_data found)
-      → Fails keys (option_map cause_data found) → IsFirstObstacle keys en rule (Some (Enablement c))
+      → Fails keys enablement (option_map cause_data found) → IsFirstObstacle keys en rule (Some (Enablement c))
   enablement_is_obstacle c e a f =
       let fails : when_holds keys (en rule.command) ≡ false =
       ap (when_holds keys) (sym w) ∙ sym h ∙ ap is_none e in
       let cause : IsCauseOf keys (en rule.command) (Some (cause_data c)) =
       subst (λ (o : Option MarkedClause). IsCauseOf keys o (Some (cause_data c))) w
-      (subst (λ (o : Option Cause). IsCauseOf keys enablement (option_map cause_data o)) e a) in (
+      (subst (λ (o : Option Cause). IsCauseOf keys enablement (option_map cause_data o)) e a) in
+      let shown : Fails keys (en rule.command) (Some (cause_data c)) =
+      subst (λ (o : Option MarkedClause). Fails keys o (Some (cause_data c))) w
+      (subst (λ (o : Option Cause). Fails keys enablement (option_map cause_data o)) e f) in (
         (λ i. holds i && fails i),
-        (holds, cause, fails, subst (λ (o : Option Cause). Fails keys (option_map cause_data o)) e f),
+        (holds, cause, fails, shown),
       )
 
   pub no_obstacle : found ≡ None → may_start keys en rule ≡ true

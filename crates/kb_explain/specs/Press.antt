@@ -27,10 +27,11 @@ passed_over pressed keys enablement rules =
 abbrev pub IsObstacle : Keys → Enabling → Rule → Obstacle → Type 0
 IsObstacle keys enablement rule (Clause c) =
     IsCauseOf keys rule.when (Some (cause_data c)) × (when_holds keys rule.when ≡ false)
-    × Fails keys (Some (cause_data c))
+    × Fails keys rule.when (Some (cause_data c))
 IsObstacle keys enablement rule (Enablement c) =
     (when_holds keys rule.when ≡ true) × IsCauseOf keys (enablement rule.command) (Some (cause_data c))
-    × (when_holds keys (enablement rule.command) ≡ false) × Fails keys (Some (cause_data c))
+    × (when_holds keys (enablement rule.command) ≡ false)
+    × Fails keys (enablement rule.command) (Some (cause_data c))
 
 -- what is said of the rule that is passed over is so
 abbrev pub IsRightlyPassed : Keys → Enabling → Passed → Type 0

@@ -7,4 +7,4 @@ pub mod removed;
 
 pub use palette::{Unlisted, why_unlisted};
 pub use press::{Explained, Obstacle, Passed, explain};
-pub use removed::{Placed, Removed, removals, rules_removed};
+pub use removed::{Placed, Removed, rules_removed};

@@ -1,7 +1,7 @@
 //! Why the palette doesn't list a command.
 use kb_base::NoMemory;
 use kb_bindings::Bindings;
-use kb_causes::{Cause, cause_in};
+use kb_causes::{Cause, cause_in, first_shown};
 use kb_context::Scopes;
 use kb_files::Extension;
 use kb_palette::{History, PaletteCommand, list};
@@ -17,7 +17,8 @@ pub enum Unlisted<'s> {
     NotContributed,
     /// The first extension that contributes it isn't enabled, and no enabled one does.
     ExtensionDisabled(&'s str),
-    /// Items of the palette name it, and none of them holds; this is why the first doesn't.
+    /// Items of the palette name it, and none of them holds; this is why the first doesn't that may hold in
+    /// some context.
     NoItemHolds(Cause<'s>),
     /// Its enablement fails.
     IsDisabled(Cause<'s>),
@@ -25,7 +26,7 @@ pub enum Unlisted<'s> {
     NoWord(&'s str),
 }
 
-/// Why the first of these items doesn't hold, if none holds; none without items.
+/// Why none of these items holds, if none does: the first literal among their causes; none without items.
 fn cause_of_items<'s>(
     alloc: Global,
     items: &'s [Option<SharedClause>],
@@ -40,7 +41,7 @@ fn cause_of_items<'s>(
         if found.is_none() {
             return Ok(None);
         }
-        first = first.or(found);
+        first = first_shown(first, found);
     }
     Ok(first)
 }

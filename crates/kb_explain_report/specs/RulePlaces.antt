@@ -1,15 +1,19 @@
 -- Where the elements of files of rules stand.
-use Rattle.std.specs.Prelude.{◌≡◌, ◌⊎◌, ◌++◌, ℕ, suc, List, [], ◌∷◌, Option, None, Some, codes, length, map, min}
+use Rattle.std.specs.Prelude.{◌≡◌, ◌⊎◌, ◌++◌, ℕ, suc, List, [], ◌∷◌, Bool, false, if◌then◌else◌}
+use Rattle.std.specs.Prelude.{Option, None, Some, codes, is_some, length, map, min}
 use Rattle.std.specs.Prelude.{option_and_then, option_map, slice_get, string_bytes, unwrap_or, Vec}
 use Rattle.std.specs.declared.alloc.Global.{Global}
+use Rattle.serde_json.specs.Data.{Data}
+use Rattle.serde_json.specs.Find.{as_object, get}
 use Rattle.serde_json.specs.View.{view}
 use Rattle.kb_base.specs.declared.note.Origin.{Origin}
 use Rattle.kb_base.specs.declared.note.Origin.TheVariants as origin
+use Rattle.kb_json.specs.Parts.{elements_of}
+use Rattle.kb_manifest.specs.Points.{entries_of}
 use Rattle.kb_places.specs.Open.{Opens}
-use Rattle.kb_places.specs.Place.{StandsAt}
+use Rattle.kb_places.specs.Place.{StandsAt, StepData, member, item, step_data}
 use Rattle.kb_places.specs.Position.{position_of}
 use Rattle.kb_places.specs.declared.path.Step as path
-use Rattle.kb_places.specs.declared.path.Step.TheVariants.{Member, Item}
 use Rattle.kb_places.specs.declared.position.Position.{Position}
 use Rattle.kb_places.specs.declared.source.Source.{Source}
 use Rattle.kb_places.specs.declared.span.Span.{Span}
@@ -20,29 +24,36 @@ use Rattle.kb_explain_report.specs.declared.rule_places.Home.{Home}
 use Rattle.kb_explain_report.specs.declared.rule_places.Home.TheVariants.{File, Manifest}
 use Rattle.kb_explain_report.specs.declared.rule_places.RulePlaces.{RulePlaces}
 
--- a step as plain data: the member of a name, or the item at a place
-pub data StepData : Type 0 where
-  member : List ℕ → StepData
-  item : ℕ → StepData
-
-abbrev pub step_data : path.Step → StepData
-step_data (Member name) = member name.now
-step_data (Item place) = item place
-
 -- the members that lead to the list of rules
 abbrev pub list_in : Home → List StepData
 list_in File = []
 list_in Manifest = member (codes "contributes") ∷ member (codes "keybindings") ∷ []
 
--- the path to the rule at a place: the item of the list, or what stands in place of the list
-abbrev pub LeadsTo : Home → ℕ → List StepData → Type 0
-LeadsTo home place steps = (steps ≡ list_in home ++ item place ∷ []) ⊎ (steps ≡ list_in home)
+-- the value of the member of a manifest that has its rules
+abbrev pub keybindings_of : Data → Option Data
+keybindings_of d = option_and_then (get (codes "keybindings")) (get (codes "contributes") d)
 
--- what is read from a part of a file is the rule at a place
+-- the rules of a file as the load finds them
+abbrev pub rules_held : Home → Data → Option (List Data)
+rules_held File d = elements_of d
+rules_held Manifest d = option_and_then entries_of (keybindings_of d)
+
+-- one object stands in place of the list of rules
+abbrev pub is_alone : Home → Data → Bool
+is_alone File d = false
+is_alone Manifest d = is_some (option_and_then as_object (keybindings_of d))
+
+-- the path to the rule at a place: the item of the list, or the object in place of the list
+abbrev pub path_to : Home → Data → ℕ → List StepData
+path_to home d place = if is_alone home d then list_in home else list_in home ++ item place ∷ []
+
+-- what is read from a part of a file is the rule at a place, and the part is that rule's own
 pub record IsRuleAt (source : Source) (home : Home) (place : ℕ) (span : Span) : Type 0 where
   pub steps : List path.Step
-  pub leads : LeadsTo home place (map step_data steps)
+  pub leads : map step_data steps ≡ path_to home (view source.value) place
   pub stands : StandsAt (string_bytes source.plain) (view source.value) steps span
+  pub is_rule : option_and_then (λ rules. slice_get rules place) (rules_held home (view source.value))
+      ≡ Some stands.held
 
 -- the rule at a place begins at a position
 pub record BeginsAt (source : Source) (home : Home) (place : ℕ) (position : Position) : Type 0 where
@@ -93,4 +104,5 @@ positions_in places origin.User = places.user.items
 
 -- the position of the rule at a place of a file, if it is known
 abbrev pub position_in : RulePlaces → Origin → ℕ → Option Position
-position_in places origin place = option_and_then (λ position. position) (slice_get (positions_in places origin) place)
+position_in places origin place =
+    option_and_then (λ position. position) (slice_get (positions_in places origin) place)

@@ -23,7 +23,7 @@ fn key_text(alloc: Global, key: &str, scopes: &Scopes) -> Result<String, NoMemor
         return format!(in alloc; "{key} has no value");
     };
     let value = value_text(alloc, value)?;
-    match scope_of(alloc, scopes, key)? {
+    match scope_of(scopes, key) {
         Some(scope) => format!(in alloc; "{key} is {value}, in scope {scope}"),
         None => format!(in alloc; "{key} is {value}"),
     }
@@ -35,7 +35,7 @@ fn key_json(alloc: Global, key: &str, scopes: &Scopes) -> Result<Value, NoMemory
         return json!(in alloc; {"key": key});
     };
     let value = value_json(alloc, value)?;
-    match scope_of(alloc, scopes, key)? {
+    match scope_of(scopes, key) {
         Some(scope) => json!(in alloc; {"key": key, "value": value, "scope": scope}),
         None => json!(in alloc; {"key": key, "value": value}),
     }

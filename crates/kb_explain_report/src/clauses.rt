@@ -182,7 +182,7 @@ fn write_tree(tree: &Tree, around: Around, text: &mut String) -> Result<(), NoMe
 
 /// A clause as a text that reads as the same tree: with one blank round each sign, without parentheses that
 /// it doesn't need. Error: `NoMemory`.
-pub fn clause_text(alloc: Global, clause: &Clause) -> Result<String, NoMemory> {
+pub(crate) fn clause_text(alloc: Global, clause: &Clause) -> Result<String, NoMemory> {
     let mut text = String::new(alloc);
     write_tree(clause.tree(), Around::Nothing, &mut text)?;
     Ok(text)

@@ -56,27 +56,46 @@ fn say_one<W: Write>(
     form: Form,
     out: &mut W,
 ) -> Result<(), Stop> {
+    match form {
+        Form::Text => say_text(dropped_text(alloc, named, warning, keys)?, out),
+        Form::Json => say_object(alloc, dropped_json(alloc, named, warning, keys)?, out),
+    }
+}
+
+/// That an element was dropped, in words.
+fn dropped_text(
+    alloc: Global,
+    named: &Named<'_>,
+    warning: &Warning,
+    keys: Option<&str>,
+) -> Result<String, NoMemory> {
+    let place = place_text(alloc, named, warning.origin, warning.place)?;
+    let source = named.bindings.source(warning.origin);
     let number = warning.number;
     let name = fault_name(number);
-    let keys = keys.unwrap_or("");
-    match form {
-        Form::Text => {
-            let place = place_text(alloc, named, warning.origin, warning.place)?;
-            let source = named.bindings.source(warning.origin);
-            let text = format!(in alloc;
-                "{place}: {source}: {keys}: is dropped, for {number} {name}"
-            )?;
-            say_text(text, out)
-        }
-        Form::Json => {
-            let place = place_json(alloc, named, warning.origin, warning.place)?;
-            let number = number as u64;
-            let rule = json!(in alloc; {"keys": keys, "place": place})?;
-            let object = json!(in alloc;
-                {"rule": rule, "verdict": "dropped", "number": number, "name": name})?;
-            say_object(alloc, object, out)
-        }
+    match keys {
+        Some(keys) => format!(in alloc;
+            "{place}: {source}: {keys}: is dropped, for {number} {name}"
+        ),
+        None => format!(in alloc; "{place}: {source}: is dropped, for {number} {name}"),
     }
+}
+
+/// That an element was dropped, as JSON.
+fn dropped_json(
+    alloc: Global,
+    named: &Named<'_>,
+    warning: &Warning,
+    keys: Option<&str>,
+) -> Result<Value, NoMemory> {
+    let place = place_json(alloc, named, warning.origin, warning.place)?;
+    let number = warning.number as u64;
+    let name = fault_name(warning.number);
+    let rule = match keys {
+        Some(keys) => json!(in alloc; {"keys": keys, "place": place})?,
+        None => json!(in alloc; {"place": place})?,
+    };
+    json!(in alloc; {"rule": rule, "verdict": "dropped", "number": number, "name": name})
 }
 
 /// Whether an element was dropped for its fault.
@@ -119,6 +138,23 @@ fn has_dropped(list: &RuleList) -> bool {
     false
 }
 
+/// Writes a line for each dropped element of a list that is in no file. Its keystrokes aren't known, so that
+/// it may be meant for any.
+fn say_without_keys<W: Write>(
+    alloc: Global,
+    named: &Named<'_>,
+    warnings: &[Warning],
+    form: Form,
+    out: &mut W,
+) -> Result<(), Stop> {
+    for warning in warnings {
+        if is_dropped(warning) {
+            say_one(alloc, named, warning, None, form, out)?;
+        }
+    }
+    Ok(())
+}
+
 /// Writes a line for each dropped element of a list that may be meant for these keystrokes.
 fn say_of_list<W: Write>(
     alloc: Global,
@@ -133,7 +169,7 @@ fn say_of_list<W: Write>(
         return Ok(());
     }
     let Some(file) = named.files.file_of_origin(origin) else {
-        return Ok(());
+        return say_without_keys(alloc, named, list.warnings(), form, out);
     };
     match open(alloc, file.bytes)? {
         Ok(source) => say_of_source(alloc, named, &source, list.warnings(), strokes, form, out),

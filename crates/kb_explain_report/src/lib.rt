@@ -3,7 +3,7 @@
 #![tactic(auto)]
 
 pub mod cause_said;
-pub mod clauses;
+mod clauses;
 pub mod context_said;
 pub mod dropped_said;
 pub mod list_said;
@@ -16,7 +16,6 @@ pub mod rule_said;
 pub mod trace_said;
 pub mod value_said;
 
-pub use clauses::clause_text;
 pub use context_said::say_context;
 pub use list_said::say_rules;
 pub use output::{Form, Stop};

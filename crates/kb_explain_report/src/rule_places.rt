@@ -1,12 +1,19 @@
 //! Where the key rules of all files stand.
-ghost use Rattle.std.specs.Prelude.{◌≡◌, IfOk, IfSome, length, min, option_map};
+ghost use Rattle.std.specs.Prelude.{◌≡◌, IfOk, IfSome, IsTrue, is_some, length, min};
+ghost use Rattle.std.specs.Prelude.{option_and_then, option_map, true};
+ghost use Rattle.serde_json.specs.Find.{as_object};
+ghost use Rattle.serde_json.specs.View.{view};
+ghost use Rattle.kb_places.specs.Place.{at_path};
 ghost use Rattle.kb_places.specs.Position.{position_of};
 ghost use Rattle.kb_explain_report.specs.RulePlaces.{ArePlaced, ArePlacedFrom, ArePlacedIn, ArePlacedInAll};
 ghost use Rattle.kb_explain_report.specs.RulePlaces.{ArePlaces, IsRuleAt, position_in, positions_in};
 
 use kb_base::{NoMemory, Origin};
-use kb_places::{Position, Source, Span, Step, Walker, items, last_member, members, open};
+use kb_places::{
+    Position, Source, Span, Step, Walker, items, last_member, members, open, value_at,
+};
 use kb_source_files::{ExtensionSource, SourceFile, SourceFiles};
+use serde_json::Value;
 use std::alloc::Global;
 
 /// What a list of rules is in.
@@ -59,6 +66,7 @@ fn list_at(alloc: Global, source: &Source<'_>, home: Home) -> Result<Option<Span
 }
 
 /// The part of a file, if it is the rule at a place of its list.
+#[tactic(auto, using(crate::proofs::RulePlacesLemmas::file_stands, crate::proofs::RulePlacesLemmas::manifest_stands))]
 fn rule_at(
     alloc: Global,
     source: &Source<'_>,
@@ -84,7 +92,18 @@ fn rule_at(
     }
 }
 
+/// Whether there is an object at a path.
+fn is_object_at(value: &Value, path: &[Step<'_>]) -> bool
+    ensures { IsTrue result → is_some (option_and_then as_object (at_path path.now (view value.now))) ≡ true }
+{
+    match value_at(value, path) {
+        Some(found) => found.is_object(),
+        None => false,
+    }
+}
+
 /// The part of a file, if it is the one rule that stands in place of the list.
+#[tactic(auto, using(crate::proofs::RulePlacesLemmas::lone_stands))]
 fn lone_rule_at(
     alloc: Global,
     source: &Source<'_>,
@@ -97,7 +116,11 @@ fn lone_rule_at(
         Home::File => Ok(None),
         Home::Manifest => {
             let path = [Step::Member("contributes"), Step::Member("keybindings")];
-            source.place(alloc, path.as_slice(), span)
+            if is_object_at(source.value(), path.as_slice()) {
+                source.place(alloc, path.as_slice(), span)
+            } else {
+                Ok(None)
+            }
         }
     }
 }

@@ -19,7 +19,8 @@ pub struct Named<'s> {
     pub places: &'s RulePlaces,
 }
 
-/// The path of a file of rules, as messages name it. Only rules of a script's reload are in force without a file.
+/// The path of a file of rules, as messages name it. Only rules of a script's reload are in force without a
+/// file.
 fn path_of<'s>(files: &SourceFiles<'s>, origin: Origin) -> &'s str {
     match files.file_of_origin(origin) {
         Some(file) => file.path,

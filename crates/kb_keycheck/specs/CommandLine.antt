@@ -2,7 +2,8 @@
 use Rattle.std.specs.Prelude.{◌≡◌, ℕ, true, false, List, [], ◌∷◌, Option, Some, None, Result, Err}
 use Rattle.std.specs.Prelude.{MatchResult, codes, map, option_map, unwrap_or, find, bytes_eq}
 use Rattle.std.specs.Borrow.{Bor}
-use Rattle.clap.specs.Words.{App, Rule, Row, Shape, Text, all_of, first_of, fault_of, kind_of, takes, HasKind, one_of}
+use Rattle.clap.specs.Words.{App, Rule, Row, Shape, Text, all_of, first_of, fault_of, kind_of}
+use Rattle.clap.specs.Words.{takes, HasKind, one_of}
 use Rattle.clap.specs.Words.{new_app, new_rule, subcommand_of, subcommand_rows_of, with_rule, with_subcommand}
 use Rattle.clap.specs.declared.builder.action.ArgAction.TheVariants.{Append, SetTrue}
 use Rattle.clap.specs.declared.builder.command.Command.{Command}
@@ -67,7 +68,8 @@ check_app platforms lints = with_files (with_rule (with_rule (new_app (codes "ch
 
 -- `explain KEY FILES [--script F]`
 abbrev pub explain_app : Bor (List (Bor Text)) → App
-explain_app platforms = with_script (with_rule (new_app (codes "explain")) (word_rule (codes "key"))) platforms
+explain_app platforms =
+    with_script (with_rule (new_app (codes "explain")) (word_rule (codes "key"))) platforms
 
 -- `list [--key KEY] FILES [--script F]`
 abbrev pub list_app : Bor (List (Bor Text)) → App
@@ -100,8 +102,9 @@ keycheck_app platforms lints = with_subcommand (with_subcommand (with_subcommand
 
 -- ---- what the words mean
 
--- what clap may return for the words: the subcommand with its matches that its meaning gives, or an error of a
--- kind that its meaning gives. Memory may also be refused, and words that the meaning accepts have no other error
+-- what clap may return for the words: the subcommand with its matches that its meaning gives, or an error of
+-- a kind that its meaning gives. Memory may also be refused, and words that the meaning accepts have no other
+-- error
 abbrev pub Matched : App → List Text → Result ArgMatches Error → Type 0
 Matched app words r = MatchResult r
     (λ m. (fault_of app words ≡ []) × (subcommand_rows_of m ≡ subcommand_of app words))

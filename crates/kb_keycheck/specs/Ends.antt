@@ -87,8 +87,8 @@ StopsChecking held given (Run (run.Script fault)) = ⊥
 StopsChecking held given (Run run.NoMemory) = ⊤
 StopsChecking held given NotWritten = AreRead held given
 
--- all files were read, and the load's own answer for them, with each lint that isn't silenced or is asked for,
--- has no problem exactly if the check says so
+-- all files were read, and the load's own answer for them, with each lint that isn't silenced or is asked
+-- for, has no problem exactly if the check says so
 pub record AreChecked (held : List ℕ → Held) (given : Options) (allowed asked : List Text) (clean : Bool)
     : Type 0 where
   pub files : Files
@@ -209,8 +209,8 @@ DoesCommand command.Check rows status = Checks rows status
 DoesCommand (command.Ask topic) rows status = Answers topic rows status
 DoesCommand command.Handlers rows status = Handles rows status
 
--- what the program does with the arguments of a command; 4 also if memory was refused before. A line without a
--- known command has the status 2
+-- what the program does with the arguments of a command; 4 also if memory was refused before. A line without
+-- a known command has the status 2
 abbrev pub Does : Option Subcommand → List Row → ℕ → Type 0
 Does None rows status = status ≡ 2
 Does (Some c) rows status = (status ≡ 4) ⊎ DoesCommand c rows status

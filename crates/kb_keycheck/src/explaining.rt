@@ -232,8 +232,8 @@ fn explain_next<'a, W: Write>(
     explain_press(alloc, session, &*files, &places, strokes, form, out)
 }
 
-/// Presses all of these keystrokes but the last, writes why the last does what it does, presses it, and writes
-/// what the trace gains.
+/// Presses all of these keystrokes but the last, writes why the last does what it does, presses it, and
+/// writes what the trace gains.
 fn explain<'a, W: Write>(
     alloc: Global,
     session: &mut Session<PlainCommand>,

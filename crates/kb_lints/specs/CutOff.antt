@@ -15,8 +15,8 @@ pub record IsLonger (strokes : List Keystroke) (rule : Rule) : Type 0 where
   pub whole : rule.chord ≡ strokes ++ rest
   pub more : length strokes < length rule.chord
 
--- a rule at a position takes its keystrokes from another one at a place, if that has these and more: it is below
--- that one, and may start wherever that one may
+-- a rule at a position takes its keystrokes from another one at a place, if that has these and more: it is
+-- below that one, and may start wherever that one may
 abbrev pub IsTakenAt : Enabling → ℕ → Rule → ℕ → Rule → Type 0
 IsTakenAt enablement position rule place other =
     IsLonger rule.chord other → (place < position) × Covers enablement rule other
@@ -33,7 +33,8 @@ pub record IsTaking (enablement : Enabling) (rules : List Rule) (by : ℕ) : Typ
   pub at : slice_get rules by ≡ Some lower
   pub takes_all : TakesAll enablement rules by lower
 
--- the rule at a position has the keystrokes of a lower one and more, and that one takes them from all such rules
+-- the rule at a position has the keystrokes of a lower one and more, and that one takes them from all such
+-- rules
 pub record IsCutOff (enablement : Enabling) (rules : List Rule) (position by : ℕ) : Type 0 where
   pub rule : Rule
   pub lower : Rule
@@ -45,12 +46,13 @@ pub record IsCutOff (enablement : Enabling) (rules : List Rule) (position by : �
 
 -- pressed keystrokes that wait for more: each of their beginnings opened or kept a chord in some context
 abbrev pub Wait : Enabling → List Rule → List Keystroke → Type 0
-Wait enablement rules pressed = (strokes after : List Keystroke) → pressed ≡ strokes ++ after → 0 < length strokes
-    → (keys : Keys) × IsGreatest strokes keys enablement rules more
+Wait enablement rules pressed = (strokes after : List Keystroke) → pressed ≡ strokes ++ after
+    → 0 < length strokes → (keys : Keys) × IsGreatest strokes keys enablement rules more
 
 -- in no state that key presses lead to, and in no context, the next keystroke finds a rule that is cut off
 abbrev pub CutOffNeverStart : Type 0
 CutOffNeverStart = (enablement : Enabling) (rules : List Rule) (position by : ℕ)
     → IsCutOff enablement rules position by → (pressed : List Keystroke) (key : Keystroke) (keys : Keys)
-    → Wait enablement rules pressed → (chosen : IsChosenAt enablement rules position (pressed ++ key ∷ []) keys)
+    → Wait enablement rules pressed
+    → (chosen : IsChosenAt enablement rules position (pressed ++ key ∷ []) keys)
     → ¬ (chosen.rule.chord ≡ pressed ++ key ∷ [])

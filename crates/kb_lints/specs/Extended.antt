@@ -8,8 +8,8 @@ use Rattle.kb_lints.specs.Condition.{Covers}
 use Rattle.kb_lints.specs.CutOff.{IsLonger}
 use Rattle.kb_lints.specs.Shadow.{IsChosenAt}
 
--- the rule at a position has a lower one at another position, with its keystrokes and more, that may start wherever
--- it may
+-- the rule at a position has a lower one at another position, with its keystrokes and more, that may start
+-- wherever it may
 pub record IsExtended (enablement : Enabling) (rules : List Rule) (position by : ℕ) : Type 0 where
   pub rule : Rule
   pub lower : Rule

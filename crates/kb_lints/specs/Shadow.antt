@@ -7,8 +7,8 @@ use Rattle.kb_resolve.specs.Resolver.{IsLastMatch}
 use Rattle.kb_rules.specs.declared.rule.Rule.{Rule}
 use Rattle.kb_lints.specs.Condition.{Covers}
 
--- the rule at a position has a lower one at another position, with the same keystrokes, that may start wherever
--- it may
+-- the rule at a position has a lower one at another position, with the same keystrokes, that may start
+-- wherever it may
 pub record IsShadowed (enablement : Enabling) (rules : List Rule) (position by : ℕ) : Type 0 where
   pub rule : Rule
   pub lower : Rule

@@ -1,5 +1,6 @@
 //! Rules that can never start, since the first of their keystrokes never open a chord.
-ghost use Rattle.std.specs.Prelude.{◌≡◌, ◌↔◌, ℕ, All, IfOk, IfSome, IsTrue, OnOk, Some, map, option_map, slice_get};
+ghost use Rattle.std.specs.Prelude.{◌≡◌, ◌↔◌, ℕ, All, IfOk, IfSome, IsTrue, OnOk, Some};
+ghost use Rattle.std.specs.Prelude.{map, option_map, slice_get};
 ghost use Rattle.kb_resolve.specs.Enablements.{enablement_in};
 ghost use Rattle.kb_lints.specs.CutOff.{IsCutOff, IsLonger, IsTakenAt, IsTaking, TakesAll};
 
@@ -15,8 +16,8 @@ use std::rc::Rc;
 /// The most keystrokes that are found to be taken (each is asked of all rules).
 const LIMIT: usize = 200;
 
-/// A rule that can never start, and one that takes its first keystrokes, by their positions among the rules in
-/// force.
+/// A rule that can never start, and one that takes its first keystrokes, by their positions among the rules
+/// in force.
 #[derive(Clone, Copy, Debug, PartialEq, Eq)]
 pub struct CutOff {
     /// The position of the rule.
@@ -28,15 +29,16 @@ pub struct CutOff {
 /// The lowest rule of each beginning of longer keystrokes.
 type Longer = HashMap<String, usize>;
 
-/// The positions of the rules that take the beginnings of longer keystrokes, and where they are found by these.
+/// The positions of the rules that take the beginnings of longer keystrokes, and where they are found by
+/// these.
 #[derive(Drop)]
 struct Taking {
     positions: Vec<usize>,
     by_keys: HashMap<String, usize>,
 }
 
-/// The rules that can never start, from the top down: a lower rule has the first of their keystrokes alone, and
-/// may start whenever any rule may that these keystrokes begin, all of which are above it.
+/// The rules that can never start, from the top down: a lower rule has the first of their keystrokes alone,
+/// and may start whenever any rule may that these keystrokes begin, all of which are above it.
 pub fn cut_off(
     alloc: Global,
     rules: &[Rc<Rule>],
@@ -164,8 +166,8 @@ pub(crate) fn is_longer(rule: &Rule, other: &Rule) -> bool
     rule.chord.len() > other.chord.len() && rule.chord.begins_with(other.chord.as_slice())
 }
 
-/// Whether a rule takes its keystrokes from another one, if that has these and more: the other one's place is above
-/// its position, and the rule may start whenever the other one may.
+/// Whether a rule takes its keystrokes from another one, if that has these and more: the other one's place is
+/// above its position, and the rule may start whenever the other one may.
 fn is_taken(
     other: &Rule,
     place: usize,

@@ -1,5 +1,5 @@
 //! When a rule may start wherever another one may.
-ghost use Rattle.std.specs.Prelude.{◌≡◌, ◌&&◌, IsTrue, true, is_none};
+ghost use Rattle.std.specs.Prelude.{◌≡◌, IsTrue, true};
 ghost use Rattle.kb_context.specs.Scopes.{Keys};
 ghost use Rattle.kb_resolve.specs.Enablements.{enablement_in};
 ghost use Rattle.kb_when.specs.Marks.{when_holds};
@@ -9,8 +9,8 @@ use kb_resolve::Enablements;
 use kb_rules::Rule;
 use kb_when::Clause;
 
-/// Whether both clauses have the same tree, and none of their patterns is unread. An unread pattern is a problem
-/// of its own, so that its clause isn't compared.
+/// Whether both clauses have the same tree, and none of their patterns is unread. An unread pattern is a
+/// problem of its own, so that its clause isn't compared.
 fn same_clause(one: &Clause, other: &Clause) -> bool
     ensures { IsTrue result → one.now ≡ other.now }
 {
@@ -45,12 +45,4 @@ pub fn covers(rule: &Rule, other: &Rule, enablements: &Enablements) -> bool
     ensures { IsTrue result → Covers (enablement_in enablements.now) rule.now other.now }
 {
     covers_when(&rule.when, &other.when) && covers_command(rule, other, enablements)
-}
-
-/// Whether nothing but its keystrokes decides about a rule: it has no clause, and its command has no enablement.
-pub fn is_unconditional(rule: &Rule, enablements: &Enablements) -> bool
-    ensures { result ≡ (is_none rule.now.when
-        && is_none (enablement_in enablements.now rule.now.command)) }
-{
-    rule.when.is_none() && enablements.of(rule.command.as_str()).is_none()
 }

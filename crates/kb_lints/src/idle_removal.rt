@@ -116,8 +116,10 @@ fn text_of(alloc: Global, removal: &Removal) -> Result<String, NoMemory> {
 }
 
 impl RuleTargets {
-    /// These rules.
-    pub fn new(alloc: Global, rules: Vec<Rc<Rule>>) -> Result<RuleTargets, NoMemory> {
+    /// These rules. Error: `NoMemory`.
+    pub fn new(alloc: Global, rules: Vec<Rc<Rule>>) -> Result<RuleTargets, NoMemory>
+        ensures { IfOk result (λ targets. targets.rules ≡ rules) }
+    {
         let table = table_of(alloc, rules.as_slice())?;
         let sorted = sorted_of(alloc, rules.as_slice())?;
         Ok(RuleTargets {
@@ -130,7 +132,8 @@ impl RuleTargets {
 
     /// The rule at a place.
     pub fn at(&self, place: usize) -> Option<&Rc<Rule>>
-        ensures { option_map (λ r. r.now.value) result ≡ slice_get (map (λ r. r.value) self.now.rules.items) place }
+        ensures { option_map (λ r. r.now.value) result
+            ≡ slice_get (map (λ r. r.value) self.now.rules.items) place }
     {
         self.rules.as_slice().get(place)
     }
@@ -166,7 +169,8 @@ impl RuleTargets {
 
     /// Whether a removal takes one of the rules under the text of what it names.
     fn takes_of(&self, removal: &Removal, text: &str) -> bool
-        ensures { IsTrue result → (place : ℕ) × TakesAt removal.now (map (λ r. r.value) self.now.rules.items) place }
+        ensures { IsTrue result → (place : ℕ)
+            × TakesAt removal.now (map (λ r. r.value) self.now.rules.items) place }
     {
         match self.table.get(text) {
             Some(places) => takes_one(removal, self.rules.as_slice(), places.as_slice()),

@@ -13,8 +13,8 @@ pub fn cut_off_never_start()
     ensures { CutOffNeverStart }
 {}
 
-/// A rule whose keystrokes a lower one extends is never chosen by a search, whatever is pressed and whatever the
-/// context.
+/// A rule whose keystrokes a lower one extends is never chosen by a search, whatever is pressed and whatever
+/// the context.
 pub fn extended_never_start()
     ensures { ExtendedNeverStart }
 {}

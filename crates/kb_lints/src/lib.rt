@@ -1,7 +1,7 @@
 //! Lints on key rules: rules that can never start, removals that take nothing, names next to known ones.
 //!
-//! They are about the rules in force as the engine's own search sees them. Where a lint says that a rule can never
-//! start, its contract says so of every context.
+//! They are about the rules in force as the engine's own search sees them. Where a lint says that a rule can
+//! never start, its contract says so of every context.
 #![tactic(auto)]
 
 pub mod chords;
@@ -12,12 +12,11 @@ pub mod longer;
 pub mod near;
 mod seen;
 pub mod shadow;
-pub mod spelling;
+mod spelling;
 
 pub use chords::{CutOff, cut_off};
-pub use condition::{covers, is_unconditional};
+pub use condition::covers;
 pub use idle_removal::{RuleTargets, Taking};
 pub use longer::{Extended, extended_rules};
-pub use near::{alias_of, is_near};
+pub use near::is_near;
 pub use shadow::{Shadowed, never_start};
-pub use spelling::{Operands, write_clause};

@@ -13,8 +13,8 @@ use kb_rules::Rule;
 use std::alloc::Global;
 use std::rc::Rc;
 
-/// A rule that can never start, and one that has its keystrokes and more, by their positions among the rules in
-/// force.
+/// A rule that can never start, and one that has its keystrokes and more, by their positions among the rules
+/// in force.
 #[derive(Clone, Copy, Debug, PartialEq, Eq)]
 pub struct Extended {
     /// The position of the rule.
@@ -23,9 +23,9 @@ pub struct Extended {
     pub by: usize,
 }
 
-/// The rules that can never start, from the bottom to the top: each has a lower rule with its keystrokes and more
-/// that may start whenever it may, so that its keystrokes only open that rule's chord. Of several of them one
-/// without a clause is named before one with the same clause.
+/// The rules that can never start, from the bottom to the top: each has a lower rule with its keystrokes and
+/// more that may start whenever it may, so that its keystrokes only open that rule's chord. Of several of
+/// them one without a clause is named before one with the same clause.
 pub fn extended_rules(
     alloc: Global,
     rules: &[Rc<Rule>],
@@ -44,8 +44,8 @@ pub fn extended_rules(
     Ok(found)
 }
 
-/// The lower rule that extends the keystrokes of the rule at a position. Without one the rule is noted under the
-/// beginnings of its keystrokes.
+/// The lower rule that extends the keystrokes of the rule at a position. Without one the rule is noted under
+/// the beginnings of its keystrokes.
 fn note(
     alloc: Global,
     rules: &[Rc<Rule>],
@@ -82,15 +82,16 @@ fn guess(
     seen.covering(keys.as_str(), conditions)
 }
 
-/// A lower position, if its rule has the keystrokes of the rule at a position and more, and may start whenever that
-/// one may.
+/// A lower position, if its rule has the keystrokes of the rule at a position and more, and may start
+/// whenever that one may.
 fn extending(
     rules: &[Rc<Rule>],
     position: usize,
     enablements: &Enablements,
     by: Option<usize>,
 ) -> Option<usize>
-    ensures { IfSome result (IsExtended (enablement_in enablements.now) (map (λ r. r.value) rules.now) position) }
+    ensures { IfSome result
+        (IsExtended (enablement_in enablements.now) (map (λ r. r.value) rules.now) position) }
 {
     let by = by?;
     let rule = rules.get(position)?;

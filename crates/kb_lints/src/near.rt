@@ -1,38 +1,5 @@
 //! Names that are one edit from another one.
 
-/// The key name that people mean by another one.
-pub fn alias_of(name: &str) -> Option<&'static str> {
-    match name {
-        "esc" => Some("escape"),
-        "return" | "cr" => Some("enter"),
-        "del" => Some("delete"),
-        "ins" => Some("insert"),
-        "bs" | "back" => Some("backspace"),
-        "spacebar" => Some("space"),
-        "pgup" | "page_up" | "prior" => Some("pageup"),
-        "pgdn" | "pgdown" | "page_down" | "next" => Some("pagedown"),
-        "arrowleft" | "leftarrow" => Some("left"),
-        "arrowright" | "rightarrow" => Some("right"),
-        "arrowup" | "uparrow" => Some("up"),
-        "arrowdown" | "downarrow" => Some("down"),
-        "pause" | "break" => Some("pausebreak"),
-        "caps" => Some("capslock"),
-        "minus" | "hyphen" | "dash" => Some("-"),
-        "plus" | "equal" | "equals" => Some("="),
-        "comma" => Some(","),
-        "period" | "dot" => Some("."),
-        "slash" => Some("/"),
-        "backslash" => Some("\\"),
-        "semicolon" => Some(";"),
-        "quote" => Some("'"),
-        "backquote" | "backtick" | "grave" => Some("`"),
-        "option" | "opt" => Some("alt"),
-        "control" | "ctl" => Some("ctrl"),
-        "command" | "super" | "windows" => Some("meta"),
-        _ => None,
-    }
-}
-
 /// How many bytes both texts begin with.
 fn common_front(one: &[u8], other: &[u8]) -> usize {
     let count = one.len().min(other.len());
@@ -65,8 +32,8 @@ fn is_exchanged(one: &[u8], other: &[u8], front: usize) -> bool {
     }
 }
 
-/// Whether one edit makes the other name of a name: a byte more, a byte less, another byte, or two neighbouring
-/// bytes exchanged.
+/// Whether one edit makes the other name of a name: a byte more, a byte less, another byte, or two
+/// neighbouring bytes exchanged.
 pub fn is_near(name: &str, other: &str) -> bool {
     let (one, other) = (name.as_bytes(), other.as_bytes());
     let longer = one.len().max(other.len());

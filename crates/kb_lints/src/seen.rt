@@ -61,7 +61,8 @@ impl<'a> Conditions<'a> {
     }
 }
 
-/// The positions of rules, each under keystrokes and conditions. A later note of both replaces an earlier one.
+/// The positions of rules, each under keystrokes and conditions. A later note of both replaces an earlier
+/// one.
 #[derive(Drop)]
 pub(crate) struct Seen {
     alloc: Global,
@@ -94,8 +95,8 @@ impl Seen {
         Ok(())
     }
 
-    /// The position of a rule that may start wherever these conditions hold: one without a clause before one with
-    /// the same, and one whose command has no enablement before one of the same command.
+    /// The position of a rule that may start wherever these conditions hold: one without a clause before one
+    /// with the same, and one whose command has no enablement before one of the same command.
     pub(crate) fn covering(
         &self,
         keys: &str,

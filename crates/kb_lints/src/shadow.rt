@@ -11,7 +11,8 @@ use kb_rules::Rule;
 use std::alloc::Global;
 use std::rc::Rc;
 
-/// A rule that can never start, and one that takes its keystrokes, by their positions among the rules in force.
+/// A rule that can never start, and one that takes its keystrokes, by their positions among the rules in
+/// force.
 #[derive(Clone, Copy, Debug, PartialEq, Eq)]
 pub struct Shadowed {
     /// The position of the rule.
@@ -20,9 +21,9 @@ pub struct Shadowed {
     pub by: usize,
 }
 
-/// The rules that can never start, from the bottom to the top: each has a lower rule with the same keystrokes that
-/// may start whenever it may. Of several of them the lowest without a clause is named, or else the lowest with the
-/// same clause.
+/// The rules that can never start, from the bottom to the top: each has a lower rule with the same keystrokes
+/// that may start whenever it may. Of several of them the lowest without a clause is named, or else the
+/// lowest with the same clause.
 pub fn never_start(
     alloc: Global,
     rules: &[Rc<Rule>],

@@ -5,7 +5,7 @@ use std::alloc::Global;
 
 /// The order in which the operands of `&&` and `||` are written.
 #[derive(Clone, Copy, Debug, PartialEq, Eq)]
-pub enum Operands {
+pub(crate) enum Operands {
     /// As in the clause.
     InOrder,
     /// Sorted, so that clauses are written alike that differ in this order alone.
@@ -13,7 +13,7 @@ pub enum Operands {
 }
 
 /// Writes a clause behind a text.
-pub fn write_clause(
+pub(crate) fn write_clause(
     alloc: Global,
     clause: &Clause,
     operands: Operands,

@@ -1,3 +1,4 @@
+pub mod LineLemmas
 mod DepthLemmas
 mod OpenLemmas
 mod PlaceLemmas

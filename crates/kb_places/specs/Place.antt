@@ -1,9 +1,10 @@
 -- Places of values in a text.
-use Rattle.std.specs.Prelude.{◌≡◌, ℕ, List, [], ◌∷◌, ◌&&◌, length, nat_le, slice_range, if◌then◌else◌, Option, Some}
-use Rattle.std.specs.Prelude.{option_and_then}
+use Rattle.std.specs.Prelude.{◌≡◌, ℕ, List, [], ◌∷◌, ◌&&◌, false, length, nat_le, slice_index, slice_range}
+use Rattle.std.specs.Prelude.{if◌then◌else◌, Option, Some, option_and_then}
 use Rattle.serde_json.specs.Data.{Data}
 use Rattle.serde_json.specs.Find.{get, at}
 use Rattle.serde_json.specs.Read.{read}
+use Rattle.kb_base.specs.Blank.{is_blank}
 use Rattle.kb_places.specs.declared.path.Step.{Step}
 use Rattle.kb_places.specs.declared.path.Step.TheVariants.{Member, Item}
 use Rattle.kb_places.specs.declared.span.Span.{Span}
@@ -24,8 +25,18 @@ abbrev pub at_path : List Step → Data → Option Data
 at_path [] d = Some d
 at_path (step ∷ path) d = option_and_then (at_path path) (behind step d)
 
--- the value at a path is what is read from this part of a text
+-- a step as plain data: the member of a name, or the item at a place
+pub data StepData : Type 0 where
+  member : List ℕ → StepData
+  item : ℕ → StepData
+
+abbrev pub step_data : Step → StepData
+step_data (Member name) = member name.now
+step_data (Item place) = item place
+
+-- the value at a path is what is read from this part of a text, which begins with the value's own first byte
 pub record StandsAt (text : List ℕ) (value : Data) (path : List Step) (span : Span) : Type 0 where
   pub held : Data
   pub found : at_path path value ≡ Some held
   pub is_read : read (part_of text span) ≡ Some held
+  pub begins : is_blank (slice_index text span.begin) ≡ false

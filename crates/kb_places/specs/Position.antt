@@ -1,5 +1,6 @@
 -- Lines and columns: both are counted from 1, and a column counts characters.
-use Rattle.std.specs.Prelude.{ℕ, ◌+◌, ◌==◌, ◌&&◌, Bool, true, false, nat_le, if◌then◌else◌, List, take}
+use Rattle.std.specs.Prelude.{◌≡◌, ℕ, ◌+◌, ◌-◌, ◌≤◌, ◌<◌, ◌==◌, ◌&&◌, ◌||◌, Bool, true, false, nat_le}
+use Rattle.std.specs.Prelude.{if◌then◌else◌, List, take, slice_index}
 use Rattle.std.specs.List.{fold}
 use Rattle.kb_places.specs.declared.position.Head.{Head}
 use Rattle.kb_places.specs.declared.position.Position.{Position}
@@ -25,7 +26,8 @@ is_inside byte = nat_le 128 byte && nat_le byte 191
 -- the place behind a line feed: that of CR LF ends no second line
 abbrev pub behind_feed : Head → Head
 behind_feed head =
-    if head.behind_return then record { position = head.position; behind_return = false } else below head false
+    if head.behind_return then record { position = head.position; behind_return = false }
+    else below head false
 
 -- the place behind a byte: a line ends with LF, CR LF or CR alone
 abbrev pub behind : Head → ℕ → Head
@@ -44,3 +46,13 @@ head_at text index = fold behind begin (take index text)
 
 abbrev pub position_of : List ℕ → ℕ → Position
 position_of text index = (head_at text index).position
+
+-- a byte behind which a line begins: LF or CR
+abbrev pub ends_line : ℕ → Bool
+ends_line byte = byte == 10 || byte == 13
+
+-- a line of a text begins at an index, and what is at another index is in this line
+pub record IsLineBegin (text : List ℕ) (index begin : ℕ) : Type 0 where
+  pub at_most : begin ≤ index
+  pub begins : 0 < begin → ends_line (slice_index text (begin - 1)) ≡ true
+  pub one_line : (k : ℕ) → begin ≤ k → k < index → ends_line (slice_index text k) ≡ false

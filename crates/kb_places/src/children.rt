@@ -14,8 +14,8 @@ pub struct Member {
     pub value: Span,
 }
 
-/// The items of the list at a part of a text, in order, or none where there is no list. Each byte is read at most
-/// twice.
+/// The items of the list at a part of a text, in order, or none where there is no list. Each byte is read at
+/// most twice.
 pub fn items(alloc: Global, text: &[u8], list: Span) -> Result<Vec<Span>, NoMemory> {
     let mut found = Vec::new(alloc);
     if part_of(text, list).first() != Some(&b'[') {

@@ -45,8 +45,8 @@ fn block_end(text: &[u8], from: usize) -> Option<usize> {
     None
 }
 
-/// The index behind a comment that begins at `at`, or `None` where it has no end. What begins no comment is one
-/// byte.
+/// The index behind a comment that begins at `at`, or `None` where it has no end. What begins no comment is
+/// one byte.
 fn comment_end(text: &[u8], at: usize) -> Option<usize> {
     match text.get(at.saturating_add(1)) {
         Some(b'/') => Some(line_end(text, at.saturating_add(2))),
@@ -118,8 +118,8 @@ fn last_before(text: &[u8], at: usize) -> Option<usize> {
         .rposition(|byte| !is_blank(*byte))
 }
 
-/// The index of the closing bracket before `at`, if it is wrong: then the text up to it is no beginning of a JSON
-/// text. The reader names the place behind a bracket that closes nothing or closes too early.
+/// The index of the closing bracket before `at`, if it is wrong: then the text up to it is no beginning of a
+/// JSON text. The reader names the place behind a bracket that closes nothing or closes too early.
 fn wrong_bracket(alloc: Global, text: &str, at: usize) -> Result<Option<usize>, NoMemory> {
     let Some(last) = last_before(text.as_bytes(), at) else {
         return Ok(None);

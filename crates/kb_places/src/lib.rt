@@ -1,8 +1,9 @@
-//! Places in files of JSON with comments: where an entry, a member or a fault is, with its line and its column.
+//! Places in files of JSON with comments: where an entry, a member or a fault is, with its line and its
+//! column.
 //!
-//! The bytes of a file are scanned for where values begin and end ([`items`], [`members`]). What a scan finds is a
-//! guess: [`Source::place`] reads the bytes there again, and only answers a place from which the value at the path
-//! is read.
+//! The bytes of a file are scanned for where values begin and end ([`items`], [`members`]). What a scan finds
+//! is a guess: [`Source::place`] reads the bytes there again, and only answers a place from which the value
+//! at the path is read.
 #![tactic(auto)]
 
 mod children;

@@ -1,6 +1,7 @@
 //! Lines and columns.
-ghost use Rattle.std.specs.Prelude.{◌≡◌, ◌<◌, ◌≤◌, ◌+◌, ◌^◌, length, min};
-ghost use Rattle.kb_places.specs.Position.{begin, below, beside, behind, behind_feed, head_at, position_of};
+ghost use Rattle.std.specs.Prelude.{◌≡◌, ◌<◌, ◌≤◌, ◌+◌, ◌^◌, if◌then◌else◌, length, min};
+ghost use Rattle.kb_places.specs.Position.{begin, below, beside, behind, behind_feed, ends_line, head_at};
+ghost use Rattle.kb_places.specs.Position.{IsLineBegin, position_of};
 
 /// A place in a text as editors show it: both numbers are counted from 1, the column in characters.
 #[derive(Clone, Copy, Debug, PartialEq, Eq)]
@@ -90,6 +91,17 @@ impl Head {
     }
 }
 
+/// Where the line of an index begins, if the line of the byte before the index begins at `begin`.
+fn next_begin(byte: u8, index: usize, begin: usize) -> usize
+    ensures { result ≡ (if ends_line byte then index else begin) }
+{
+    if byte == b'\n' || byte == b'\r' {
+        index
+    } else {
+        begin
+    }
+}
+
 /// Finds the positions of indices in a text. Indices that rise are found in one pass over the text.
 #[derive(Clone, Copy)]
 pub struct Walker<'t> {
@@ -99,11 +111,12 @@ pub struct Walker<'t> {
     line_begin: usize,
     ghost within: { at ≤ length text.now },
     ghost counted: { head ≡ head_at text.now at },
+    ghost begun: { IsLineBegin text.now at line_begin },
 }
 
 impl<'t> Walker<'t> {
     /// A walker at the beginning of a text.
-    #[tactic(auto, unfolding(crate::specs::Position::head_at))]
+    #[tactic(auto, unfolding(crate::specs::Position::head_at), using(crate::proofs::LineLemmas::first_line))]
     pub fn new(text: &'t [u8]) -> Walker<'t>
         ensures text { result.text.now ≡ text.now }
         ensures begin { result.at ≡ 0 }
@@ -117,7 +130,7 @@ impl<'t> Walker<'t> {
     }
 
     /// Goes over one byte.
-    #[tactic(auto, using(crate::proofs::PositionLemmas::head_next, crate::proofs::PositionLemmas::line_fits, crate::proofs::PositionLemmas::column_fits))]
+    #[tactic(auto, using(crate::proofs::PositionLemmas::head_next, crate::proofs::PositionLemmas::line_fits, crate::proofs::PositionLemmas::column_fits, crate::proofs::LineLemmas::next_line))]
     fn step(self) -> Walker<'t>
         requires { self.at < length self.text.now }
         ensures text { result.text.now ≡ self.entry.text.now }
@@ -125,12 +138,11 @@ impl<'t> Walker<'t> {
     {
         let byte = self.text[self.at];
         let at = self.at + 1;
-        let ends = byte == b'\n' || byte == b'\r';
         Walker {
             text: self.text,
             at,
             head: self.head.behind(byte),
-            line_begin: if ends { at } else { self.line_begin },
+            line_begin: next_begin(byte, at, self.line_begin),
         }
     }
 
@@ -157,6 +169,13 @@ impl<'t> Walker<'t> {
         self.head.position
     }
 
+    /// Where the line begins in which the walker stands.
+    fn begin(self) -> usize
+        ensures { IsLineBegin self.entry.text.now self.entry.at result }
+    {
+        self.line_begin
+    }
+
     /// The position of an index, or of the end of the text where it has none.
     pub fn position(&mut self, index: usize) -> Position
         ensures position { result ≡ position_of self.old.text.now (min index (length self.old.text.now)) }
@@ -167,12 +186,14 @@ impl<'t> Walker<'t> {
         walker.here()
     }
 
-    /// The index of the first byte of the line that an index is in.
+    /// The index of the first byte of the line that an index is in, or the end of the text where it has none.
+    #[tactic(auto, using(crate::proofs::LineLemmas::same_line))]
     pub fn line_begin(&mut self, index: usize) -> usize
+        ensures begin { IsLineBegin self.old.text.now (min index (length self.old.text.now)) result }
         ensures text { self.new.text.now ≡ self.old.text.now }
     {
         let walker = (*self).to(index);
         *self = walker;
-        walker.line_begin
+        walker.begin()
     }
 }

@@ -1,4 +1,5 @@
-//! Where values of a JSON text end. The text is taken to be JSON: of any other text the answers are some index.
+//! Where values of a JSON text end. The text is taken to be JSON: of any other text the answers are some
+//! index.
 ghost use Rattle.std.specs.Prelude.{◌≤◌};
 
 use kb_base::is_blank;

@@ -1,5 +1,6 @@
 //! A file of JSON with comments that was read, with its text, for places in it.
-ghost use Rattle.std.specs.Prelude.{◌≡◌, ◌≤◌, IfOk, IfSome, IsTrue, Some, string_bytes};
+ghost use Rattle.std.specs.Prelude.{◌≡◌, ◌≤◌, false, IfOk, IfSome, IsTrue, Some, slice_index, string_bytes};
+ghost use Rattle.kb_base.specs.Blank.{is_blank as blank};
 ghost use Rattle.serde_json.specs.Data.{depth as nesting};
 ghost use Rattle.serde_json.specs.Read.{max_depth, read as read_text};
 ghost use Rattle.serde_json.specs.View.{view};
@@ -9,7 +10,7 @@ use crate::path::{Step, value_at};
 use crate::same::same_value;
 use crate::scan::{skip, value_end};
 use crate::span::{Span, part_of};
-use kb_base::NoMemory;
+use kb_base::{NoMemory, is_blank};
 use serde_json::Value;
 use std::alloc::{AllocError, Global};
 
@@ -54,7 +55,8 @@ impl<'a> Source<'a> {
         }
     }
 
-    /// The place of the value at a path, if it is this one: what is read from there is that value.
+    /// The place of the value at a path, if it is this one: what is read from there is that value, and it
+    /// begins there, with no blank before it.
     #[tactic(auto, using(crate::proofs::DepthLemmas::found_depth, crate::proofs::PlaceLemmas::stands))]
     pub fn place(
         &self,
@@ -68,10 +70,24 @@ impl<'a> Source<'a> {
         let Some(value) = value_at(&self.value, path) else {
             return Ok(None);
         };
-        if reads_as(alloc, part_of(self.plain.as_bytes(), guess), value)? {
-            return Ok(Some(guess));
+        let text = self.plain.as_bytes();
+        if begins_value(text, guess.begin) {
+            if reads_as(alloc, part_of(text, guess), value)? {
+                return Ok(Some(guess));
+            }
         }
         Ok(None)
+    }
+}
+
+/// Whether a text has a byte at an index that isn't blank.
+fn begins_value(text: &[u8], index: usize) -> bool
+    ensures { IsTrue result → blank (slice_index text.now index) ≡ false }
+{
+    if index < text.len() {
+        !is_blank(text[index])
+    } else {
+        false
     }
 }
 

@@ -13,5 +13,6 @@ returns-in-Some-clause-holds c =
 
 pub returns-in-Some-clause-fails : goal.returns-in-Some-clause-fails
 returns-in-Some-clause-fails c =
-    fails_where_ok cause_data (context c.args.scopes.now.seen) (marked_of c.tree.result.now) c.in-Some.clause.now
-    c.tree.ensures c.cause_in.result c.cause_in.ensures
+    rw c.in-Some.is
+    (fails_where_ok cause_data (context c.args.scopes.now.seen) (marked_of c.tree.result.now) c.in-Some.clause.now
+    c.tree.ensures c.cause_in.result c.cause_in.ensures)
