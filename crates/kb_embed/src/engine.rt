@@ -1,8 +1,9 @@
 //! An engine as a host holds it: it is given files, then it is loaded, and then it is told events.
-ghost use Rattle.std.specs.Prelude.{◌≡◌, option_map};
+ghost use Rattle.std.specs.Prelude.{◌≡◌, ◌≢◌, option_map};
 ghost use Rattle.kb_core.specs.Native.{natives};
 ghost use Rattle.kb_embed.specs.Engine.{GivesExtension, GivesFile, GivesPlatform, Halts, IsEarly, LoadsBy};
-ghost use Rattle.kb_embed.specs.Engine.{Tells, TellsLine, new_engine};
+ghost use Rattle.kb_embed.specs.Engine.{TakesIn, Tells, TellsLine, new_engine};
+ghost use Rattle.kb_embed.specs.declared.outcome.Outcome.TheVariants as outcome;
 ghost use Rattle.kb_session.specs.Session.{IsOf};
 
 use crate::files::{HostFiles, copied, platform_numbered};
@@ -10,7 +11,7 @@ use crate::notice::{refusal_text, warnings_text};
 use crate::outcome::Outcome;
 use crate::plain::PlainCommand;
 use crate::running::Running;
-use crate::taken::{Taken, TakenKind, nothing_taken, taken_behind, taken_by, taken_by_line};
+use crate::taken::{Taken, TakenKind, taken_by, taken_by_line};
 use kb_base::{Failure, Text};
 use kb_session::Session;
 use kb_trace::Event;
@@ -172,24 +173,23 @@ impl Engine {
         }
     }
 
-    /// Tells the session an event. What the event takes is noted, or nothing if it isn't done. The outcomes
-    /// are those of `Running::tell`, and `OutOfOrder` before the load.
+    /// Tells the session an event. What the event takes is noted before. The outcomes are those of
+    /// `Running::tell`, and `OutOfOrder` before the load.
     #[tactic(auto, using(crate::proofs::EngineLemmas::halting))]
     pub fn tell(&mut self, event: Event) -> Outcome
-        ensures { Tells event self.old result self.new }
+        ensures told { Tells event self.old result self.new }
+        ensures taken { result ≢ outcome.NoMemory → TakesIn event self.old.running self.new.taken }
     {
         let Some(running) = &mut self.running else {
             return Outcome::OutOfOrder;
         };
         match taken_by(self.alloc, &event, running.session()) {
             Ok(taken) => {
-                let outcome = running.tell(event);
-                self.taken = taken_behind(self.alloc, outcome, taken);
-                outcome
+                self.taken = taken;
+                running.tell(event)
             }
             Err(_) => {
                 running.halt();
-                self.taken = nothing_taken(self.alloc);
                 Outcome::NoMemory
             }
         }
@@ -207,13 +207,11 @@ impl Engine {
         };
         match taken_by_line(self.alloc, line, running.session()) {
             Ok(taken) => {
-                let outcome = running.tell_line(self.alloc, line);
-                self.taken = taken_behind(self.alloc, outcome, taken);
-                outcome
+                self.taken = taken;
+                running.tell_line(self.alloc, line)
             }
             Err(_) => {
                 running.halt();
-                self.taken = nothing_taken(self.alloc);
                 Outcome::NoMemory
             }
         }
@@ -227,7 +225,6 @@ impl Engine {
         match &mut self.running {
             Some(running) => {
                 running.halt();
-                self.taken = nothing_taken(self.alloc);
                 Outcome::NoMemory
             }
             None => Outcome::OutOfOrder,

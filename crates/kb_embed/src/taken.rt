@@ -1,16 +1,13 @@
 //! What an event takes: the rule of a key press, or the entry of a choice. A host reads the command and its
 //! arguments here, so that it can run commands of its own.
 ghost use Rattle.std.specs.Prelude.{◌≡◌, [], ◌∷◌, ◌++◌, IfOk, option_map};
-ghost use Rattle.kb_embed.specs.Taken.{AreArguments, Takes, TakesBy, TakesFound, TakesLine, TakesRule};
-ghost use Rattle.kb_embed.specs.Taken.{bare, chosen, may_take, no_taken};
-ghost use Rattle.kb_embed.specs.declared.taken.Taken.{Taken as TheTaken};
+ghost use Rattle.kb_embed.specs.Taken.{AreArguments, Takes, TakesFound, TakesRule, bare, chosen};
 ghost use Rattle.kb_embed.specs.declared.taken.TakenKind.TheVariants.{Nothing};
 ghost use Rattle.kb_keys.specs.Chord.{chord_spelling};
 ghost use Rattle.kb_session.specs.Inspect.{found_by};
 ghost use Rattle.kb_session.specs.Palette.{entry_at};
 ghost use Rattle.kb_session.specs.State.{State};
 
-use crate::outcome::Outcome;
 use crate::plain::PlainCommand;
 use kb_base::{NoMemory, Text};
 use kb_keys::{Keystroke, write_strokes};
@@ -83,8 +80,8 @@ pub fn taken_by(
 }
 
 /// What an event takes that starts no command.
-pub(crate) fn nothing_taken(alloc: Global) -> Taken
-    ensures { result ≡ no_taken }
+fn nothing_taken(alloc: Global) -> Taken
+    ensures { result ≡ bare Nothing [] }
 {
     Taken::bare(alloc, TakenKind::Nothing, Text::new(alloc))
 }
@@ -95,35 +92,13 @@ pub(crate) fn taken_by_line(
     alloc: Global,
     line: &[u8],
     session: &Session<PlainCommand>,
-) -> Result<Taken, NoMemory>
-    ensures { IfOk result (TakesLine line.now session.now.state) }
-{
-    if !may_take(line) {
-        return Ok(nothing_taken(alloc));
-    }
-    match read_line(alloc, 0, line)? {
-        Some(ScriptLine::Event(event)) => taken_by(alloc, &event, session),
+) -> Result<Taken, NoMemory> {
+    match line.first() {
+        Some(b'k' | b'c') => match read_line(alloc, 0, line)? {
+            Some(ScriptLine::Event(event)) => taken_by(alloc, &event, session),
+            _ => Ok(nothing_taken(alloc)),
+        },
         _ => Ok(nothing_taken(alloc)),
-    }
-}
-
-/// Whether a line begins as a key press or a choice does.
-fn may_take(line: &[u8]) -> bool
-    ensures { result ≡ may_take line.now }
-{
-    match line {
-        [first, ..] => *first == b'k' || *first == b'c',
-        [] => false,
-    }
-}
-
-/// What was taken behind an outcome: nothing, if nothing was done.
-pub(crate) fn taken_behind(alloc: Global, outcome: Outcome, taken: Taken) -> Taken
-    ensures { (P : TheTaken → Type 0) → P taken → TakesBy P outcome result }
-{
-    match outcome {
-        Outcome::Stopped | Outcome::NoMemory => nothing_taken(alloc),
-        _ => taken,
     }
 }
 
