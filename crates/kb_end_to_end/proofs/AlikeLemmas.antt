@@ -5,7 +5,8 @@ use Rattle.std.specs.Prelude.{Result, Ok, Err, OnOk, IfErr, Option, map}
 use Rattle.kb_end_to_end.specs.Alike.{OneBegins, RunsOrBreaks, ScriptsAlike}
 use Rattle.kb_script.specs.Shelf.{Said, Stand, Halts, move}
 use Rattle.kb_session.specs.Session.{FailsAmong, Seen, answered}
-use Rattle.kb_session.specs.State.{Told, next}
+use Rattle.kb_session.specs.State.{Told, next, ticket, gave}
+use Rattle.kb_core.specs.declared.native.Native.{Native}
 use Rattle.kb_session.specs.declared.fault.SessionFault.{SessionFault}
 use Rattle.kb_session.specs.declared.fault.SessionFault.TheVariants.{Refused, NoMemory, Stopped}
 use Rattle.kb_stream.specs.Fold.{Out, Traced, fold, after_all}
@@ -95,6 +96,14 @@ same_answer answer.Did answer.Did e = refl
 same_answer answer.Did (answer.Refused r) e = cc
 same_answer (answer.Refused r) answer.Did e = cc
 same_answer (answer.Refused r) (answer.Refused q) e = cc
+
+-- a ticket is known by what the model answers
+pub same_ticket : (one other : ℕ) → ticket one ≡ ticket other → one ≡ other
+same_ticket one other e = cc
+
+-- and so is the native command of a closure that comes back
+pub same_native : (one other : Native) → gave one ≡ gave other → one ≡ other
+same_native one other e = cc
 
 -- ---- scripts
 
