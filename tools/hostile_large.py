@@ -1,7 +1,7 @@
-"""The large files of tools/hostile-files: what they hold, which answers they get, and what they cost.
+"""The large files of tools/hostile-files: their contents, the expected answers, and what they cost.
 
-Run as a program it is the process that measures others: its own memory is small, and a started process counts
-the memory of the one that started it.
+Run as a program, this file is the process that measures others. It uses little memory itself, since the peak
+memory of a process counts as its children's.
 """
 
 import collections
@@ -18,32 +18,36 @@ FILE_LIMIT = 16 * MIB
 # others.)
 LARGEST = FILE_LIMIT - 128
 GROWTH = 2.4
-# Times and memory below these are not compared: they are those of a program that does nothing, and what a
-# clock can tell.
+# Times and memory below these are not compared: a program that does nothing uses as much, and a clock can't
+# measure shorter times.
 LEAST_SECONDS = 0.1
 LEAST_MEMORY = 24 * MIB
+LEAST = LEAST_SECONDS, LEAST_MEMORY
+# The resolution of processor time, in seconds.
+LEAST_TICK = 0.01
 MARK, MARKED = b"key f19\n", b"key f19: unbound\n"
 MANIFEST = b'{"publisher":"p","name":"e"}'
-TYPE = (
-    b'{"command":"x.hi","budget":1004,"depth":1,"texts":["hi"],"calls":["type"],"code":"010000300000000000"}'
-)
+TYPE_HEAD = b'"command":"x.hi","budget":1004,"depth":1'
+TYPE_TEXTS, TYPE_CALLS = b',"texts":["hi"]', b',"calls":["type"]'
+TYPE_CODE = b',"code":"010000300000000000"'
+TYPE = b"{" + TYPE_HEAD + TYPE_TEXTS + TYPE_CALLS + TYPE_CODE + b"}"
 ONE_HANDLER = b'{"version":1,"handlers":[' + TYPE + b"]}"
 
-# A run: the files, the words of the command line, the script, and what its outputs have to be (their ends,
-# where they are long).
+# A run: the files, the arguments of the program, the script, and the expected status and outputs (the ends of
+# long outputs).
 Job = collections.namedtuple("Job", "files words script status out err")
 
 
 def filled(size, before, piece, after=b""):
-    """A content of at most this size: as many pieces as fit between two parts."""
+    """A content of at most this size: as many pieces as fit between the two given parts."""
     return before + piece * ((size - len(before) - len(after)) // len(piece)) + after
 
 
-# ---- ways in
+# ---- how a file is passed to the program
 
 
 def load_answer(number, named, names):
-    """What a load answers: status and the end of both outputs."""
+    """The expected answer to a load: the status, and the ends of both outputs."""
     if number == 5:
         return 4, b"", b"stopped: out of memory\n"
     if number:
@@ -94,10 +98,11 @@ UPDATES = {"load": by_handlers, "update": by_update}
 
 
 def members(size):
-    """Members of different names, of about this size."""
+    """Members with different names, of about this size together."""
     return b",".join(b'"k%07d":0' % it for it in range(size // 13))
 
 
+ARGUMENTS = b'[{"key":"a","command":"x","args":{'
 TOKENS = [
     ("`[`", lambda n: b"[" * n, 4),
     ("`]`", lambda n: b"]" * n, 4),
@@ -125,11 +130,7 @@ TOKENS = [
     ("objects", lambda n: filled(n, b"[", b"{},", b"{}]"), 0),
     ("trailing commas", lambda n: filled(n, b"[", b"[0,],", b"]"), 0),
     ("members of one name", lambda n: filled(n, b"[{", b'"a":0,', b'"a":0}]'), 0),
-    (
-        "members of different names",
-        lambda n: b'[{"key":"a","command":"x","args":{' + members(n - 64) + b"}}]",
-        0,
-    ),
+    ("members of different names", lambda n: ARGUMENTS + members(n - 64) + b"}}]", 0),
     ("blanks", lambda n: b" " * n, 0),
     ("line ends", lambda n: b"\n" * n, 0),
     ("a line comment", lambda n: filled(n, b"//", b"x"), 0),
@@ -166,22 +167,22 @@ CLAUSES = [
     ("a pattern of groups", with_clause(b"a =~ /", b"(", b"/"), 0),
     ("a pattern of classes", with_clause(b"a =~ /", b"[", b"]/"), 0),
     ("short patterns", with_clause(b"", b"a =~ /b/ && ", b"a"), 0),
-    # (as long as the file, so that it is always past the size limit of `regex`)
+    # (as long as the file, so that it always exceeds the size limit of `regex`)
     ("a pattern of letters", lambda n: with_clause(b"a =~ /", b"x", b"/")(4 * n), 5),
-    # (`regex` makes one class of them)
+    # (`regex` turns them into one class)
     ("a pattern of alternatives", lambda n: with_clause(b"a =~ /x", b"|x", b"/")(4 * n), 0),
 ]
 
 
 def pressed_job(content, number, names):
-    """A load of rules with a clause that doesn't hold, with a press of its key."""
+    """A load of a rule whose clause doesn't hold, and a press of its key."""
     answer = load_answer(number, b"user", names)
     out = answer[1] and b"key a: unbound\n" + answer[1]
     return Job({"f": content}, ["--user", "f"], b"key a\n" + MARK, answer[0], out, answer[2])
 
 
 def searched(pattern, letter):
-    """A context key with a long text, and a press of a key whose clause searches it."""
+    """A context key with a long text, and a press of a key whose clause searches that text."""
 
     def job(content, number, names):
         rules = b'[{"key":"a","command":"","when":"t =~ /' + pattern + b'/"}]'
@@ -209,17 +210,18 @@ def patterns(n):
 
 
 def code_of(count):
-    """Code of so many instructions, which costs as much."""
+    """Code of this many instructions, which costs the same number."""
     return b"020001050000" * ((count - 1) // 2) + b"000000" + b"000000" * ((count - 1) % 2)
+
+
+VERSION_1 = b'{"version":1,"handlers":['
 
 
 def some_handlers(sizes):
     """A handlers.json with a handler of each of these numbers of instructions."""
-    made = (
-        b'{"command":"x.h%d","budget":20000,"depth":1,"code":"%s"}' % (at, code_of(size))
-        for at, size in enumerate(sizes)
-    )
-    return b'{"version":1,"handlers":[' + b",".join(made) + b"]}"
+    form = b'{"command":"x.h%d","budget":20000,"depth":1,"code":"%s"}'
+    made = (form % (at, code_of(size)) for at, size in enumerate(sizes))
+    return VERSION_1 + b",".join(made) + b"]}"
 
 
 def longest_handlers(n):
@@ -234,71 +236,37 @@ def most_handlers(n):
 
 def with_member(member, before, piece, after):
     """One handler that has one long member."""
-    rest = (
-        TYPE[1:-1].replace(b'"texts":["hi"],' if member == b"texts" else b"", b"", 1)
-        if member == b"texts"
-        else TYPE[1:-1]
-    )
-    if member == b"code":
-        rest = rest.replace(b',"code":"010000300000000000"', b"")
-    head = b'{"version":1,"handlers":[{' + rest + b',"' + member + b'":'
+    texts = b"" if member == b"texts" else TYPE_TEXTS
+    code = b"" if member == b"code" else TYPE_CODE
+    head = VERSION_1 + b"{" + TYPE_HEAD + texts + TYPE_CALLS + code + b',"' + member + b'":'
     return lambda n: filled(n, head + before, piece, after + b"}]}")
 
 
+TOO_LARGE = {"load": 44, "update": 44}
 HANDLERS = [
     ("handlers of 9,999 instructions", longest_handlers, {"load": 0, "update": 95}),
     ("1,000 handlers", most_handlers, {"load": 0, "update": 95}),
     ("one text", with_member(b"texts", b'["', b"x", b'"]'), {"load": 0, "update": 0}),
-    ("too many texts", with_member(b"texts", b"[", b'"",', b'""]'), {"load": 44, "update": 44}),
-    (
-        "code that is too long",
-        with_member(b"code", b'"', b"020001050000", b'000000"'),
-        {"load": 44, "update": 44},
-    ),
+    ("too many texts", with_member(b"texts", b"[", b'"",', b'""]'), TOO_LARGE),
+    ("code that is too long", with_member(b"code", b'"', b"020001050000", b'000000"'), TOO_LARGE),
     ("code that is no hexadecimal text", with_member(b"code", b'"', b"zz", b'"'), {"load": 42, "update": 42}),
     ("an unknown member", with_member(b"more", b"[", b"0,", b"0]"), {"load": 0, "update": 0}),
-    (
-        "too many handlers",
-        lambda n: filled(n, b'{"version":1,"handlers":[', b"0,", b"0]}"),
-        {"load": 44, "update": 44},
-    ),
+    ("too many handlers", lambda n: filled(n, VERSION_1, b"0,", b"0]}"), TOO_LARGE),
 ]
 
 # ---- manifests and layouts
 
+COMMANDS = b'{"name":"e","contributes":{"commands":['
+KEYBINDINGS = b'{"name":"e","contributes":{"keybindings":['
+PALETTE = b'{"name":"e","contributes":{"menus":{"commandPalette":['
+DEPENDENCIES = b'{"name":"e","extensionDependencies":['
 MANIFESTS = [
-    (
-        "commands",
-        lambda n: filled(
-            n, b'{"name":"e","contributes":{"commands":[', b'{"command":"x","title":"y"},', b"]}}"
-        ),
-        0,
-    ),
-    ("dropped entries", lambda n: filled(n, b'{"name":"e","contributes":{"commands":[', b"0,", b"0]}}"), 0),
-    (
-        "key rules",
-        lambda n: filled(
-            n, b'{"name":"e","contributes":{"keybindings":[', b'{"command":"x","key":"a"},', b"]}}"
-        ),
-        0,
-    ),
-    (
-        "removals",
-        lambda n: filled(n, b'{"name":"e","contributes":{"keybindings":[', b'{"command":"-x"},', b"]}}"),
-        0,
-    ),
-    (
-        "palette items",
-        lambda n: filled(
-            n, b'{"name":"e","contributes":{"menus":{"commandPalette":[', b'{"command":"x"},', b"]}}}"
-        ),
-        0,
-    ),
-    (
-        "dependencies",
-        lambda n: filled(n, b'{"name":"e","extensionDependencies":[', b'"p.x",', b'"p.x"]}'),
-        90,
-    ),
+    ("commands", lambda n: filled(n, COMMANDS, b'{"command":"x","title":"y"},', b"]}}"), 0),
+    ("dropped entries", lambda n: filled(n, COMMANDS, b"0,", b"0]}}"), 0),
+    ("key rules", lambda n: filled(n, KEYBINDINGS, b'{"command":"x","key":"a"},', b"]}}"), 0),
+    ("removals", lambda n: filled(n, KEYBINDINGS, b'{"command":"-x"},', b"]}}"), 0),
+    ("palette items", lambda n: filled(n, PALETTE, b'{"command":"x"},', b"]}}}"), 0),
+    ("dependencies", lambda n: filled(n, DEPENDENCIES, b'"p.x",', b'"p.x"]}'), 90),
     ("a name", lambda n: filled(n, b'{"name":"', b"e", b'"}'), 0),
 ]
 LAYOUTS = [
@@ -309,12 +277,12 @@ LAYOUTS = [
 ]
 
 
-# ---- what doesn't grow with the bytes alone
+# ---- files whose cost grows faster than their size
 
 MASK = (1 << 64) - 1
 MULTIPLIER = 0x9E3779B97F4A7C15
 FIRST_STATE = 0x243F6A8885A308D3
-# Characters that stand for themselves in a JSON string.
+# Characters that need no escape in a JSON string.
 PLAIN = bytes(it for it in range(0x21, 0x7F) if it not in b'"\\')
 
 
@@ -324,7 +292,7 @@ def multiplied(a, b):
 
 
 def names_of_one_hash(count):
-    """Names that all have one hash in a `HashMap` whose hasher isn't given a seed: their second block of 16
+    """Names that all have the same hash in a `HashMap` whose hasher has no seed: their second block of 16
     bytes begins with the hasher's state, so that it is multiplied by 0."""
     chance = random.Random(1)
     while True:
@@ -336,46 +304,43 @@ def names_of_one_hash(count):
 
 
 def listed(size, before, piece, after):
-    """A list with a piece for each of some names of one hash."""
+    """A list with one piece for each of some names with the same hash."""
     count = size // (len(piece) + 47)
     return before + b",".join(piece % it for it in names_of_one_hash(count)) + after
 
 
 def compared(content, number, names):
-    """As many default rules as removals of the user, of one command and key, with different clauses."""
+    """As many default rules as removals by the user, all of one command and one key, with different
+    clauses."""
     count = len(content) // 90
-    rules = (
-        b"[" + b",".join(b'{"key":"a","command":"x","when":"k%d && l"}' % it for it in range(count)) + b"]"
-    )
-    removals = (
-        b"[" + b",".join(b'{"key":"a","command":"-x","when":"k%d && m"}' % it for it in range(count)) + b"]"
-    )
+    of_each = lambda form: b"[" + b",".join(form % it for it in range(count)) + b"]"
+    rules = of_each(b'{"key":"a","command":"x","when":"k%d && l"}')
+    removals = of_each(b'{"key":"a","command":"-x","when":"k%d && m"}')
     return Job({"d": rules, "u": removals}, ["--defaults", "d", "--user", "u"], MARK, 0, MARKED, b"")
 
 
-COMMANDS = b'{"name":"e","contributes":{"commands":['
+def commands_of_one_hash(n):
+    return listed(n, COMMANDS, b'{"command":"%s","title":"t"}', b"]}}")
+
+
+def removals_of_one_hash(n):
+    return listed(n, b"[", b'{"command":"-%s"}', b"]")
+
+
+def keys_of_one_hash(n):
+    return listed(n, b'{"scopes":[{"name":"a","keys":{', b'"%s":0', b"}}]}")
+
+
 OPEN = [
-    (
-        "manifest: commands of one hash",
-        lambda n: listed(n, COMMANDS, b'{"command":"%s","title":"t"}', b"]}}"),
-        by_manifest,
-    ),
-    (
-        "rules, load: removals of one hash",
-        lambda n: listed(n, b"[", b'{"command":"-%s"}', b"]"),
-        RULES["load"],
-    ),
-    (
-        "layout: keys of one hash",
-        lambda n: listed(n, b'{"scopes":[{"name":"a","keys":{', b'"%s":0', b"}}]}"),
-        LAYOUT["load"],
-    ),
+    ("manifest: commands of one hash", commands_of_one_hash, by_manifest),
+    ("rules, load: removals of one hash", removals_of_one_hash, RULES["load"]),
+    ("layout: keys of one hash", keys_of_one_hash, LAYOUT["load"]),
     ("rules and removals of one key", lambda n: b" " * n, compared),
 ]
 
 
 def try_open(measurer, programs, names):
-    """Prints a table of the cases that are known to grow faster."""
+    """Prints a table of the cases whose cost is known to grow faster than their size."""
     sizes = [MIB // 16, MIB // 8, MIB // 4]
     faults = []
     for title, make, way in OPEN:
@@ -386,7 +351,7 @@ def try_open(measurer, programs, names):
 
 
 def cases():
-    """The title of each case, its content by size, its number, and its ways in."""
+    """For each case its title, the function of its content, the expected fault, and how it is passed."""
     for title, make, number in TOKENS:
         for way, job in RULES.items():
             yield f"rules, {way}: {title}", make, number, job
@@ -408,12 +373,11 @@ def cases():
 
 
 class Measurer:
-    """Runs programs in a process of its own, which has little memory."""
+    """Runs programs from a separate process, which uses little memory."""
 
     def __init__(self):
-        self.process = subprocess.Popen(
-            [sys.executable, "-S", os.path.abspath(__file__)], stdin=subprocess.PIPE, stdout=subprocess.PIPE
-        )
+        words = [sys.executable, "-S", os.path.abspath(__file__)]
+        self.process = subprocess.Popen(words, stdin=subprocess.PIPE, stdout=subprocess.PIPE)
 
     def run(self, words, folder):
         """The status, the seconds of processor time and the peak memory of a run."""
@@ -427,12 +391,12 @@ class Measurer:
 
 
 def serve():
-    """The process that measures: for each line the words of a program and its folder."""
+    """The process that measures. Each line of its input has the command line of a program and its folder."""
     for line in sys.stdin:
         words, folder = json.loads(line)
-        opened = [
-            os.open(os.path.join(folder, it), os.O_RDWR | os.O_CREAT) for it in ("script", "out", "err")
-        ]
+        paths = [os.path.join(folder, it) for it in ("script", "out", "err")]
+        flags = (os.O_RDONLY, *[os.O_WRONLY | os.O_CREAT | os.O_TRUNC] * 2)
+        opened = [os.open(path, it) for path, it in zip(paths, flags)]
         child = os.fork()
         if child == 0:
             os.chdir(folder)
@@ -442,12 +406,8 @@ def serve():
         _, status, usage = os.wait4(child, 0)
         for file in opened:
             os.close(file)
-        print(
-            json.dumps(
-                [os.waitstatus_to_exitcode(status), usage.ru_utime + usage.ru_stime, usage.ru_maxrss * 1024]
-            ),
-            flush=True,
-        )
+        seconds, memory = usage.ru_utime + usage.ru_stime, usage.ru_maxrss * 1024
+        print(json.dumps([os.waitstatus_to_exitcode(status), seconds, memory]), flush=True)
 
 
 def end_of(path, count):
@@ -457,33 +417,34 @@ def end_of(path, count):
 
 
 def fault_of(job, status, folder):
-    """What is wrong with the answer of a run, or None. Warnings may come before the end of standard error."""
+    """What is wrong with the answer of a run, or None. Standard error may begin with warnings."""
     out, err = (end_of(os.path.join(folder, it), 4096) for it in ("out", "err"))
-    lines = (
-        [it for it in err.split(b"\n")[1:] if it]
-        if len(err) == 4096
-        else [it for it in err.split(b"\n") if it]
-    )
-    others = [it for it in lines if not it.startswith(b"warning ")]
+    # (the first of the last 4096 bytes may be in the middle of a line)
+    lines = err.split(b"\n")[1:] if len(err) == 4096 else err.split(b"\n")
+    others = [it for it in lines if it and not it.startswith(b"warning ")]
     if status == job.status and out == job.out and b"".join(it + b"\n" for it in others) == job.err:
         return None
     return "status %d, %r, %r" % (status, out[-200:], err[-200:])
 
 
 def measured(measurer, program, job, tries):
-    """The least seconds, the peak memory and the fault of a run with these files."""
+    """The least seconds and the peak memory of a run with these files, and what is wrong with it."""
     with tempfile.TemporaryDirectory(prefix="hostile-large-") as folder:
         for name, content in {**job.files, "script": job.script}.items():
             path = os.path.join(folder, name)
             os.makedirs(os.path.dirname(path), exist_ok=True)
             with open(path, "wb") as file:
                 file.write(content)
-        runs = [measurer.run([*program, *job.words], folder) for _ in range(tries)]
-        return min(it[1] for it in runs), max(it[2] for it in runs), fault_of(job, runs[0][0], folder)
+        runs, faults = [], []
+        for _ in range(tries):
+            runs.append(measurer.run([*program, *job.words], folder))
+            faults.append(fault_of(job, runs[-1][0], folder))
+        fault = next((it for it in faults if it), None)
+        return min(it[1] for it in runs), max(it[2] for it in runs), fault
 
 
 def growth_fault(before, after):
-    """What grew more than it may when the size doubled, or None."""
+    """What grew beyond its limit when the size doubled, or None."""
     if after[0] > LEAST_SECONDS and after[0] > GROWTH * before[0]:
         return "time grew %.2f times" % (after[0] / before[0])
     if after[1] > LEAST_MEMORY and after[1] > GROWTH * before[1]:
@@ -492,7 +453,7 @@ def growth_fault(before, after):
 
 
 def try_case(measurer, programs, case, sizes, names):
-    """A line of the table, and what is wrong."""
+    """The row of a case in the table, and what is wrong."""
     title, make, number, way = case
     found, faults, beside = [], [], None
     for size in sizes:
@@ -505,19 +466,46 @@ def try_case(measurer, programs, case, sizes, names):
     for before, after in zip(found, found[1:]):
         if fault := growth_fault(before, after):
             faults.append(f"{title}: {fault}")
-    line = "| %s | %s | %s |" % (
-        title,
-        " ".join("%.2f" % it[0] for it in found),
-        " ".join("%d" % (it[1] // MIB) for it in found),
-    )
+    return row_of(title, job, number, names, found, beside), faults
+
+
+# ---- the table
+
+
+def head_of_table(of, is_beside):
+    """The first lines of a Markdown table. Its rows have the figures of the largest size."""
+    names = [of, "MiB", "answer", "seconds", "MB"]
+    names += ["the other's seconds", "MB", "times as many"] if is_beside else []
+    names += ["growth of time, of memory"]
+    return "| %s |\n|%s" % (" | ".join(names), "---|" * len(names))
+
+
+def row_of(title, job, number, names, found, beside):
+    """A row of the table: what the largest file cost, and how the cost grew with each doubling."""
+    size = sum(map(len, [*job.files.values(), job.script])) / MIB
+    is_unread = job.out.startswith(b"unread line")
+    answer = "an unread line" if is_unread else f"{number} {names[number]}" if number else "read"
+    seconds, memory = found[-1]
+    cells = [title.replace("|", "\\|"), "%g" % round(size, 2), answer]
+    cells += ["%.2f" % seconds, "%.0f" % (memory / 1e6)]
     if beside:
         same = "" if beside[2] is None else " (another answer)"
-        line += " %.2f | %d%s |" % (beside[0], beside[1] // MIB, same)
-    return line, faults
+        ratios = ratio_of(seconds, beside[0], LEAST_TICK), ratio_of(memory, beside[1], 1)
+        cells += ["%.2f%s" % (beside[0], same), "%.0f" % (beside[1] / 1e6), ", ".join(ratios)]
+    grown = []
+    for at, least in enumerate(LEAST):
+        pairs = zip(found, found[1:])
+        grown.append(" ".join(ratio_of(after[at], before[at], least) for before, after in pairs))
+    return "| %s | %s |" % (" | ".join(cells), ", ".join(grown))
+
+
+def ratio_of(value, other, least):
+    """The ratio of two values, or a dash if the value is too small to be compared."""
+    return "%.1f" % (value / other) if other > 0 and value > least else "–"
 
 
 def try_limits(measurer, program, names):
-    """Each file with 16 MiB, and with one byte more. Scripts are limited too (golden/programs/scripts)."""
+    """Tries each file with 16 MiB and with one byte more, and scripts too (golden/programs/scripts)."""
     faults = []
     roles = [
         (by_load("--layout", b"layout"), "f", b'{"scopes":[{"name":"window"}]}'),
@@ -540,19 +528,18 @@ def try_limits(measurer, program, names):
 
 
 def try_large(programs, is_all, names, only=""):
-    """The count of large files, and what is wrong. Prints the table."""
+    """The number of large files that were tried, and what is wrong. Prints the tables."""
     sizes = [4 * MIB, 8 * MIB, 16 * MIB] if is_all else [MIB, 2 * MIB, 4 * MIB]
     measurer = Measurer()
     total, faults = (0, []) if only else try_limits(measurer, programs[0], names)
-    print("| file, of %s MiB | seconds | MiB |" % ", ".join(str(it // MIB) for it in sizes))
-    print("|---|---|---|")
+    print(head_of_table("file", len(programs) > 1))
     for case in cases():
         if only in case[0]:
             line, wrong = try_case(measurer, programs, case, sizes, names)
             print(line, flush=True)
             total, faults = total + len(sizes), faults + wrong
     if not only:
-        print("| what isn't linear, of 1/16, 1/8, 1/4 MiB | seconds | MiB |")
+        print("\n" + head_of_table("file whose cost isn't linear", len(programs) > 1))
         count, wrong = try_open(measurer, programs, names)
         total, faults = total + count, faults + wrong
     measurer.close()

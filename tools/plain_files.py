@@ -1,15 +1,29 @@
-"""Plain programs of the files' formats (docs/FORMATS.md), to compare the built programs with: which numbers
-of faults a file may be refused with, none where it is accepted. Written for being read, not for speed;
-nothing of it is taken from the sources.
+"""Plain programs for the file formats (docs/FORMATS.md), with which the built programs are compared. They say
+with which faults a file may be refused, or that it is accepted. They are written to be read, not to be fast,
+and share no code with the sources.
 """
 
 import json
+import math
 import re
 
 BLANK = " \t\r\n"
 MAX_DEPTH = 127
-# What a handlers.json whose head is read may be refused with.
-OF_HANDLERS = {40, 41, 42, 43, 44, 50, 51, 52, 60, 61, 62, 63, 64, 65, 66, 67, 68, 69, 70}
+# The faults of a well-formed handlers.json: a handler isn't accepted, or a name is already taken.
+OF_HANDLERS = set(range(60, 71))
+# The opcodes of each version, and the operands that an opcode allows. Any other opcode allows only 0.
+OPCODES = {
+    1: {*range(8), *range(0x10, 0x1A), 0x20, 0x21, 0x30, 0x40, 0x42, 0x43},
+    2: {*range(8), *range(0x10, 0x1A), 0x20, 0x21, 0x30, 0x40, 0x42, 0x43, 0x50, 0x51},
+}
+ANY_OPERAND = range(65536)
+OPERANDS = {
+    **dict.fromkeys((0x01, 0x02, 0x04, 0x20, 0x21, 0x30, 0x40), ANY_OPERAND),
+    0x03: range(2),
+    0x50: range(1, 65536),
+}
+RETURN, REPEAT, END = 0x00, 0x50, 0x51
+MOST_BLOCKS, MOST_INSTRUCTIONS = 8, 10_000
 
 
 class Fault(Exception):
@@ -22,7 +36,7 @@ OTHER = re.compile(r'[^"/]+')
 
 
 def without_comments(text):
-    """The text with its comments made blank, and for each character whether it is a part of a string."""
+    """The text with its comments replaced by spaces, and for each character whether it is in a string."""
     out, inside, at = [], [], 0
     while at < len(text):
         if text[at] == '"':
@@ -40,7 +54,7 @@ def without_comments(text):
             piece = text[at : end + 2]
             shown = " " * len(piece)
         else:
-            # (a lone slash, or all up to the next quote or slash)
+            # (a single slash, or everything up to the next quote or slash)
             piece = shown = text[at] if text[at] == "/" else OTHER.match(text, at)[0]
         out.append(shown)
         inside += [piece[0] == '"'] * len(piece)
@@ -63,7 +77,7 @@ def plain(text):
 
 
 def depth(text):
-    """How deep the brackets of a plain text nest."""
+    """The nesting depth of the brackets in a text without comments."""
     level = most = 0
     for it in re.findall(r"[\[\]{}]", STRING.sub("", text)):
         level += 1 if it in "[{" else -1
@@ -73,6 +87,16 @@ def depth(text):
 
 def no_number(word):
     raise ValueError(word)
+
+
+def number(word):
+    """The value of a number's text: an integer of 64 bits, or else a finite fraction."""
+    if re.fullmatch("-?[0-9]{1,19}", word) and word != "-0" and is_whole(int(word)):
+        return int(word)
+    value = float(word)
+    if math.isinf(value):
+        raise ValueError(word)
+    return value
 
 
 def value_of(content):
@@ -87,7 +111,7 @@ def value_of(content):
     try:
         if depth(text) > MAX_DEPTH:
             raise ValueError("too deep")
-        return json.loads(text, parse_constant=no_number)
+        return json.loads(text, parse_int=number, parse_float=number, parse_constant=no_number)
     except (ValueError, RecursionError):
         raise Fault(4) from None
 
@@ -97,7 +121,7 @@ def is_whole(value):
 
 
 def is_context(value):
-    """Whether a value is one of a context key."""
+    """Whether a context key may have this value."""
     if isinstance(value, list):
         return all(isinstance(it, str) for it in value)
     return isinstance(value, (bool, str, dict)) or is_whole(value)
@@ -121,10 +145,8 @@ def layout(value):
     require(isinstance(scopes, list) and all(isinstance(it, dict) for it in scopes), 41)
     for scope in scopes:
         require(isinstance(scope["name"], str) and isinstance(scope.get("parent", ""), str), 41)
-        require(
-            isinstance(scope.get("keys", {}), dict) and all(map(is_context, scope.get("keys", {}).values())),
-            41,
-        )
+        keys = scope.get("keys", {})
+        require(isinstance(keys, dict) and all(map(is_context, keys.values())), 41)
     require(isinstance(value.get("focus", ""), str), 41)
     names = [scope["name"] for scope in scopes]
     require(scopes and len(names) <= 1000 and len(set(names)) == len(names), 21)
@@ -152,20 +174,79 @@ def manifest(value):
     require(not needed, 90)
 
 
-def handlers_head(value):
+def handlers(value):
     require(isinstance(value, dict), 41)
     require("version" in value, 40)
-    require(is_whole(value["version"]) and value["version"] == 1, 41)
+    require(is_whole(value["version"]) and value["version"] in (1, 2), 41)
     require("handlers" in value, 40)
     require(isinstance(value["handlers"], list), 41)
     require(len(value["handlers"]) <= 1000, 44)
+    for it in value["handlers"]:
+        handler(it, value["version"])
+    commands = [it["command"] for it in value["handlers"]]
+    require(len(set(commands)) == len(commands), 43)
 
 
-READERS = {"layout": layout, "rules": rules, "manifest": manifest, "handlers": handlers_head}
+def handler(value, version):
+    require(isinstance(value, dict), 41)
+    shapes = {
+        "command": is_word,
+        "params": are_params,
+        "budget": is_whole,
+        "depth": is_whole,
+        "texts": are_texts,
+        "calls": are_texts,
+        "code": lambda it: isinstance(it, str),
+    }
+    for name, has_shape in shapes.items():
+        require(name in value or name in ("params", "texts", "calls"), 40)
+        require(name not in value or has_shape(value[name]), 41)
+    for name, most in (("params", 8), ("texts", 1000), ("calls", 1000)):
+        require(len(value.get(name, [])) <= most, 44)
+    require(1 <= value["budget"] <= 1_000_000_000 and 1 <= value["depth"] <= 64, 44)
+    instructions(value["code"], version)
+
+
+def are_texts(value):
+    return isinstance(value, list) and all(isinstance(it, str) for it in value)
+
+
+def are_params(value):
+    if not isinstance(value, list) or not all(isinstance(it, dict) for it in value):
+        return False
+    names = [it.get("name") for it in value]
+    kinds = [it.get("kind") for it in value]
+    has_kinds = all(isinstance(it, str) and it in ("text", "number", "truth", "any") for it in kinds)
+    return all(map(is_word, names)) and len(set(names)) == len(names) and has_kinds
+
+
+def instructions(text, version):
+    require(re.fullmatch("([0-9a-fA-F]{2})*", text), 42)
+    content = bytes.fromhex(text)
+    require(len(content) % 3 == 0, 50)
+    code = [(content[at], content[at + 1] << 8 | content[at + 2]) for at in range(0, len(content), 3)]
+    require(len(code) <= MOST_INSTRUCTIONS, 44)
+    for opcode, operand in code:
+        require(opcode in OPCODES[version], 51)
+        require(operand in OPERANDS.get(opcode, range(1)), 52)
+    blocks([opcode for opcode, _ in code])
+
+
+def blocks(opcodes):
+    count = 0
+    for opcode in opcodes:
+        require(opcode != END or count > 0, 53)
+        require(opcode != REPEAT or count < MOST_BLOCKS, 53)
+        require(opcode != RETURN or count == 0, 53)
+        count += (opcode == REPEAT) - (opcode == END)
+    require(count == 0, 53)
+
+
+READERS = {"layout": layout, "rules": rules, "manifest": manifest, "handlers": handlers}
 
 
 def numbers_for(kind, content):
-    """The numbers with which a file may be refused, and 0 where it may be accepted."""
+    """The faults with which a file may be refused, and 0 if it may be accepted."""
     try:
         READERS[kind](value_of(content))
     except Fault as fault:

@@ -1,9 +1,9 @@
-"""The libraries below a static library as rt ci proved them from these sources, and its archive as it was
-built.
+"""The libraries below a static library that rt ci proved from these sources, and the archive that was built
+from them.
 
-A newer kit's rt ci keeps each library on the machine, by a sum of all that its proof read. What is in
-crates/*/out behind its run may be of other sources: rt puts back what was there before. With a kit that keeps
-nothing, it is what the last run proved, if no check kept anything there.
+The rt ci of a newer kit keeps each library on the machine, by a checksum of everything that its proof read.
+After its run, crates/*/out may come from other sources, since rt restores what was there before. With a kit
+that keeps nothing, crates/*/out has what the last run proved, unless a check kept something there.
 """
 
 import contextlib
@@ -21,10 +21,11 @@ class NotProved(Exception):
 
 
 def over_proved_libraries(crate, room):
-    """A copy of the crate over its libraries as rt ci keeps them. They get a folder each in this room.
+    """A copy of the crate that uses the libraries that rt ci keeps. Each gets a folder in this room.
 
-    The room has to be empty: where rt can't write a file of a library, it takes what it keeps for damaged and
-    removes it. A library that isn't kept is taken from its crate's out/, where this run of rt ci made it.
+    The room has to be empty: if rt can't write a file of a library, it regards the kept library as damaged
+    and removes it. A library that isn't kept is taken from the out/ of its crate, where this run of rt ci
+    made it.
     """
     proved, copies = rt.Kept(crate.below()) if hasattr(rt, "Kept") else None, {}
     for library in [*crate.below(), crate]:
@@ -43,10 +44,10 @@ def over_proved_libraries(crate, room):
 
 
 class Archive:
-    """The archive of a static library that a run on this machine built, by a sum of the kit and of all
+    """The archive of a static library that a run on this machine built, by a checksum of the kit and of all
     sources."""
 
-    # An older one is removed.
+    # How many archives are kept. Older ones are removed.
     MOST = 2
 
     def __init__(self, crate):
@@ -54,7 +55,7 @@ class Archive:
         self.own = f"{self.name}{kept.stamp_of(crate)}.a"
 
     def give(self, to):
-        """Puts the archive there, and says whether it is kept."""
+        """Copies the archive to a path. Returns whether there was one."""
         try:
             shutil.copyfile(os.path.join(self.at or "", self.own), to)
         except OSError:
@@ -62,7 +63,7 @@ class Archive:
         return True
 
     def keep(self, archive):
-        """Keeps an archive that was built just now. It is written apart and then renamed."""
+        """Keeps an archive that was just built. It is written to a temporary file and then renamed."""
         with contextlib.suppress(OSError):
             if not self.at:
                 return

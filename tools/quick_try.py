@@ -1,11 +1,11 @@
-"""python3 tools/quick_try.py PROGRAM FLAG..: `rt try` of the crate in this folder, with its machine code
-made sooner, which leaves the compiled program at the path PROGRAM.
+"""python3 tools/quick_try.py PROGRAM FLAG..: runs `rt try` on the crate in this folder with faster code
+generation, and leaves the compiled program at the path PROGRAM.
 
-rt try hands the whole program to clang as one module, which compiles it in one thread and adds a
-sanitizer's tests of memory to the checks that rt try adds itself. Here the linker's own compiler compiles a
-large module, in as many parts as there are processors and without the sanitizer; where it can't, clang is
-called as ever. The check of names that rt try makes beside it is left out, since it only gives a hint to
-whoever writes the program. This may need a change when the kit changes.
+rt try passes the whole program to clang as one module. clang compiles it in one thread, and adds the memory
+checks of a sanitizer to the checks that rt try adds itself. Here the link-time code generator of the linker
+compiles a large module, in as many parts as there are processors and without the sanitizer. If it fails,
+clang is called as usual. The check of names that rt try makes at the same time is left out, since it only
+gives a hint to the author of the program. This may need a change when the kit changes.
 """
 
 import os
@@ -20,7 +20,7 @@ from gate.kit import rt
 
 CLANG = """\
 #!/bin/sh
-# clang, but for a large module that is to be machine code.
+# clang, except when a large module is compiled to machine code.
 case " $* " in
 *" -c -x ir module.bc -o module.o "*)
     if [ "$(stat -c %s module.bc)" -gt 4000000 ] &&
@@ -35,7 +35,7 @@ exec {kit}/bin/clang "$@"
 """
 LINKER = """\
 #!/bin/sh
-# ld.lld, which also leaves the program that it links.
+# ld.lld, which also copies the program that it links.
 {kit}/bin/ld.lld "$@" || exit
 case " $* " in
 *" -o program "*) cp program {program} ;;
@@ -44,7 +44,7 @@ esac
 
 
 def linked(folder, of, but=()):
-    """A folder with links to all that another has, but for some names."""
+    """Makes a folder with links to everything in another folder, except some names."""
     os.mkdir(folder)
     for name in os.listdir(of):
         if name not in but:

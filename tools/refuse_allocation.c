@@ -1,5 +1,5 @@
-/* Preloaded, this counts the calls of malloc, calloc and realloc, and refuses the one whose number
-   REFUSE_ALLOCATION says. At the end it writes the count to the file that COUNT_ALLOCATIONS names. */
+/* If it is preloaded, this library counts the calls of malloc, calloc and realloc, and refuses the call whose
+   number REFUSE_ALLOCATION gives. At exit it writes the count to the file that COUNT_ALLOCATIONS names. */
 #define _GNU_SOURCE
 #include <dlfcn.h>
 #include <errno.h>

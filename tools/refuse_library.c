@@ -1,6 +1,6 @@
-/* Preloaded, this counts the calls of malloc and realloc that libpafjirn.so makes, and refuses the one whose
-   number REFUSE_ALLOCATION says and all behind it. At the end it writes the count to the file that
-   COUNT_ALLOCATIONS names. */
+/* If it is preloaded, this library counts the calls of malloc and realloc that libpafjirn.so makes. It
+   refuses the call whose number REFUSE_ALLOCATION gives, and all later ones. At exit it writes the count to
+   the file that COUNT_ALLOCATIONS names. */
 #define _GNU_SOURCE
 #include <dlfcn.h>
 #include <errno.h>
@@ -21,7 +21,7 @@ __attribute__((constructor)) static void begin(void) {
     refused = text ? strtoul(text, NULL, 10) : 0;
 }
 
-/* Whether a call from this place is the library's. */
+/* Whether a call from this address comes from libpafjirn.so. */
 static int is_ours(const void *place) {
     Dl_info found;
     if (!dladdr(place, &found) || found.dli_fname == NULL) return 0;

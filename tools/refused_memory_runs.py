@@ -15,8 +15,8 @@ class Run:
     files: dict = dataclasses.field(default_factory=dict)
     # The status of the complete run.
     status: int = 0
-    # How many of its allocations aren't needed: those for the flat map of context keys, without which a key
-    # is found by a search, and those of what reads a file after its fault is known.
+    # How many of its allocations aren't needed: those for the flat map of context keys, without which a
+    # search finds a key, and those of code that reads the rest of a file after its fault is known.
     spare: int = 0
 
 
@@ -333,7 +333,7 @@ RUNS = [
         status=3,
     ),
     Run(
-        "an extension that is handed in twice",
+        "an extension that is passed twice",
         "keyrun",
         ["@e", "@f"],
         b"key h\n",

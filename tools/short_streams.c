@@ -1,5 +1,5 @@
-/* Preloaded, this makes each read and write take at most STREAM_STEP bytes. Standard output takes OUTPUT_ROOM
-   bytes in all, and then none: a write answers 0. */
+/* If it is preloaded, this library limits each read and write to STREAM_STEP bytes. Standard output takes
+   OUTPUT_ROOM bytes in all, and then none: a write returns 0. */
 #define _GNU_SOURCE
 #include <dlfcn.h>
 #include <stdlib.h>

@@ -1,5 +1,6 @@
-/* Asks the C library what it answers to calls out of order, dead handles, wrong texts and two engines by turns.
- * Prints each answer that isn't as include/pafjirn.h says. Status 0 without one. tools/check-hosts runs it. */
+/* Checks the answers of each call of the C library: in and out of order, with dead handles, with wrong texts,
+ * and with two engines in turn. It prints each answer that differs from include/pafjirn.h. The status is 0 if
+ * there is none. tools/check-hosts runs it. */
 #include <pafjirn.h>
 #include <stdio.h>
 #include <string.h>
@@ -15,31 +16,82 @@ static void expect(const char *what, unsigned long has, unsigned long wants) {
 /* A text as its bytes and their number. */
 #define TEXT(text) (const uint8_t *)(text), strlen(text)
 
+/* Compares a text that was read. */
+static void expect_bytes(const char *what, const uint8_t *room, size_t size, size_t length,
+                         const char *wants) {
+    if (length == strlen(wants) && length <= size && memcmp(room, wants, length) == 0) return;
+    printf("%s: %.*s, and not %s\n", what, (int)(length < size ? length : size), (const char *)room, wants);
+    wrong = 1;
+}
+
 /* Reads a text of the engine, and compares it. */
 static void expect_text(pafjirn_handle *engine, uint32_t part, const char *wants) {
     uint8_t room[256];
-    size_t length = pafjirn_read(engine, part, 0, room, sizeof room);
-    if (length != strlen(wants) || memcmp(room, wants, length)) {
-        printf("part %u: %.*s, and not %s\n", (unsigned)part, (int)(length < sizeof room ? length : sizeof room),
-               (const char *)room, wants);
-        wrong = 1;
-    }
+    char what[16];
+    snprintf(what, sizeof what, "part %u", (unsigned)part);
+    expect_bytes(what, room, sizeof room, pafjirn_read(engine, part, 0, room, sizeof room), wants);
+}
+
+/* Reads a text of an entry, and compares it. */
+static void expect_entry(pafjirn_handle *engine, uint32_t number, uint32_t part, const char *wants) {
+    uint8_t room[256];
+    char what[32];
+    snprintf(what, sizeof what, "entry %u, part %u", (unsigned)number, (unsigned)part);
+    expect_bytes(what, room, sizeof room, pafjirn_entry(engine, number, part, 0, room, sizeof room), wants);
+}
+
+/* Compares the record of the last event: what it did, and its texts. */
+static void expect_record(pafjirn_handle *engine, uint32_t kind, const char *chord, const char *command,
+                          const char *arguments, const char *source) {
+    expect("the kind", pafjirn_taken(engine), kind);
+    expect_text(engine, PAFJIRN_CHORD, chord);
+    expect_text(engine, PAFJIRN_COMMAND, command);
+    expect_text(engine, PAFJIRN_ARGUMENTS, arguments);
+    expect_text(engine, PAFJIRN_SOURCE, source);
+}
+
+/* Makes an engine with these files and loads it. */
+static void load(pafjirn_handle *engine, const char *layout, const char *user, const char *manifest) {
+    expect("an engine", pafjirn_new(engine), PAFJIRN_DONE);
+    expect("a platform", pafjirn_platform(engine, PAFJIRN_MAC), PAFJIRN_DONE);
+    expect("a layout", pafjirn_file(engine, PAFJIRN_LAYOUT, TEXT(layout)), PAFJIRN_DONE);
+    expect("rules", pafjirn_file(engine, PAFJIRN_USER, TEXT(user)), PAFJIRN_DONE);
+    expect("an extension", pafjirn_extension(engine, TEXT(manifest), false, TEXT("")), PAFJIRN_DONE);
+    expect("a load", pafjirn_load(engine), PAFJIRN_DONE);
 }
 
 static void dead_handles(void) {
     pafjirn_handle dead = {0};
     uint8_t room[4] = "abc";
-    expect("a key without an engine", pafjirn_key(&dead, TEXT("a")), PAFJIRN_UNKNOWN);
+    expect("a platform without an engine", pafjirn_platform(&dead, PAFJIRN_MAC), PAFJIRN_UNKNOWN);
+    expect("a file without an engine", pafjirn_file(&dead, PAFJIRN_USER, TEXT("[]")), PAFJIRN_UNKNOWN);
+    expect("an extension without an engine", pafjirn_extension(&dead, TEXT("{}"), true, TEXT("{}")),
+           PAFJIRN_UNKNOWN);
     expect("a load without an engine", pafjirn_load(&dead), PAFJIRN_UNKNOWN);
+    expect("a line without an engine", pafjirn_line(&dead, TEXT("key a")), PAFJIRN_UNKNOWN);
+    expect("a key without an engine", pafjirn_key(&dead, TEXT("a")), PAFJIRN_UNKNOWN);
+    expect("a focus without an engine", pafjirn_focus(&dead, TEXT("window")), PAFJIRN_UNKNOWN);
+    expect("a truth without an engine", pafjirn_set_truth(&dead, TEXT("window"), TEXT("k"), true),
+           PAFJIRN_UNKNOWN);
+    expect("a number without an engine", pafjirn_set_number(&dead, TEXT("window"), TEXT("k"), 1),
+           PAFJIRN_UNKNOWN);
+    expect("a text without an engine", pafjirn_set_text(&dead, TEXT("window"), TEXT("k"), TEXT("t")),
+           PAFJIRN_UNKNOWN);
+    expect("an unset without an engine", pafjirn_unset(&dead, TEXT("window"), TEXT("k")), PAFJIRN_UNKNOWN);
+    expect("a palette without an engine", pafjirn_palette(&dead, TEXT("")), PAFJIRN_UNKNOWN);
+    expect("a choice without an engine", pafjirn_choose(&dead, 1), PAFJIRN_UNKNOWN);
     expect("a read without an engine", pafjirn_read(&dead, PAFJIRN_TRACE, 0, room, sizeof room), 0);
-    expect("the room behind it", (unsigned long)memcmp(room, "abc", 4), 0);
+    expect("an entry without an engine", pafjirn_entry(&dead, 1, PAFJIRN_LABEL, 0, room, sizeof room), 0);
+    expect("the room after both", (unsigned long)memcmp(room, "abc", 4), 0);
     expect("entries without an engine", pafjirn_entries(&dead), 0);
+    expect("the kind without an engine", pafjirn_taken(&dead), PAFJIRN_NOTHING);
+    expect("the place without an engine", pafjirn_place(&dead), 0);
     pafjirn_free(&dead);
     expect("an engine", pafjirn_new(&dead), PAFJIRN_DONE);
     expect("an engine in its place", pafjirn_new(&dead), PAFJIRN_DONE);
     pafjirn_free(&dead);
     pafjirn_free(&dead);
-    expect("a key behind the end", pafjirn_key(&dead, TEXT("a")), PAFJIRN_UNKNOWN);
+    expect("a key after the end", pafjirn_key(&dead, TEXT("a")), PAFJIRN_UNKNOWN);
 }
 
 static void out_of_order(void) {
@@ -47,6 +99,8 @@ static void out_of_order(void) {
     expect("an engine", pafjirn_new(&engine), PAFJIRN_DONE);
     expect("a key before the load", pafjirn_key(&engine, TEXT("a")), PAFJIRN_OUT_OF_ORDER);
     expect("a line before the load", pafjirn_line(&engine, TEXT("key a")), PAFJIRN_OUT_OF_ORDER);
+    expect("a palette before the load", pafjirn_palette(&engine, TEXT("")), PAFJIRN_OUT_OF_ORDER);
+    expect("a choice before the load", pafjirn_choose(&engine, 1), PAFJIRN_OUT_OF_ORDER);
     expect("no file", pafjirn_file(&engine, 3, TEXT("[]")), PAFJIRN_UNKNOWN);
     expect("no platform", pafjirn_platform(&engine, 3), PAFJIRN_UNKNOWN);
     expect("a bad file", pafjirn_file(&engine, PAFJIRN_USER, TEXT("{")), PAFJIRN_DONE);
@@ -54,14 +108,125 @@ static void out_of_order(void) {
     expect_text(&engine, PAFJIRN_NOTICE, "load refused: user 4 Syntax\n");
     expect("a good file", pafjirn_file(&engine, PAFJIRN_USER, TEXT("[]")), PAFJIRN_DONE);
     expect("its load", pafjirn_load(&engine), PAFJIRN_DONE);
+    expect_text(&engine, PAFJIRN_NOTICE, "");
     expect("a second load", pafjirn_load(&engine), PAFJIRN_OUT_OF_ORDER);
-    expect("a file behind the load", pafjirn_file(&engine, PAFJIRN_USER, TEXT("[]")), PAFJIRN_OUT_OF_ORDER);
-    expect("no key", pafjirn_key(&engine, TEXT("ctrl+")), PAFJIRN_NO_KEY);
-    expect("no text", pafjirn_focus(&engine, TEXT("\xff")), PAFJIRN_NO_TEXT);
-    expect("no scope", pafjirn_focus(&engine, TEXT("nowhere")), PAFJIRN_REFUSED);
-    expect_text(&engine, PAFJIRN_TRACE, "refused 20 UnknownScope\n");
-    expect("no entry", pafjirn_choose(&engine, 1), PAFJIRN_REFUSED);
+    expect("a platform after the load", pafjirn_platform(&engine, PAFJIRN_MAC), PAFJIRN_OUT_OF_ORDER);
+    expect("a file after the load", pafjirn_file(&engine, PAFJIRN_USER, TEXT("[]")), PAFJIRN_OUT_OF_ORDER);
+    expect("an extension after the load", pafjirn_extension(&engine, TEXT("{}"), false, TEXT("")),
+           PAFJIRN_OUT_OF_ORDER);
     expect("no part", pafjirn_read(&engine, 8, 0, (uint8_t[1]){0}, 1), 0);
+    pafjirn_free(&engine);
+}
+
+/* What is refused, what is no text, and what then stands of the event before. */
+static void refusals(void) {
+    pafjirn_handle engine = {0};
+    load(&engine, "{\"scopes\":[{\"name\":\"window\"}]}",
+         "[{\"key\":\"a\",\"command\":\"type\",\"args\":\"A\"}]", "{\"name\":\"e\",\"publisher\":\"p\"}");
+    expect("a focus on no scope", pafjirn_focus(&engine, TEXT("nowhere")), PAFJIRN_REFUSED);
+    expect_text(&engine, PAFJIRN_TRACE, "refused 20 UnknownScope\n");
+    expect("the same by a line", pafjirn_line(&engine, TEXT("focus nowhere")), PAFJIRN_DONE);
+    expect_text(&engine, PAFJIRN_TRACE, "refused 20 UnknownScope\n");
+    expect("a truth of no scope", pafjirn_set_truth(&engine, TEXT("no"), TEXT("k"), true), PAFJIRN_REFUSED);
+    expect("a number of no scope", pafjirn_set_number(&engine, TEXT("no"), TEXT("k"), 1), PAFJIRN_REFUSED);
+    expect("a text of no scope", pafjirn_set_text(&engine, TEXT("no"), TEXT("k"), TEXT("t")),
+           PAFJIRN_REFUSED);
+    expect("an unset of no scope", pafjirn_unset(&engine, TEXT("no"), TEXT("k")), PAFJIRN_REFUSED);
+    expect("a choice without a palette", pafjirn_choose(&engine, 1), PAFJIRN_REFUSED);
+    expect_text(&engine, PAFJIRN_TRACE, "refused 96 NoEntry\n");
+    expect("no line", pafjirn_line(&engine, TEXT("\xff")), PAFJIRN_DONE);
+    expect("a press", pafjirn_key(&engine, TEXT("a")), PAFJIRN_DONE);
+    expect("no key", pafjirn_key(&engine, TEXT("ctrl+")), PAFJIRN_NO_KEY);
+    expect("no text of a scope", pafjirn_focus(&engine, TEXT("\xff")), PAFJIRN_NO_TEXT);
+    expect("no text of a key", pafjirn_set_truth(&engine, TEXT("window"), TEXT("\xff"), true),
+           PAFJIRN_NO_TEXT);
+    expect("no text of a value", pafjirn_set_text(&engine, TEXT("window"), TEXT("k"), TEXT("\xff")),
+           PAFJIRN_NO_TEXT);
+    expect("no text of a query", pafjirn_palette(&engine, TEXT("\xff")), PAFJIRN_NO_TEXT);
+    expect_text(&engine, PAFJIRN_TRACE, "key a: start type\ndone \"A\" \"\"\n");
+    expect_record(&engine, PAFJIRN_STARTED, "a", "type", "\"A\"", "user");
+    pafjirn_free(&engine);
+}
+
+/* The focus and the context keys: a rule for each value, which only the right value lets a press take. */
+static void context_keys(void) {
+    pafjirn_handle engine = {0};
+    load(&engine, "{\"scopes\":[{\"name\":\"window\"},{\"name\":\"editor\",\"parent\":\"window\"}]}",
+         "[{\"key\":\"x\",\"command\":\"type\",\"args\":\"t\",\"when\":\"truth\"},"
+         "{\"key\":\"x\",\"command\":\"type\",\"args\":\"n\",\"when\":\"number == -7\"},"
+         "{\"key\":\"x\",\"command\":\"type\",\"args\":\"w\",\"when\":\"word == b\"}]",
+         "{\"name\":\"e\",\"publisher\":\"p\"}");
+    expect("a focus", pafjirn_focus(&engine, TEXT("editor")), PAFJIRN_DONE);
+    expect_text(&engine, PAFJIRN_TRACE, "focus editor\n");
+    expect_record(&engine, PAFJIRN_NOTHING, "", "", "", "");
+    expect("a press without a rule", pafjirn_key(&engine, TEXT("x")), PAFJIRN_DONE);
+    expect_record(&engine, PAFJIRN_NOTHING, "x", "", "", "");
+    expect("a truth", pafjirn_set_truth(&engine, TEXT("window"), TEXT("truth"), true), PAFJIRN_DONE);
+    expect_text(&engine, PAFJIRN_TRACE, "set window truth\n");
+    expect("a press", pafjirn_key(&engine, TEXT("x")), PAFJIRN_DONE);
+    expect("the place of its rule", pafjirn_place(&engine), 0);
+    expect("a number", pafjirn_set_number(&engine, TEXT("editor"), TEXT("number"), -7), PAFJIRN_DONE);
+    expect("a press", pafjirn_key(&engine, TEXT("x")), PAFJIRN_DONE);
+    expect("the place of its rule", pafjirn_place(&engine), 1);
+    expect("a text", pafjirn_set_text(&engine, TEXT("editor"), TEXT("word"), TEXT("b")), PAFJIRN_DONE);
+    expect("a press", pafjirn_key(&engine, TEXT("x")), PAFJIRN_DONE);
+    expect("the place of its rule", pafjirn_place(&engine), 2);
+    expect("an unset", pafjirn_unset(&engine, TEXT("editor"), TEXT("word")), PAFJIRN_DONE);
+    expect_text(&engine, PAFJIRN_TRACE, "unset editor word\n");
+    expect("a press", pafjirn_key(&engine, TEXT("x")), PAFJIRN_DONE);
+    expect_text(&engine, PAFJIRN_BEFORE, "tnwn");
+    expect("a focus outward", pafjirn_focus(&engine, TEXT("window")), PAFJIRN_DONE);
+    expect("a press", pafjirn_key(&engine, TEXT("x")), PAFJIRN_DONE);
+    expect_text(&engine, PAFJIRN_BEFORE, "tnwnt");
+    pafjirn_free(&engine);
+}
+
+/* The palette, and its choices. */
+static void palettes(void) {
+    pafjirn_handle engine = {0};
+    load(&engine, "{\"scopes\":[{\"name\":\"window\"}]}", "[]",
+         "{\"name\":\"e\",\"publisher\":\"p\",\"contributes\":{\"commands\":["
+         "{\"command\":\"buffer.top\",\"title\":\"To the Top\",\"category\":\"Text\"},"
+         "{\"command\":\"my.own\",\"title\":\"My Own\"}]}}");
+    expect("entries before a palette", pafjirn_entries(&engine), 0);
+    expect("a palette", pafjirn_palette(&engine, TEXT("")), PAFJIRN_DONE);
+    expect("its entries", pafjirn_entries(&engine), 2);
+    expect_entry(&engine, 1, PAFJIRN_LABEL, "My Own");
+    expect_entry(&engine, 2, PAFJIRN_LABEL, "Text: To the Top");
+    expect_entry(&engine, 2, PAFJIRN_ENTRY_COMMAND, "buffer.top");
+    expect_entry(&engine, 0, PAFJIRN_LABEL, "");
+    expect_entry(&engine, 3, PAFJIRN_LABEL, "");
+    expect_entry(&engine, 1, 2, "");
+    expect("a query", pafjirn_palette(&engine, TEXT("te to")), PAFJIRN_DONE);
+    expect("its entries", pafjirn_entries(&engine), 1);
+    expect("a choice past the end", pafjirn_choose(&engine, 2), PAFJIRN_REFUSED);
+    expect("the entries after it", pafjirn_entries(&engine), 1);
+    expect("a choice", pafjirn_choose(&engine, 1), PAFJIRN_DONE);
+    expect_text(&engine, PAFJIRN_TRACE, "choose 1: start buffer.top\ndone \"\" \"\"\n");
+    expect_record(&engine, PAFJIRN_STARTED, "", "buffer.top", "", "");
+    expect("the place without a rule", pafjirn_place(&engine), 0);
+    expect("the entries after a choice", pafjirn_entries(&engine), 0);
+    expect("a query of words in upper case", pafjirn_palette(&engine, TEXT("OWN")), PAFJIRN_DONE);
+    expect("a choice of the host's own", pafjirn_choose(&engine, 1), PAFJIRN_NOT_FOUND);
+    expect_record(&engine, PAFJIRN_STARTED, "", "my.own", "", "");
+    pafjirn_free(&engine);
+}
+
+/* A chord, and a step of runCommands that is the host's own. */
+static void chords_and_steps(void) {
+    pafjirn_handle engine = {0};
+    load(&engine, "{\"scopes\":[{\"name\":\"window\"}]}",
+         "[{\"key\":\"a b\",\"command\":\"runCommands\",\"args\":{\"commands\":[\"buffer.top\",\"my.own\"]}},"
+         "{\"key\":\"c\",\"command\":\"type\",\"args\":[]}]",
+         "{\"name\":\"e\",\"publisher\":\"p\"}");
+    expect("a first keystroke", pafjirn_key(&engine, TEXT("a")), PAFJIRN_DONE);
+    expect_record(&engine, PAFJIRN_CHORDING, "a", "", "", "");
+    expect("a second one", pafjirn_key(&engine, TEXT("b")), PAFJIRN_NOT_FOUND);
+    expect_record(&engine, PAFJIRN_STARTED, "a b", "runCommands",
+                  "{\"commands\":[\"buffer.top\",\"my.own\"]}", "user");
+    expect_text(&engine, PAFJIRN_TRACE,
+                "key a b: start runCommands\nrun buffer.top\ndone \"\" \"\"\nrun my.own\nnot found my.own\n");
+    expect("bad arguments", pafjirn_key(&engine, TEXT("c")), PAFJIRN_BAD_ARGUMENTS);
     pafjirn_free(&engine);
 }
 
@@ -78,22 +243,25 @@ static void two_engines(void) {
     expect("another", pafjirn_key(&other, TEXT("a")), PAFJIRN_NOT_FOUND);
     expect("one more", pafjirn_key(&one, TEXT("a")), PAFJIRN_DONE);
     expect_text(&one, PAFJIRN_BEFORE, "AA");
+    expect_text(&one, PAFJIRN_AFTER, "");
     expect_text(&one, PAFJIRN_TRACE, "key a: start type\ndone \"AA\" \"\"\n");
-    expect_text(&other, PAFJIRN_COMMAND, "own");
-    expect_text(&other, PAFJIRN_ARGUMENTS, "[1,\"B\"]");
-    expect_text(&other, PAFJIRN_SOURCE, "user");
-    expect("the kind", pafjirn_taken(&other), PAFJIRN_STARTED);
+    expect_record(&other, PAFJIRN_STARTED, "a", "own", "[1,\"B\"]", "user");
     expect("a part of a text", pafjirn_read(&one, PAFJIRN_TRACE, 4, room, 1), 31);
     expect("its byte", room[0], 'a');
     expect("a read past the end", pafjirn_read(&one, PAFJIRN_TRACE, 1000, room, sizeof room), 31);
+    expect("a read without a room", pafjirn_read(&one, PAFJIRN_TRACE, 0, room, 0), 31);
     pafjirn_free(&one);
-    expect("a press behind the other's end", pafjirn_key(&other, TEXT("b")), PAFJIRN_DONE);
+    expect("a press after the other's end", pafjirn_key(&other, TEXT("b")), PAFJIRN_DONE);
     pafjirn_free(&other);
 }
 
 int main(void) {
     dead_handles();
     out_of_order();
+    refusals();
+    context_keys();
+    palettes();
+    chords_and_steps();
     two_engines();
     return wrong;
 }

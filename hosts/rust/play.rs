@@ -1,24 +1,34 @@
-//! Plays a script as keyrun does, over the Rust crate: the same words, the same output.
+//! Runs a script as keyrun does, with the Rust crate: the same arguments and the same output.
 //!
 //!     play [--platform P] [--layout F] [--defaults F] [--user F] [--script F] [DIR]..
+//!     play [--platform P] [--layout F] [--defaults F] [--user F] --press N KEY [DIR]..
 //!
-//! With `--press N KEY` no script is played: the key is pressed N times, and the time of a press is printed.
-//! Status 0; 2 for wrong words; 3 where a file cannot be read or the load is refused; 4 where the session stops.
+//! With `--press` it runs no script: it presses the key N times, at least once, and prints the time of a
+//! press and the memory. The status is 0; 2 for wrong arguments; 3 if a file cannot be read or the load is
+//! refused; 4 if the session stops, or the script or the output fails; 5 if a handler traps.
 use pafjirn::{Engine, Error, File, Platform};
-use std::io::{self, Read, Write};
+use std::io::{self, ErrorKind, Read, Write};
+use std::num::NonZeroU32;
 use std::process::ExitCode;
 use std::time::Instant;
 use std::{env, fs};
 
+const USAGE: &str = "usage: play [--platform linux|mac|win] [--layout F] [--defaults F] [--user F]
+           [--script F] [DIR]..
+       play [--platform linux|mac|win] [--layout F] [--defaults F] [--user F]
+           --press N KEY [DIR]..";
+
 /// Why the run ended early.
 enum Stop {
-    /// The words are wrong.
+    /// The arguments are wrong.
     Words,
     /// A file cannot be read.
     Unread(String),
-    /// The engine did not do what was asked.
+    /// A call of the engine failed.
     Engine(Error),
-    /// The trace cannot be written.
+    /// The script cannot be read.
+    Script,
+    /// The output cannot be written.
     Write,
 }
 
@@ -28,14 +38,31 @@ impl From<Error> for Stop {
     }
 }
 
-impl From<io::Error> for Stop {
-    fn from(_: io::Error) -> Stop {
-        Stop::Write
+/// The bytes of a file.
+fn read(path: &str) -> Result<Vec<u8>, Stop> {
+    fs::read(path).map_err(|_| Stop::Unread(path.into()))
+}
+
+/// The bytes of a file, or `None` if there is no file.
+fn read_if_there(path: &str) -> Result<Option<Vec<u8>>, Stop> {
+    match fs::read(path) {
+        Ok(bytes) => Ok(Some(bytes)),
+        Err(error) if error.kind() == ErrorKind::NotFound => Ok(None),
+        Err(_) => Err(Stop::Unread(path.into())),
     }
 }
 
-fn read(path: &str) -> Result<Vec<u8>, Stop> {
-    fs::read(path).map_err(|_| Stop::Unread(path.into()))
+/// The bytes of the script: of a file, or of standard input.
+fn read_script(path: Option<&String>) -> Result<Vec<u8>, Stop> {
+    let mut bytes = Vec::new();
+    match path {
+        Some(path) => fs::File::open(path)
+            .map_err(|_| Stop::Unread(path.clone()))?
+            .read_to_end(&mut bytes),
+        None => io::stdin().read_to_end(&mut bytes),
+    }
+    .map_err(|_| Stop::Script)?;
+    Ok(bytes)
 }
 
 fn platform(name: &str) -> Result<Platform, Stop> {
@@ -47,19 +74,39 @@ fn platform(name: &str) -> Result<Platform, Stop> {
     }
 }
 
-/// Presses a key again and again, and reads the trace of each press.
-fn press(engine: &mut Engine, turns: u32, key: &str) -> Result<(), Stop> {
-    let (mut text, start) = (Vec::new(), Instant::now());
-    for _ in 0..turns {
-        engine.press(key)?;
-        engine.read_trace(&mut text);
+/// The peak memory of this process in kB, or -1 if the system doesn't report it.
+fn most_memory() -> i64 {
+    let status = fs::read_to_string("/proc/self/status").unwrap_or_default();
+    let line = status.lines().find_map(|line| line.strip_prefix("VmHWM:"));
+    let number = line.and_then(|rest| rest.trim().strip_suffix(" kB"));
+    number.and_then(|text| text.parse().ok()).unwrap_or(-1)
+}
+
+/// Presses a key this many times, and reads the trace of each press.
+fn press_often(engine: &mut Engine, presses: u32, key: &str) -> Result<(), Error> {
+    let mut text = Vec::new();
+    for _ in 0..presses {
+        engine.press(key)?.read_trace(&mut text);
     }
-    let each = start.elapsed().as_secs_f64() * 1e6 / f64::from(turns);
-    println!("{turns} presses, {each:.3} microseconds each");
     Ok(())
 }
 
-/// The lines of a script: a carriage return belongs to none that a line feed ends.
+/// Presses a key this many times. Returns a line with the time of a press, and the memory after a tenth of
+/// the presses and after all.
+fn press(engine: &mut Engine, presses: NonZeroU32, key: &str) -> Result<String, Stop> {
+    let presses = presses.get();
+    let (tenth, start) = (presses.div_ceil(10), Instant::now());
+    press_often(engine, tenth, key)?;
+    let early = most_memory();
+    press_often(engine, presses - tenth, key)?;
+    let each = start.elapsed().as_secs_f64() * 1e6 / f64::from(presses);
+    let memory = format!("{early} kB behind a tenth, {} kB behind all", most_memory());
+    Ok(format!(
+        "{presses} presses, {each:.3} microseconds each, {memory}\n"
+    ))
+}
+
+/// The lines of a script. A line may end with a carriage return and a line feed.
 fn lines(script: &[u8]) -> impl Iterator<Item = &[u8]> {
     let mut rest = Some(script);
     std::iter::from_fn(move || {
@@ -78,7 +125,23 @@ fn lines(script: &[u8]) -> impl Iterator<Item = &[u8]> {
     })
 }
 
-fn run(words: &[String]) -> Result<(), Stop> {
+/// Runs a script line by line, and writes what each line adds to the trace.
+fn play(engine: &mut Engine, script: &[u8], out: &mut impl Write) -> Result<(), Stop> {
+    for record in engine.records(lines(script)) {
+        let trace = record?.trace;
+        out.write_all(trace.as_bytes()).map_err(|_| Stop::Write)?;
+    }
+    Ok(())
+}
+
+/// Passes the extension in a folder to the engine. One without `handlers.json` has no handlers.
+fn give_extension(engine: &mut Engine, folder: &str) -> Result<(), Stop> {
+    let manifest = read(&format!("{folder}/package.json"))?;
+    let handlers = read_if_there(&format!("{folder}/handlers.json"))?;
+    Ok(engine.extension(&manifest, handlers.as_deref())?)
+}
+
+fn run(words: &[String], out: &mut impl Write) -> Result<(), Stop> {
     let mut engine = Engine::new()?;
     let (mut script, mut pressed, mut words) = (None, None, words.iter());
     while let Some(word) = words.next() {
@@ -91,51 +154,43 @@ fn run(words: &[String]) -> Result<(), Stop> {
             "--script" => script = Some(next()?),
             "--press" => pressed = Some((next()?.parse().map_err(|_| Stop::Words)?, next()?)),
             word if word.starts_with("--") => return Err(Stop::Words),
-            folder => {
-                let handlers = fs::read(format!("{folder}/handlers.json")).ok();
-                engine.extension(
-                    &read(&format!("{folder}/package.json"))?,
-                    handlers.as_deref(),
-                )?;
-            }
+            folder => give_extension(&mut engine, folder)?,
         }
     }
     eprint!("{}", engine.load()?);
-    if let Some((turns, key)) = pressed {
-        return press(&mut engine, turns, key);
+    match pressed {
+        Some((presses, key)) => {
+            let line = press(&mut engine, presses, key)?;
+            out.write_all(line.as_bytes()).map_err(|_| Stop::Write)
+        }
+        None => play(&mut engine, &read_script(script)?, out),
     }
-    let mut bytes = Vec::new();
-    match script {
-        Some(path) => bytes = read(path)?,
-        None => drop(io::stdin().read_to_end(&mut bytes)?),
+}
+
+/// Prints why a run ended early. Returns its status.
+fn report(stop: &Stop) -> u8 {
+    match stop {
+        Stop::Words => eprintln!("{USAGE}"),
+        Stop::Unread(path) => eprintln!("cannot read {path}"),
+        Stop::Engine(error) => eprintln!("{error}"),
+        Stop::Script => eprintln!("script: read failed"),
+        Stop::Write => eprintln!("script: write failed"),
     }
-    let mut out = io::stdout().lock();
-    for record in engine.records(lines(&bytes)) {
-        out.write_all(record?.trace.as_bytes())?;
+    match stop {
+        Stop::Words | Stop::Engine(Error::NoKey) => 2,
+        Stop::Unread(_) | Stop::Engine(Error::Refused(_)) => 3,
+        Stop::Engine(Error::Trapped) => 5,
+        Stop::Engine(_) | Stop::Script | Stop::Write => 4,
     }
-    Ok(())
 }
 
 fn main() -> ExitCode {
     let words: Vec<String> = env::args().skip(1).collect();
-    match run(&words) {
+    let mut out = io::stdout().lock();
+    let ran = run(&words, &mut out);
+    let written = out.flush().map_err(|_| Stop::Write);
+    match ran.and(written) {
         Ok(()) => ExitCode::SUCCESS,
-        Err(Stop::Words) => {
-            eprintln!("usage: play [--platform P] [--layout F] [--defaults F] [--user F] [--script F] [DIR]..");
-            ExitCode::from(2)
-        }
-        Err(Stop::Unread(path)) => {
-            eprintln!("cannot read {path}");
-            ExitCode::from(3)
-        }
-        Err(Stop::Engine(error)) => {
-            eprintln!("{error}");
-            ExitCode::from(if matches!(error, Error::Refused(_)) {
-                3
-            } else {
-                4
-            })
-        }
-        Err(Stop::Write) => ExitCode::from(4),
+        Err(stop) => ExitCode::from(report(&stop)),
     }
 }

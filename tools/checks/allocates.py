@@ -1,11 +1,11 @@
-"""Finds functions that allocate although their result can't say that memory was refused.
+"""Finds functions that allocate although their result can't report that memory was refused.
 
-The convention: a function whose result names neither `NoMemory` nor `Failure`, nor a type that can hold
-one, allocates nothing. In Rattle a call that allocates takes the allocator, or is made on a growing value
-and returns a `Result`. So a function allocates where its body makes such a call, or calls a function of the
-repository that allocates. `X::new(alloc)` of an empty value allocates nothing. Calls are found by their
-names, so look at each finding: it may be the method of another type that has the same name. Functions that
-are meant to be so are in EXCEPTIONS.
+The convention: a function whose result names neither `NoMemory` nor `Failure`, nor a type that can hold one
+of them, allocates nothing. In Rattle a call that allocates takes the allocator, or is a method call on a
+growable value and returns a `Result`. So a function allocates if its body makes such a call, or calls a
+function of the repository that allocates. `X::new(alloc)` of an empty value allocates nothing. Calls are
+found by name, so check each finding: it may be a method with the same name of another type. EXCEPTIONS lists
+the functions that allocate on purpose.
 """
 
 import collections
@@ -15,21 +15,21 @@ import re
 
 from gate.source import body_at, closing, module_of, words_of
 
-# Types that say that memory was refused, or that something failed, which may be memory.
+# Types that report that memory was refused, or a failure that may be refused memory.
 MEMORY = {"NoMemory", "Failure", "AllocError", "Fail", "TryReserveError", "anyhow"}
-# A path of these ends in a type of the same kind, as io::Result and fmt::Error.
+# Modules whose types report the same, such as io::Result and fmt::Error.
 MEMORY_MODULES = {"io", "fmt"}
-# Methods of the standard library, whose calls are not taken for those of the crate.
+# Methods of the standard library. A call of one is not regarded as a call of a crate's method.
 COMMON = {"parse", "get", "next", "len", "from", "into", "push", "insert", "clone", "write", "read", "call"}
 COMMON |= {"fill", "take"}
-# Methods that allocate, if what they return is asked for a failure.
+# Methods that allocate, if the caller checks their result for a failure.
 GROWS = {"push", "push_str", "push_back", "insert", "reserve", "sort", "sort_by", "sort_by_key", "extend"}
 GROWS |= {"extend_from_slice", "clone", "to_owned", "to_string", "to_vec", "append", "resize", "collect"}
 MADE = {("Box", "new"), ("Rc", "new"), ("BufWriter", "new"), ("BufReader", "new")}
 # Calls of the standard library that take the allocator and allocate nothing.
 FREE = {("Box", "from_raw")}
 LANGUAGE = {"let", "if", "match", "while", "for", "in", "return", "fn", "move"}
-# The functions that allocate all the same, by their crates.
+# The functions that allocate on purpose, by crate.
 EXCEPTIONS = {
     # They turn refused memory into an exit status, a number or a text.
     "kb_c": ["pafjirn_new"],
@@ -41,9 +41,9 @@ EXCEPTIONS = {
     # They do the same in tests.
     "kb_golden_code": ["handlers_in"],
     "kb_refused_calls": ["main", "answer"],
-    # They hand a value back.
+    # They give a value back to the caller.
     "kb_handler_table": ["CodeTable::put", "CodeTable::prepare_exchange"],
-    "kb_registry": ["Registry::admit"],
+    "kb_registry": ["Registry::admit", "Registry::register_allowed"],
     "kb_vm": ["Callers::suspend", "begin"],
     # A chord's keystrokes are inline.
     "kb_keys": ["Chord::copied"],
@@ -55,7 +55,7 @@ ASKED = {"map_err", "ok", "is_ok", "is_err", "unwrap_or", "unwrap_or_else", "and
 
 
 class Function:
-    """A function with a body: where it is, the type that has it, and its result and body as words."""
+    """A function with a body: its place, the type that defines it, and its result and body as words."""
 
     def __init__(self, crate, file, line, name, owner, signature, body):
         self.crate, self.file, self.line, self.name, self.owner = crate, file, line, name, owner
@@ -72,7 +72,7 @@ class Function:
 
 
 def joined(words):
-    """The words with `->` as one."""
+    """The words, with `->` as one word."""
     found = []
     for _, word in words:
         if word == ">" and found and found[-1] == "-":
@@ -115,15 +115,14 @@ def functions_in(crate, file, top):
 
 
 def types_with_memory(texts):
-    """The names of the types that hold one that says that memory was refused, to any depth."""
+    """The names of the types that contain, at any depth, a type of MEMORY."""
     held = collections.defaultdict(set)
     for text in texts:
         text = re.sub(r"(?m)^\s*//.*$|^\s*ghost .*$", "", text)
         for name, held_by_it in [*TYPE.findall(text), *ALIAS.findall(text)]:
             # (the name of a variant is no type)
-            types = re.sub(
-                r"(?m)^ {4}(\w+)(?=[,({])", lambda it: it[1] if it[1] in MEMORY else "", held_by_it
-            )
+            without_others = lambda it: it[1] if it[1] in MEMORY else ""
+            types = re.sub(r"(?m)^ {4}(\w+)(?=[,({])", without_others, held_by_it)
             held[name] |= {*re.findall(r"\w+", types)}
     found = {*MEMORY}
     while more := {name for name, words in held.items() if words & found} - found:
@@ -132,15 +131,15 @@ def types_with_memory(texts):
 
 
 def says_memory(function, types):
-    """Whether a function's result can say that memory was refused."""
+    """Whether a function's result can report that memory was refused."""
     words = [function.owner if it == "Self" else it for it in function.result]
     pairs = zip(words, [*words[1:], ""])
     return any(it in types or it in MEMORY_MODULES and after == ":" for it, after in pairs)
 
 
 def callee_at(words, at):
-    """The name, the type or module before it, and whether it is a method's, of the call with this
-    argument."""
+    """Of the call that has this argument: the name, the type or module before it, and whether it is a method
+    call."""
     depth = 0
     while at > 0:
         at -= 1
@@ -154,7 +153,7 @@ def callee_at(words, at):
 
 
 def is_asked(words, at):
-    """Whether what a call of a method here answers is asked for a failure."""
+    """Whether the caller checks the result of the method call at this place for a failure."""
     end = closing([(0, it) for it in words], at + 1, "(", ")")
     start = at
     while start and words[start - 1] not in ("{", "}", ";", "=", "match", "("):
@@ -164,17 +163,16 @@ def is_asked(words, at):
 
 
 def own_calls(function, tree):
-    """Why the body of a function allocates by itself, or an empty text."""
+    """Why the body of a function itself allocates, or an empty text."""
     words = function.body
     for at, word in enumerate(words):
         if word == "alloc" and words[at + 1 : at + 2] not in ([":"], ["("]):
             name, owner, is_method = callee_at(words, at)
-            # (an empty value takes no memory, and what a function of the repository does is looked at
-            # there)
+            # (an empty value takes no memory; functions of the repository are examined themselves)
             is_free = name in LANGUAGE or name == "new" and (owner, name) not in MADE or (owner, name) in FREE
             is_ours = is_method and name in tree.methods or tree.named(function, name, owner)
             if name and not is_free and name[0].islower() and not is_ours:
-                return f"gives the allocator to `{owner and owner + '::'}{name}`"
+                return f"passes the allocator to `{owner and owner + '::'}{name}`"
         if words[at + 1 : at + 2] == ["("] and word in GROWS and words[at - 1] == "." and is_asked(words, at):
             return f"calls `{word}`"
         if word in ("format", "vec") and words[at + 1 : at + 4] == ["!", "(", "in"]:
@@ -194,7 +192,7 @@ class Tree:
             self.all[it.name].append(it)
 
     def named(self, function, name, owner):
-        """The functions that a call of this name may mean; the owner is a type, a module or nothing."""
+        """The functions that a call with this name may mean. The owner is a type, a module or empty."""
         if owner == "Self":
             owner = function.owner
         own, source = self.own[function.crate, name], self.imports[function.file].get(owner or name)
@@ -208,7 +206,7 @@ class Tree:
         return []
 
     def called(self, function):
-        """The functions that a function's body calls, as far as names tell."""
+        """The functions that a function's body calls, found by name."""
         words = function.body
         for at, word in enumerate(words):
             if words[at + 1 : at + 2] != ["("] or word not in self.all:
@@ -225,13 +223,13 @@ class Tree:
 
 
 def imports_of(text):
-    """From which crate of the repository a source takes each name."""
+    """The crate of the repository from which a source imports each name."""
     uses = re.findall(r"(?m)^\s*(?:pub(?:\([^)]*\))? )?use (kb_\w+)((?:::[^;]*)?);", text)
     return {name: crate for crate, names in uses for name in [crate, *re.findall(r"\w+", names)]}
 
 
 def mark(functions, imports):
-    """Says of each function that allocates why it does."""
+    """Sets for each function that allocates why it does."""
     tree = Tree(functions, imports)
     for it in functions:
         it.why = own_calls(it, tree)
@@ -245,8 +243,8 @@ def mark(functions, imports):
 
 
 def violations(top):
-    """A line for each function that allocates and whose result can't say that memory was refused, and for
-    each exception that is none."""
+    """A message for each function that allocates although its result can't report that memory was refused,
+    and for each entry of EXCEPTIONS that isn't needed."""
     functions, texts, imports = [], [], {}
     for file in sorted(glob.glob(os.path.join(top, "crates/*/src/**/*.rt"), recursive=True)):
         with open(file, encoding="utf-8") as text:
@@ -261,4 +259,5 @@ def violations(top):
     others = [it for it in found if (it.crate, it.full_name()) not in known]
     idle = sorted(known - {(it.crate, it.full_name()) for it in found})
     lines = [f"{it.file}:{it.line}: `{it.full_name()}` {it.why}" for it in others]
-    return lines + [f"tools/checks/allocates.py: `{name}` of {crate} is no exception" for crate, name in idle]
+    here = "tools/checks/allocates.py"
+    return lines + [f"{here}: `{name}` of {crate} needs no exception" for crate, name in idle]

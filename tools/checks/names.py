@@ -1,10 +1,10 @@
 """Finds names in back-ticks in the documents that don't exist in the tree.
 
-Read are back-ticks outside of fenced blocks, the targets of links, and, in fenced blocks, crates and paths.
-A path must be the end of a file's or folder's path. `A::b` must be defined so: `b` in the type, module or
-crate `A`. Any other word must be a word of the code. `known-names.txt` lists words of Rust, Rattle, JSON,
-VS Code and the shell. Ghost code is looked for by word alone, since its names are made of parts; names with
-a hyphen are not looked for.
+It reads back-ticks outside of fenced blocks, the targets of links, and, in fenced blocks, crates and paths. A
+path must be the end of the path of a file or folder. For `A::b` the type, module or crate `A` must define
+`b`. Any other word must be a word of the code. `known-names.txt` lists words of Rust, Rattle, JSON, VS Code
+and the shell. Names of ghost code are only looked up word by word, since they consist of parts. Names with a
+hyphen are not looked up.
 """
 
 import collections
@@ -39,7 +39,7 @@ USE = re.compile(r"\bpub(?:\([^)]*\))? use ([^;]+);")
 
 
 def known_names():
-    """The words of the list beside this file."""
+    """The words of known-names.txt."""
     with open(os.path.join(HERE, "known-names.txt"), encoding="utf-8") as lines:
         return {word for line in lines for word in line.partition("#")[0].split()}
 
@@ -50,7 +50,7 @@ def read(path):
 
 
 def files_below(top):
-    """All files of the tree but those that are made, by their paths from the top."""
+    """All files of the tree except generated ones, by their paths from the top."""
     found = []
     for at, folders, names in os.walk(top):
         folders[:] = [it for it in folders if it not in ("out", ".git", ".rt", "__pycache__")]
@@ -59,7 +59,7 @@ def files_below(top):
 
 
 class Tree:
-    """What exists in the tree: paths, words of code, and which names a type, a module or a crate defines."""
+    """What exists in the tree: paths, words of code, and the names that types, modules and crates define."""
 
     def __init__(self, top):
         files = files_below(top)
@@ -85,7 +85,7 @@ class Tree:
         self.words.update(WORD.findall(text))
 
     def read_items(self, file, text):
-        """Adds what the items of a source define, each to its type, module and crate."""
+        """Adds each name that a source defines to its type, module and crate."""
         crate, module = file.split("/")[1], os.path.basename(file).removesuffix(".rt")
         homes = [crate, module, os.path.basename(os.path.dirname(file))]
         add = lambda name, *more: [self.members[it].add(name) for it in (*homes, *more)]
@@ -101,7 +101,7 @@ class Tree:
                 add(found[1], *inside)
             if (found := BLOCK.match(line)) and not line.rstrip().endswith(";"):
                 names = WORD.findall(re.sub(r"<[^<>]*>", "", re.sub(r"<[^<>]*>", "", found[2])))
-                # (of an impl the type, and its trait, whose methods it has)
+                # (an impl defines methods of its type and of its trait)
                 is_impl = found[1] == "impl"
                 owners.append((depth, [it for it in names if it != "for"] if is_impl else names[:1]))
         for uses in USE.findall(text):
@@ -112,16 +112,16 @@ class Tree:
 
     def has_path(self, path):
         path = re.sub(r"^(?:\.{1,2}/)+", "", path).rstrip("/.")
-        # (a part in capitals, as CRATE, is one that the reader puts in)
+        # (the reader replaces a part in capitals, such as CRATE)
         path = re.sub(r"(?<![\w.-])[A-Z]{2,}(?![\w-])(?!\.md)", "*", path)
         if "*" in path:
             return any(fnmatch.fnmatch(it, path) or fnmatch.fnmatch(it, f"*/{path}") for it in self.paths)
         return path in self.ends
 
     def has_qualified(self, name, known):
-        """Whether each part of a path of names is defined in the part before it."""
+        """Whether each part of a qualified name is defined in the part before it."""
         parts = re.sub(r"<[^<>]*>", "", name).split("::")
-        # (a part in capitals is one that the reader puts in)
+        # (the reader replaces a part in capitals)
         if parts[0] in known or re.fullmatch(r"[A-Z]{2,}", parts[0]):
             return True
         own = ("crate", "self", "Self")
@@ -132,7 +132,7 @@ class Tree:
 
 
 def lacking_in(span, tree, known):
-    """The names in a text between back-ticks that the tree lacks."""
+    """The names in a text in back-ticks that the tree lacks."""
     if span in known:
         return
     left = span
@@ -150,7 +150,7 @@ def lacking_in(span, tree, known):
 
 
 def lacking_in_block(line, tree, known):
-    """The crates and the paths in a line of a fenced block that the tree lacks."""
+    """The crates and paths in a line of a fenced block that the tree lacks."""
     for it in PATH.findall(line):
         if it.startswith(TOP_FOLDERS) and not tree.has_path(it):
             yield it
@@ -160,7 +160,7 @@ def lacking_in_block(line, tree, known):
 
 
 def lacking_in_document(top, document, tree, known):
-    """The numbers of the lines of a document that name what the tree lacks, each with the name."""
+    """The names in a document that the tree lacks, each with the number of its line."""
     is_block = False
     for number, line in enumerate(read(os.path.join(top, document)).split("\n"), 1):
         if line.lstrip().startswith("```"):
@@ -179,7 +179,7 @@ def lacking_in_document(top, document, tree, known):
 
 
 def lacking(top, documents=()):
-    """A line for each name in these documents, or in all, that the tree lacks."""
+    """A message for each name that the tree lacks, in these documents or in all."""
     found = [it for form in DOCUMENTS for it in sorted(glob.glob(form, root_dir=top))]
     tree, known = Tree(top), known_names()
     lines = []

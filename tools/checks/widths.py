@@ -1,8 +1,8 @@
 """Finds lines that are longer than 110 columns.
 
-Looked at are the documents, the tools, and the sources and definitions of the crates. Not looked at are rows
-of tables, data and golden files, crates.txt, where a crate has one line, and attributes `#[tactic(..)]`,
-which `rt fmt` keeps on one line.
+It checks the documents, the tools, the hosts, and the sources and definitions of the crates. It skips rows of
+tables, data, golden files, crates.txt, where each crate has one line, and attributes `#[tactic(..)]`, which
+`rt fmt` keeps on one line.
 """
 
 import glob
@@ -10,10 +10,9 @@ import os
 
 WIDTH = 110
 DOCUMENTS = ("README.md", "docs/*.md", "golden/README.md")
-TOOLS = ("tools/*", "tools/*/*.py", "bench/*", ".ci/run", "keyrun", "rawrun", "keycheck")
+TOOLS = ("tools/*", "tools/*/*", "bench/*", ".ci/run", "keyrun", "rawrun", "keycheck")
+HOSTS = ("include/*.h", "hosts/*/*.[chp]*", "hosts/rust/**/*.rs")
 CRATES = ("crates/*/src/**/*.rt", "crates/*/specs/**/*.antt")
-# Whether tools/ready fails on lines of crates; `tools/ready --widths` always lists them.
-CRATES_COUNT = False
 
 
 def is_kept(line):
@@ -21,9 +20,9 @@ def is_kept(line):
     return line.lstrip().startswith(("|", "#[tactic(", "#![tactic("))
 
 
-def wide(top, with_crates=CRATES_COUNT):
-    """A line for each line that is too long."""
-    forms = (*DOCUMENTS, *TOOLS, *(CRATES if with_crates else ()))
+def wide(top):
+    """A message for each line that is too long."""
+    forms = (*DOCUMENTS, *TOOLS, *HOSTS, *CRATES)
     files = {it for form in forms for it in glob.glob(form, root_dir=top, recursive=True)}
     found = []
     for file in sorted(it for it in files if os.path.isfile(os.path.join(top, it))):

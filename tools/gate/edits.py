@@ -12,20 +12,20 @@ FOLDERS = ("must-fail", "wrong-bodies")
 
 @dataclasses.dataclass(eq=False)
 class Edit:
-    """An edit of a crate, or why it can't be applied."""
+    """An edit of a crate, or the reason why it can't be applied."""
 
     file: str
     folder: str
-    # The promise that it guards, in words.
+    # The promise that it guards, as text.
     guards: str
     # The lines that it changes, by file and number.
     lines: dict
     fault: str
-    # The one function that it changes, or nothing, and whether it changes no more than the function's body.
+    # The only function that it changes, or None, and whether it changes only the body of that function.
     function: object
     is_of_body: bool
-    # Whether its line `within` names its function: its texts may be in the file more than once, so rt can't
-    # apply it.
+    # Whether a line `within` names its function. Then its texts may occur more than once in the file, so rt
+    # can't apply it.
     is_within: bool
 
     @property
@@ -38,16 +38,16 @@ class Edit:
 
 
 def function_alone(file, folder, functions):
-    """The function that a line `within: NAME` of an edit names, or nothing."""
+    """The function that a line `within: NAME` of an edit names, or None, and whether there is such a line."""
     with open(file, encoding="utf-8") as text:
         named = re.findall(r"(?m)^within: (\S+)$", text.read())
     return next((it for it in functions if named == [it.plain_name()]), None), bool(named)
 
 
 def applied(file, folder, within):
-    """The edited files of a crate, what they were, and why the edit can't be applied, if it can't.
+    """The edited files of a crate, their texts before, and why the edit can't be applied, if it can't.
 
-    An edit within a function sees no other line.
+    Only the lines of the function are compared with an edit that has a line `within`.
     """
     with tempfile.TemporaryDirectory() as room:
         if within:
@@ -73,7 +73,7 @@ def read_edit(file, folder, functions):
     within, is_within = function_alone(file, folder, functions)
     texts, before, fault = applied(file, folder, within)
     if is_within and not within:
-        texts, fault = {}, "its line within: names no function"
+        texts, fault = {}, "its line `within` names no function"
     if not file.endswith(".edit"):
         texts, fault = {}, "its name doesn't end in .edit"
     changed = []
@@ -88,7 +88,7 @@ def read_edit(file, folder, functions):
 
 
 def function_of(lines, functions):
-    """The function at all these lines, the innermost one, or nothing."""
+    """The innermost function that contains all these lines, or None."""
     at = lambda path, line: next((it for it in functions if it.file == path and it.spans(line)), None)
     found = {at(path, line) for path, line in lines}
     return found.pop() if len(found) == 1 else None
@@ -117,7 +117,7 @@ def sources_of(crate):
 
 
 def with_edits(edits, texts):
-    """Sources, as lists of lines, with these edits, each at lines of its own."""
+    """Sources, as lists of lines, with these edits, which change different lines."""
     changed = {path: [*lines] for path, lines in texts.items()}
     for edit in edits:
         for (path, number), line in edit.lines.items():

@@ -1,9 +1,10 @@
-"""What earlier runs of the gate on this machine found of wrong bodies.
+"""The results of earlier runs on this machine that tried wrong bodies.
 
-An edit that was refused is refused again where the edit, its crate, those below it, the kit and this tool are
-the same. So are the tool's own tests. Nothing else is kept: an edit that passed, or that says little, is
-tried again. The files are in a folder beside what rt ci keeps, or in the user's cache with a kit whose rt ci
-keeps nothing. Each edit is a file, so that a run that is stopped keeps what it has done.
+An edit that was refused counts as refused again if the edit, its crate, the crates below, the kit and this
+tool are the same. The result of the tool's own tests is kept in the same way. Nothing else is kept: an edit
+that was not refused, or only because a proof names what it took away, is tried again. The files are in a
+folder next to those of rt ci, or in the user's cache with a kit whose rt ci keeps nothing. Each edit has a
+file, so an interrupted run keeps what it finished.
 """
 
 import contextlib
@@ -15,12 +16,12 @@ import tempfile
 
 from gate.kit import TOP, rt
 
-# What tests the tool and does not judge edits.
+# The file that tests the tool. It doesn't judge edits.
 OWN_TESTS = "self_test.py"
 
 
 def folder():
-    """The folder for what is kept, or nothing where none can be."""
+    """The folder for the results, or None if they can't be kept."""
     if hasattr(rt, "Kept"):
         store = rt.Kept([]).at
         return store and os.path.join(store, "wrong-bodies")
@@ -30,7 +31,7 @@ def folder():
 
 @functools.cache
 def kit_sum():
-    """A sum of the kit: of its own making, or of its version and its prover."""
+    """A checksum of the kit: its own one, or that of its version and its prover."""
     if hasattr(rt, "kit_sum"):
         return rt.kit_sum()
     made = hashlib.sha256()
@@ -41,8 +42,8 @@ def kit_sum():
 
 
 def sum_below(crate, known):
-    """A sum of a crate and of those below it. Each is read once: the kit's own sum reads a crate as often as
-    there are ways down to it, which takes a minute for the highest ones."""
+    """A checksum of a crate and of the crates below it. Each crate is read once. (The kit's own function
+    reads a crate once for each path of dependencies to it, which takes a minute for the highest crates.)"""
     if crate.name not in known:
         below = [sum_below(it, known) for it in crate.deps]
         known[crate.name] = sum_of(rt.rtlib.files_of(crate.folder), repr((crate.said, crate.has_c, below)))
@@ -50,12 +51,12 @@ def sum_below(crate, known):
 
 
 def stamp_of(crate):
-    """A sum of the kit, of the crate and of those below it."""
+    """A checksum of the kit, of the crate and of the crates below it."""
     return rt.stamp_of(crate, {}) if hasattr(rt, "stamp_of") else kit_sum() + sum_below(crate, {})
 
 
 def sum_of(files, total=""):
-    """A sum of these files, with their names below the top, and of a sum before them."""
+    """A checksum of these files, of their paths below the top, and of another checksum."""
     made = hashlib.sha256(total.encode())
     for file in files:
         with open(file, "rb") as text:
@@ -70,19 +71,19 @@ def files_of_tool():
 
 
 def sum_of_tool():
-    """A sum of the whole tool and of the kit."""
+    """A checksum of the whole tool and of the kit."""
     return sum_of([*files_of_tool(), os.path.join(TOP, "tools", "wrong-bodies")], kit_sum())
 
 
 def sums_of(crate, edits):
-    """For each edit the sum of all that its trial reads."""
+    """For each edit the checksum of everything that its trial reads."""
     judging = sum_of([it for it in files_of_tool() if not it.endswith(OWN_TESTS)], stamp_of(crate))
     sum_with = lambda it: hashlib.sha256(repr((judging, it.name, sum_of([it.file]))).encode()).hexdigest()
     return {it: sum_with(it) for it in edits}
 
 
 def write(at, name, said):
-    """Writes a file apart and then renames it, so that no other run reads half of it."""
+    """Writes a temporary file and then renames it, so that no other run reads half of it."""
     os.makedirs(at, mode=0o700, exist_ok=True)
     with tempfile.NamedTemporaryFile("w", dir=at, delete=False, encoding="utf-8") as file:
         json.dump(said, file)
@@ -90,7 +91,7 @@ def write(at, name, said):
 
 
 class Passed:
-    """Whether something passed on this machine, by a sum of all that it reads."""
+    """Whether something passed on this machine, by a checksum of everything that it reads."""
 
     def __init__(self, name, total):
         self.at, self.name = folder(), f"{name}-{total}"
@@ -105,14 +106,14 @@ class Passed:
 
 
 class Kept:
-    """What is kept of a crate's edits, by the sums that they have when this is made."""
+    """The kept results of a crate's edits, by the checksums at the time when this object is made."""
 
     def __init__(self, crate, edits, at):
         self.crate, self.edits, self.at = crate, edits, at
         self.sums = sums_of(crate, edits) if at else {}
 
     def refused(self):
-        """The edits that an earlier run saw refused, with what it said of them."""
+        """The edits that were refused in an earlier run, each with the text of its result."""
         found = {}
         for edit, name in self.sums.items():
             with contextlib.suppress(OSError, ValueError, KeyError, TypeError):
@@ -123,7 +124,7 @@ class Kept:
         return found
 
     def keep(self, found):
-        """Keeps which edits were refused just now, unless a file that their trial reads changed meanwhile."""
+        """Keeps which edits were just refused, unless a file that their trial reads has changed since."""
         with contextlib.suppress(OSError):
             if not self.at or sums_of(self.crate, self.edits) != self.sums:
                 return

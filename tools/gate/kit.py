@@ -29,16 +29,16 @@ rt = load_rt()
 
 def crates_of(top):
     """The crates that a repository's crates.txt names, lowest first."""
-    # (its first call sets a signal's handler, which only the main thread may)
+    # (its first call installs a signal handler, which only the main thread may do)
     rt.rtlib.guarded()
     return sorted(rt.rtlib.crates_below(top), key=lambda it: len(it.below()))
 
 
 def built_from_nothing(crate):
-    """Whether the crate's library is there as rt ci built it, from the sources as they are.
+    """Whether rt ci built the crate's library, from the present sources.
 
-    rt ci leaves no stamp. A library over kept work says so, and one that is older than a source is of other
-    sources.
+    rt ci leaves no stamp. A library that was built from kept work is marked, and one that is older than a
+    source was built from other sources.
     """
     form = os.path.join(crate.rlib, "format")
     if os.path.exists(os.path.join(os.path.dirname(crate.rlib), "stamp")) or not os.path.isfile(form):
@@ -51,10 +51,10 @@ def built_from_nothing(crate):
 
 
 def built_libraries(crates):
-    """Builds the missing libraries below these crates, and says whether all are there now.
+    """Builds the missing libraries below these crates. Returns whether all of them exist then.
 
-    What rt ci built is taken whole or not at all, since statements fit only the libraries that they were
-    built over.
+    The libraries that rt ci built are used all together or not at all, since statements fit only the
+    libraries over which they were built.
     """
     libraries = list(dict.fromkeys(dep for crate in crates for dep in crate.below()))
     if all(built_from_nothing(it) for it in libraries):
@@ -69,7 +69,7 @@ def built_libraries(crates):
 
 @contextlib.contextmanager
 def room_with(crate, texts):
-    """A copy of the crate in its own folder, with these texts, and without files whose text is `None`."""
+    """A copy of the crate in its own folder, with these texts, and without the files whose text is None."""
     with tempfile.TemporaryDirectory(prefix="wrong-bodies-", ignore_cleanup_errors=True) as folder:
         for part in rt.rtlib.PARTS:
             if os.path.isdir(os.path.join(crate.folder, part)):
@@ -88,7 +88,7 @@ def room_with(crate, texts):
 
 
 def check(crate, folder, flags, kept, seconds=None):
-    """Checks the texts in this folder as the crate's, over a folder of kept work, within so many seconds."""
+    """Checks the files in this folder as those of the crate, with a folder of kept work and a time limit."""
     words = [rt.rtlib.RATTLE, "check", *crate.words(flags, keeps=False), "--incremental", kept]
     how = {"stdin": subprocess.DEVNULL, "stdout": subprocess.PIPE, "stderr": subprocess.STDOUT}
     return subprocess.run([*rt.rtlib.guarded(), *words], cwd=folder, timeout=seconds, errors="replace", **how)

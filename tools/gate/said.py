@@ -1,13 +1,13 @@
-"""What a check says of each function: which goals of its own failed, and whether it waits for another
-proof.
+"""Reads the output of a check for each function: which of its own goals failed, and whether it waits for
+another proof.
 
-A function's line ends in `proved`, or says on one line what is lacking:
+The line of a function ends in `proved`, or lists what is missing:
 
     fn kb_jsonc::text::plain: no proof: expected answers in ./proofs/text/plain/Answers.antt;
     `search` did not prove `returns-clause-exact`; it calls `kb_jsonc::scan::make_plain`, which is not proved
 
-A goal that has a written answer which doesn't prove it is an error in the function's folder of proofs/, and
-a goal that nothing proves is a note at a line of the function.
+If a written answer doesn't prove its goal, the output has an error in the function's folder of proofs/. If
+nothing proves a goal, the output has a note at a line of the function.
 """
 
 import dataclasses
@@ -17,7 +17,7 @@ FUNCTION = re.compile(r"^fn (\S+): (.*)$")
 ITEM = re.compile(r"^(?:impl|enum|struct|trait|type) (\S+): (.*)$")
 ERROR = re.compile(r"^(?:\./)?(\S+?):\d+:\d+: error\S*: (?:`([^`]*)`: )?")
 GOAL = re.compile(r"^note: (?:\./)?(src/\S+?):(\d+):\d+: it is not proved that .*\(`([^`]*)`\)")
-# An error that only says that a proof names what an edit took away, or rests on a proof that does.
+# An error that only says that a proof names what an edit took away, or depends on such a proof.
 NAMES = re.compile(r"has no field|is not in scope|has no `|was not admitted")
 SEARCHED = re.compile(r"^`search` did not prove (`.*`)$")
 WAITS = re.compile(r"^it (?:calls|passes the blocks?|waits for the proof of) `.*`(?:, which .*)?$")
@@ -27,21 +27,21 @@ LACKS = re.compile(r"^(?:not proved|no proof|expected answers in \S+)$")
 
 @dataclasses.dataclass
 class Verdict:
-    """What a check says of one function, or of the functions of one cycle."""
+    """The result of a check for one function, or for the functions of one cycle."""
 
     is_proved: bool = True
-    # The goals of its own that failed.
+    # Its own goals that failed.
     goals: list = dataclasses.field(default_factory=list)
-    # Whether it lacks the proof of something else.
+    # Whether it needs another proof that is missing.
     waits: bool = False
-    # Whether a proof file of its own names what isn't there.
+    # Whether one of its proof files names something that doesn't exist.
     lacks_names: bool = False
     # The part of its line that this tool can't read.
     unread: str = ""
 
     @property
     def is_broken(self):
-        """Whether its proof files hold an error."""
+        """Whether its proof files have an error."""
         return self.lacks_names or bool(self.goals)
 
 
@@ -59,7 +59,7 @@ class Said:
         self.units = {it.plain_name(): it.unit for it in functions}
         self.found = {it.unit: Verdict() for it in functions}
         self.named = set()
-        # The lines that tell of a failure and belong to no function.
+        # The lines that report a failure and belong to no function.
         self.stray = []
         self.folders = {}
         for it in functions:
@@ -103,12 +103,12 @@ class Said:
         elif NAMES.search(line) or file.endswith("/Invariants.antt"):
             self.found[unit].lacks_names = True
         elif goal:
-            # (without a name it tells of what rests on an answer that failed)
+            # (an error without a name is about something that depends on a failed answer)
             self.found[unit].goals.append(goal)
 
 
 def read_parts(text, verdict):
-    """Adds the text behind a name to a verdict."""
+    """Adds the text after a function's name to a verdict."""
     if text == "proved":
         return
     verdict.is_proved = False

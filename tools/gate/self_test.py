@@ -1,4 +1,4 @@
-"""Tests of tools/wrong-bodies: what it reads of a check, and how it judges the edits of a small crate."""
+"""Tests of tools/wrong-bodies: how it reads the output of a check, and judges the edits of a small crate."""
 
 import collections
 import contextlib
@@ -316,7 +316,8 @@ class Stopping(unittest.TestCase):
         self.assertIsNone(Limit().seconds_left())
 
     def run_past(self, kept_edits):
-        """What is said of a proved crate whose limit is past, of which these edits are kept as refused."""
+        """The result and the output for a proved crate after the time limit. These edits are kept as
+        refused."""
         with tempfile.TemporaryDirectory() as top, tempfile.TemporaryDirectory() as at:
             crate = made_crate(top)
             edits = edits_of(crate, functions_of(crate), ["wrong-bodies"])
@@ -344,8 +345,8 @@ Named = collections.namedtuple("Named", "path name")
 
 class Faults(unittest.TestCase):
     def tried_with(self, *faults):
-        """What is found of two edits where the calls meet these faults in turn, and how many calls there
-        were."""
+        """The result and the output for two edits if the calls meet these faults in turn, and how many faults
+        are left."""
         answers = iter(faults)
 
         def refused():
@@ -391,8 +392,8 @@ class Trying(unittest.TestCase):
                     how = ("in a batch" if it.batch else "alone") if it.is_refused else "not refused"
                     self.assertEqual(how, EDITS[it.edit.name.removesuffix(".edit")][2])
             self.assertFalse([it for it in lines if "over stand-ins" in it and "not judged" in it])
-            # Twins of one function are in one batch; what changes a trait's function is not beside another
-            # such edit.
+            # Twins of one function are in the same batch. Two edits of a trait's function are in different
+            # batches.
             batch_of = {it.edit.name.removesuffix(".edit"): it.batch for it in trial.results.values()}
             self.assertEqual(batch_of["callee_adds_two"], batch_of["callee_adds_none"])
             self.assertNotEqual(batch_of["trait_counts_none"], batch_of["trait_counts_one"])
@@ -423,6 +424,6 @@ class Trying(unittest.TestCase):
 
 def main():
     loaded = unittest.defaultTestLoader
-    tests = (Reading, Following, Keeping, Turns, Stopping, Trying)
+    tests = (Reading, Following, Keeping, Faults, Turns, Stopping, Trying)
     suite = unittest.TestSuite(loaded.loadTestsFromTestCase(it) for it in tests)
     return 0 if unittest.TextTestRunner(verbosity=1).run(suite).wasSuccessful() else 1

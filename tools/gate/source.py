@@ -1,4 +1,4 @@
-"""The functions of a crate's sources: at which lines each body is, and how a check names it."""
+"""The functions of a crate's sources: the lines of each body, and the name of the function in a check."""
 
 import dataclasses
 import os
@@ -17,7 +17,7 @@ class Function:
 
     file: str
     module: str
-    # The type of its impl block and the trait that this implements, or nothing.
+    # The type of its impl block and the trait that the block implements, or empty texts.
     owner: str
     trait: str
     name: str
@@ -25,18 +25,18 @@ class Function:
     head: int
     opens: int
     closes: int
-    # What its attribute cycle names, or nothing.
+    # The name in its attribute `cycle`, or an empty text.
     cycle: str
     is_public: bool
     is_const: bool
-    # The path of the proof that it has alone, or with its cycle, below the crate.
+    # The path of its proof below the crate. The functions of a cycle share a proof.
     unit: str = ""
 
     def spans(self, line):
         return self.head <= line <= self.closes
 
     def has_in_body(self, line, old, new):
-        """Whether a line that becomes another changes no more than the body."""
+        """Whether replacing this line changes only the body."""
         is_behind = line == self.opens and old.endswith("{") and new.startswith(old)
         return is_behind or self.opens < line <= self.closes
 
@@ -45,14 +45,14 @@ class Function:
 
 
 def words_of(file):
-    """The words of a source's code with their lines: no comment, literal, clause or ghost item."""
+    """The words of a source's code with their lines, without comments, literals, clauses and ghost items."""
     words = [rt.rtlib.RATTLE, "fmt", "--tokens", file]
     ran = subprocess.run(words, capture_output=True, text=True, check=True)
     return [(int(it[1]), it[2]) for it in map(TOKEN.match, ran.stdout.split("\n")) if it]
 
 
 def closing(words, at, opens="{", closes="}"):
-    """The place of the bracket that closes the one at this place."""
+    """The index of the bracket that closes the bracket at this index."""
     depth = 0
     for place in range(at, len(words)):
         depth += {opens: 1, closes: -1}.get(words[place][1], 0)
@@ -62,7 +62,7 @@ def closing(words, at, opens="{", closes="}"):
 
 
 def body_at(words, at):
-    """The place of the brace that opens the body of the function whose name is here, or nothing."""
+    """The index of the brace that opens the body of the function whose name is here, or None."""
     depth = 0
     for place in range(at, len(words)):
         word = words[place][1]
@@ -73,7 +73,7 @@ def body_at(words, at):
 
 
 def squeezed(words, parameters):
-    """A type or a trait as a check spells it: its words, without lifetimes and the impl's parameters."""
+    """A type or a trait as a check spells it: its words, without lifetimes and the parameters of the impl."""
     text = "".join(it for it in words if it[0] != "'")
     paths = re.sub(r"(\w+)::(?=\w)", lambda it: it[1].capitalize(), text)
     return "".join(it for it in re.findall(r"\w+", paths) if it not in parameters)
@@ -92,16 +92,16 @@ def impl_at(words, at):
         return squeezed(head, parameters), ""
     cut = head.index("for")
     trait = head[:cut]
-    # Of a trait's own path a name has only the last word, of its parameters all words.
+    # A name has only the last word of the trait's own path, but all words of its parameters.
     first = trait.index("<") if "<" in trait else len(trait)
     start = max((i + 1 for i in range(first) if trait[i] == ":"), default=0)
     return squeezed(head[cut + 1 :], parameters), squeezed(trait[start:], parameters)
 
 
 def attributes(words, at):
-    """The words before this place that belong to the same item, and the line where it begins."""
+    """The words before this index that belong to the same item, and the line where the item begins."""
     start = at
-    # (of a ghost item only its first word is code)
+    # (only the first word of a ghost item is code)
     while start and words[start - 1][1] not in ("{", "}", ";", "ghost"):
         start -= 1
     return [it for _, it in words[start:at]], words[start][0]
@@ -113,7 +113,7 @@ def module_of(file):
 
 
 def function_at(words, place, file, owner, trait):
-    """The function whose keyword is here, or nothing where it has no body."""
+    """The function whose keyword is here, or None if it has no body."""
     opened = body_at(words, place + 1)
     if opened is None:
         return None
@@ -136,7 +136,7 @@ def function_at(words, place, file, owner, trait):
 
 
 def functions_in(file, folder):
-    """The functions of one source, an inner function before the one around it."""
+    """The functions of one source. A nested function comes before the function that contains it."""
     words = words_of(os.path.join(folder, file))
     found, blocks = [], [(len(words), "", "")]
     for place, (_, word) in enumerate(words):
@@ -144,14 +144,14 @@ def functions_in(file, folder):
             blocks.pop()
         if word == "impl" and (place == 0 or words[place - 1][1] in ("}", ";", "]", "unsafe")):
             blocks.append((closing(words, body_at(words, place)), *impl_at(words, place)))
-        # (the type of a function is no function)
+        # (a function type is no function)
         if word == "fn" and re.match(r"\w", words[place + 1][1]):
             found.append(function_at(words, place, file, *blocks[-1][1:]))
     return sorted(filter(None, found), key=lambda it: it.closes - it.opens)
 
 
 def homes_of_types(folder, files):
-    """The module of each type of the crate, where a check looks for the type's own methods."""
+    """The module of each type of the crate. A check names the type's own methods by this module."""
     homes = {}
     for file in files:
         with open(os.path.join(folder, file), encoding="utf-8") as text:
@@ -178,7 +178,7 @@ SPOKEN = re.compile(r"^\s*(?://|use |pub use )")
 
 
 def constants_of(lines):
-    """For each line, counted from 0, the constant outside of all blocks whose text it is, or nothing."""
+    """For each line, counted from 0, the constant that it defines outside of all blocks, or an empty text."""
     found, name = [], ""
     for line in lines:
         if at := CONSTANT.match(line):
@@ -190,7 +190,7 @@ def constants_of(lines):
 
 
 def users_of(edit, sources, functions):
-    """The functions whose bodies name the constant that an edit changes, or none if other code names it."""
+    """The functions whose bodies use the constant that an edit changes, or none if other code uses it."""
     if edit.function or any(path not in sources for path, _ in edit.lines):
         return []
     names = {constants_of(sources[path])[number - 1] for path, number in edit.lines}

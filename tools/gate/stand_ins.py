@@ -1,8 +1,8 @@
 """Stand-ins: functions whose bodies are replaced while twins are tried.
 
-A function is proved from the contracts of the functions that it calls. So their bodies don't matter where
-only twins are judged, but a check proves them too, which is most of its cost. A stand-in has the body
-`unreachable!()`, and its only goal, that this is never reached, is answered by a hole.
+The proof of a function uses only the contracts of the functions that it calls. So their bodies don't matter
+if only twins are judged, but a check proves them too, which is most of its cost. A stand-in has the body
+`unreachable!()`. Its only goal is that the body is never reached, and a hole answers that goal.
 """
 
 from gate.twins import folder_of
@@ -16,7 +16,8 @@ unreachable-requires = ?
 
 
 def stand_ins_of(functions, proofs):
-    """The functions that may be one: those that may have a twin, have their own lines and hold no other."""
+    """The functions that may be stand-ins: those that may have a twin, share no line with another function,
+    and contain no other function."""
     is_inside = lambda its, it: its is not it and its.file == it.file and it.spans(its.head)
     holds_another = lambda it: any(is_inside(its, it) for its in functions)
     may = lambda it: it.opens < it.closes and not it.is_const and not holds_another(it)
@@ -36,7 +37,7 @@ def with_stand_ins(functions, texts):
 
 
 def proofs_of_stand_ins(functions, proofs, crate):
-    """The files of their proofs: for each the hole, and nothing in place of its own files."""
+    """The proof files of stand-ins: each gets a file with the hole, and its own files are removed."""
     texts = {}
     for it in functions:
         texts |= dict.fromkeys(proofs.of(it))

@@ -1,22 +1,24 @@
-"""Judges a crate's wrong bodies, many by one check.
+"""Judges a crate's wrong bodies, many of them by one check.
 
-A function is proved from the contracts of what it calls, never from their bodies. So one check of a copy of
-the crate tries the wrong bodies of many functions: each in a twin of its function (twins.py), or in place
-where the function may have no twin, and all other functions are stand-ins, which cost nothing to prove
+The proof of a function uses the contracts of the functions that it calls, never their bodies. So one check of
+a copy of the crate tries the wrong bodies of many functions: each in a twin of its function (twins.py), or in
+place if the function may have no twin. All other functions are stand-ins, which cost nothing to prove
 (stand_ins.py). No edit counts as refused because of another one:
 
-- An edit changes the body of one function, or a constant that only bodies name, which changes each of them.
-  Any other is tried alone, and so is one of a const function. In place is at most one edit of a function,
-  or of functions that share one proof (a cycle).
-- An edit is refused where the check names a failing goal of the very twin or function that has the edit: at
-  its lines, in its folder of proofs/, or in its own line. A proof file that names what the edit took away
-  is no such goal.
-- Where a goal fails that belongs to a function without an edit, or to no function, the check judges
-  nothing: some edit reaches past its function. Both halves of the batch are tried, down to single edits.
-- An edit that a batch leaves over is tried by itself over the functions themselves, and then alone, by a
-  whole check over the kept work and one from nothing, which is judged as rt judges a must-fail edit.
-- The functions themselves must be proved, or nothing counts: rt ci has just said so of the crate, or they
-  are checked at the end.
+- An edit changes the body of one function, or a constant that only bodies use, which changes each of these
+  bodies. Any other edit is tried alone, and so is an edit of a const function. Of a function, or of functions
+  that share a proof (a cycle), a batch has at most one edit in place.
+- An edit is refused if the check names a failing goal of exactly the twin or function that has the edit: at
+  its lines, in its folder of proofs/, or in its own line of the output. An error that a proof file names what
+  the edit took away is no such goal.
+- If a goal fails that belongs to a function without an edit, or to no function, the check judges nothing,
+  since some edit affects more than its function. Then both halves of the batch are tried, down to single
+  edits.
+- An edit that no batch refuses is tried by itself, with the real functions instead of stand-ins. If that
+  doesn't refuse it, it is tried alone: by a whole check with the kept work and by one from nothing, judged as
+  rt judges a must-fail edit.
+- The functions without edits must be proved, or nothing counts: rt ci has just proved the crate, or they are
+  checked at the end.
 """
 
 import dataclasses
@@ -35,7 +37,7 @@ from gate.stand_ins import proofs_of_stand_ins, stand_ins_of, with_stand_ins
 from gate.twins import Proofs, Twin, with_twins
 
 FLAGS = ["--jobs", "1"]
-# Edits that one check tries. A check takes 10 to 20 seconds of a processor beside its edits.
+# The most edits that one check tries. A check takes 10 to 20 processor seconds in addition to its edits.
 MOST = 80
 printing = threading.Lock()
 
@@ -47,23 +49,23 @@ def say(line):
 
 @dataclasses.dataclass
 class Tried:
-    """How an edit was judged. One that says little is refused only since a proof names what it took away."""
+    """How an edit was judged. `says_little`: it was refused only because a proof names what it took away."""
 
     edit: object
     is_refused: bool
     text: str
     batch: int = 0
     says_little: bool = False
-    # Whether it was tried: where the time was up, it neither counts as refused nor fails.
+    # Whether it was tried. If the time was up, it neither counts as refused nor fails the gate.
     is_tried: bool = True
 
 
 class TimeIsUp(Exception):
-    """No further check may begin, or this one may not go on."""
+    """The time limit is reached: no further check may begin, or a running check was stopped."""
 
 
 class Limit:
-    """For how many seconds from now checks may begin, and how much longer those that run may go on.
+    """For how many seconds from now checks may begin, and how much longer running checks may go on.
 
     Without a number there is no limit.
     """
@@ -76,7 +78,7 @@ class Limit:
         return self.end is not None and self.clock() >= self.end
 
     def seconds_left(self):
-        """How long a check that begins now may take, or nothing where there is no limit."""
+        """How many seconds a check that begins now may take, or None without a limit."""
         if self.is_past():
             raise TimeIsUp
         return None if self.end is None else self.end - self.clock() + self.grace
@@ -84,36 +86,36 @@ class Limit:
 
 @dataclasses.dataclass(eq=False)
 class Trial:
-    """An edit as a batch tries it: in a twin, or in its own place."""
+    """An edit as a batch tries it: in a twin, or in place."""
 
     edit: object
-    # The functions that it changes: one, or those that name the constant that it changes.
+    # The functions that it changes: one, or those that use the constant that it changes.
     functions: list
     twin: object = None
 
     @property
     def changed(self):
-        """What is changed in its own place."""
+        """The proofs of the functions that it changes in place."""
         return set() if self.twin else {it.unit for it in self.functions}
 
     @property
     def targets(self):
-        """What has the edit: its twin, or the functions themselves."""
+        """The functions that have the edit: its twin, or the functions that it changes in place."""
         return [self.twin] if self.twin else self.functions
 
     @property
     def units(self):
-        """Where a failing goal refuses the edit."""
+        """The proofs in which a failing goal refuses the edit."""
         return {it.unit for it in self.targets}
 
     def is_beside(self, other):
-        """Whether neither changes what the other changes, in its place."""
+        """Whether both may be in one batch: neither changes in place what the other changes."""
         own, its = ({it.unit for it in one.functions} for one in (self, other))
         return not (self.changed & its or other.changed & own)
 
 
 class Crate:
-    """A crate under trial, over a folder of kept work."""
+    """A crate whose edits are tried, with a folder of kept work."""
 
     def __init__(self, crate, functions, edits, kept, say=say, is_proved=False, limit=None):
         self.crate, self.functions, self.kept, self.say = crate, functions, kept, say
@@ -124,7 +126,7 @@ class Crate:
         self.alone = 0
 
     def try_all(self):
-        """Judges each edit, and returns how."""
+        """Judges each edit, and returns the results."""
         begun = time.time()
         try:
             self.try_each()
@@ -162,7 +164,7 @@ class Crate:
             self.results = {it: Tried(it, False, "the crate itself is not proved") for it in self.edits}
 
     def trial_of(self, edit):
-        """How a batch tries an edit, or nothing where none can."""
+        """How a batch tries an edit, or None if no batch can try it."""
         if not edit.is_of_body:
             users = users_of(edit, self.sources, self.functions)
             return Trial(edit, users) if users else None
@@ -172,16 +174,16 @@ class Crate:
         return None if edit.function.is_const else Trial(edit, [edit.function])
 
     def is_sound(self, trials):
-        """Whether what was tried is proved without an edit: the functions, the crate if it was checked."""
+        """Whether the tried functions, and the crate if it was checked, are proved without edits."""
         in_batches = [it for it in trials if self.results[it.edit].batch]
         names = {function.plain_name() for it in in_batches for function in it.functions}
         is_proved = lambda these: self.checked({}, sorted(these))[0].returncode == 0
-        # (a check of no function in particular is one of the whole crate)
+        # (a check without names checks the whole crate)
         return (not names or is_proved(names)) and (not self.alone or is_proved(()))
 
     def checked(self, texts, names):
-        """Checks these functions, or all, of a copy with these files, and returns the functions of the
-        copy."""
+        """Checks these functions, or all, of a copy of the crate with these files. Returns the check and the
+        functions of the copy."""
         with room_with(self.crate, texts) as room:
             words = [word for it in names for word in ("--only", it)]
             try:
@@ -203,7 +205,7 @@ class Crate:
         self.say(f"{self.crate.name}/{tried.edit.name}: {tried.text}")
 
     def try_batch(self, batch, has_stand_ins=True):
-        """Tries edits by one check of what has them, over stand-ins or over the functions themselves."""
+        """Tries edits by one check of the functions that have them, with stand-ins or the real functions."""
         begun, changed = time.time(), {unit for it in batch for unit in it.changed}
         may_be = stand_ins_of(self.functions, self.proofs) if has_stand_ins else []
         stand_ins = [it for it in may_be if it.unit not in changed]
@@ -227,7 +229,7 @@ class Crate:
                 self.judged(refused_at(it, *refusing[0], self.batches))
 
     def try_alone(self, edit):
-        """Judges an edit as rt does a must-fail edit: over the kept work, and then from nothing."""
+        """Judges an edit as rt judges a must-fail edit: with the kept work, and then from nothing."""
         begun = time.time()
         if edit.is_within:
             self.judged(Tried(edit, False, "NOT REFUSED in a batch, and rt can't apply it alone"))
@@ -246,13 +248,13 @@ class Crate:
 
 
 def refusing_in(trial, said):
-    """What has the edit and has a goal of its own that failed in a check, with what the check says of it."""
+    """The proofs of a trial that have their own failed goal in a check, each with its verdict."""
     found = [(unit, said.found[unit]) for unit in sorted(trial.units) if unit in said.named]
     return [(unit, it) for unit, it in found if it.goals and not it.unread and not it.is_proved]
 
 
 def refused_at(trial, unit, verdict, number):
-    """An edit that a batch refuses at a goal."""
+    """The result of an edit that a batch refuses because of a goal."""
     less = " (a proof file also names what the edit took away)" if verdict.lacks_names else ""
     where = trial.edit.function.unit if trial.twin else unit
     text = f"refused in batch {number}: `{verdict.goals[0]}` of {where}{less}"
@@ -260,12 +262,12 @@ def refused_at(trial, unit, verdict, number):
 
 
 def is_refusal(verdict):
-    """Whether rt's verdict on an edit, a word or in some kits a yes or no, counts as refused for rt ci."""
+    """Whether rt's verdict on an edit counts as refused for rt ci. In some kits it is True or False."""
     return verdict in [getattr(rt, word, True) for word in ("REFUSED", "AT_LIMIT")]
 
 
 def trouble_in(ran, said, changed, stand_ins=()):
-    """Why a check of edits of these units tells nothing of them, or an empty text."""
+    """Why a check of edits of these units doesn't judge them, or an empty text."""
     if rt.rtlib.STALE.search(ran.stdout):
         return "the kept work of a library could not be used"
     if not said.lines[-1].startswith("only="):
@@ -273,13 +275,13 @@ def trouble_in(ran, said, changed, stand_ins=()):
     if bad := next((it for it in said.lines if rt.unread(it, ())), ""):
         return f"the prover cannot read an edited text: {bad[:120]}"
     if said.stray:
-        return f"what failed is of no function: {said.stray[0][:120]}"
+        return f"a failure belongs to no function: {said.stray[0][:120]}"
     of_stand_ins = {it.unit for it in stand_ins}
     for unit, verdict in said.found.items():
         if unit in of_stand_ins and verdict.is_broken:
-            return f"the hole of `{unit}` is not taken"
+            return f"the hole of `{unit}` is not accepted"
         if unit not in changed | of_stand_ins and (verdict.is_broken or verdict.unread):
-            return f"`{unit}` fails, which no edit changes"
+            return f"`{unit}` fails, but no edit changes it"
     return ""
 
 
@@ -293,7 +295,7 @@ def crates_with_edits(crates):
 
 
 def try_crate(crate, functions, edits, is_kept=False, is_proved=False, limit=None):
-    """Tries a crate's edits over a folder of kept work."""
+    """Tries a crate's edits with a folder of kept work."""
     with tempfile.TemporaryDirectory(prefix="wrong-bodies-", ignore_cleanup_errors=True) as folder:
         if is_kept:
             checked, folder = (os.path.join(crate.folder, "out", it) for it in ("incremental", "edits"))
@@ -304,7 +306,7 @@ def try_crate(crate, functions, edits, is_kept=False, is_proved=False, limit=Non
 
 
 def try_crates(crates, is_kept=False):
-    """Tries the wrong bodies of these crates side by side, and says whether all are refused."""
+    """Tries the wrong bodies of these crates in parallel. Returns whether all are refused."""
     tasks, chosen = {}, []
     for crate, functions, edits in crates_with_edits(crates):
         chosen.append(crate)
@@ -317,12 +319,12 @@ def try_crates(crates, is_kept=False):
 
 
 def work_of(crate, edits):
-    """A measure of what it takes to try a crate's edits."""
+    """An estimate of the cost of trying a crate's edits."""
     return len(edits) * crate.count(rb"\n")
 
 
 def are_refused(found):
-    """Says which edits were not refused, counts all, and returns whether all that were tried are."""
+    """Prints which edits were not refused, and the counts. Returns whether all tried edits are refused."""
     tried = []
     for it in found:
         if it.is_tried:

@@ -1,11 +1,12 @@
-"""In which order the gate tries the wrong bodies of crates, beside rt ci, and for how long.
+"""The order in which the gate tries the wrong bodies of crates in parallel to rt ci, and the time limit.
 
-The wrong bodies of a crate are tried once rt ci has said that the crate is proved. Of the crates that are
-ready come first those that the commit changes, then those above them, then the others, whose order begins
-at another crate for each commit: where the time never suffices for all, each crate comes first some time.
-Edits that an earlier run on this machine saw refused are not tried again (kept.py). Once the time is up no
-check begins. What was not tried by then is counted and fails nothing. A fault of this tool or of the machine
-fails each edit of the crate, by its name.
+The wrong bodies of a crate are tried once rt ci has reported that the crate is proved. Of the crates that are
+ready, those that the commit changes come first, then those that depend on them, then the others. The order of
+the others begins at another crate for each commit, so that each crate comes first at some commit even if the
+time never suffices for all. Edits that were refused in an earlier run on this machine are not tried again
+(kept.py). Once the time is up, no check begins. Edits that were not tried are counted, and don't fail the
+gate. A fault of this tool or an error of the operating system fails each edit of the crate; the message names
+it.
 """
 
 import concurrent.futures
@@ -20,12 +21,12 @@ from gate.kept import Kept
 from gate.kit import TOP, rt
 from gate.trying import Limit, Tried, are_refused, crates_with_edits, say, try_crate, work_of
 
-# What rt ci says of a crate that it has proved, or that an earlier run on this machine has.
+# The line of rt ci for a crate that it has proved, or that an earlier run on this machine proved.
 PROVED = re.compile(r"^rt: (\w+) (?:proved$|is kept: )")
 
 
 def git(*words, top=TOP):
-    """What git prints, or nothing where it fails."""
+    """The output of git, or an empty text if it fails."""
     try:
         how = {"stdin": subprocess.DEVNULL, "capture_output": True, "text": True}
         ran = subprocess.run(["git", *words], cwd=top, check=False, **how)
@@ -35,7 +36,8 @@ def git(*words, top=TOP):
 
 
 def landed_before(git):
-    """The commit that landed before this one: where this one left the main line, or its parent, if known."""
+    """The commit that landed before this one: where this one branched off the main line, or else its parent,
+    or an empty text."""
     head = git("rev-parse", "HEAD")
     bases = [git("merge-base", "HEAD", it) for it in ("origin/main", "main")]
     return next((it for it in bases if it and it != head), "") or git("rev-parse", "-q", "--verify", "HEAD~1")
@@ -49,7 +51,8 @@ def changed_crates(git):
 
 
 def turns_of(crates, changed, commit):
-    """For each crate its turn: 0 if it changed, 1 if one below it did, or else 2 or more, by the commit."""
+    """For each crate its turn: 0 if it changed, 1 if a crate below it changed, and otherwise a number of at
+    least 2 that depends on the commit."""
     names = sorted(it.name for it in crates)
     first = int(commit[:8] or "0", 16) % max(1, len(names))
     turns = {name: 2 + (at - first) % len(names) for at, name in enumerate(names)}
@@ -62,7 +65,7 @@ def turns_of(crates, changed, commit):
 
 
 def try_what_is_new(crate, functions, edits, before, limit):
-    """Tries those edits of a proved crate that no earlier run on this machine saw refused as they are."""
+    """Tries those edits of a proved crate that were not refused in an earlier run with the same files."""
     known = before.refused()
     found = [Tried(it, True, text) for it, text in known.items()]
     if known:
@@ -77,8 +80,8 @@ def try_what_is_new(crate, functions, edits, before, limit):
 
 
 def try_or_name_the_fault(crate, functions, edits, before, limit, pause=60):
-    """Tries what is new of a crate, and once more, after a pause in seconds, where the machine refuses a file
-    or a process. A fault that stays fails each edit of the crate, by its name."""
+    """Tries the new edits of a crate. After an error of the operating system it tries them once more, after a
+    pause in seconds. A fault that remains fails each edit of the crate; the message names it."""
     for is_second in (False, True):
         try:
             return try_what_is_new(crate, functions, edits, before, limit)
@@ -92,7 +95,7 @@ def try_or_name_the_fault(crate, functions, edits, before, limit, pause=60):
 
 
 def try_ready(ready, limit):
-    """Tries the edits of crates that come ready, one crate after another, until `None` comes for a crate."""
+    """Tries the edits of crates as they become ready, one crate after another, until the queue gives None."""
     found = []
     while (it := ready.get()[-1]) is not None:
         found += try_or_name_the_fault(*it, limit)
@@ -100,14 +103,14 @@ def try_ready(ready, limit):
 
 
 def be_idle():
-    """Has this thread's checks run only where rt ci leaves a processor idle."""
+    """Makes the checks of this thread run only while rt ci leaves a processor idle."""
     os.sched_setscheduler(0, os.SCHED_IDLE, os.sched_param(0))
 
 
 def try_as_proved(crates, lines, at=None, limit=None, git=git):
-    """Tries the wrong bodies of each crate once these lines of rt ci say that the crate is proved.
+    """Tries the wrong bodies of each crate once these lines of rt ci report that the crate is proved.
 
-    It passes the lines on. The folder `at`, if there is one, keeps what runs found.
+    It prints the lines too. The folder `at`, if there is one, has the results that runs keep.
     """
     limit, turns = limit or Limit(), turns_of(crates, changed_crates(git), git("rev-parse", "HEAD"))
     waiting = {it[0].name: (*it, Kept(it[0], it[2], at)) for it in crates_with_edits(crates)}
@@ -126,7 +129,7 @@ def try_as_proved(crates, lines, at=None, limit=None, git=git):
                         ready.put((turns[name], -work_of(crate, edits), name, task))
         finally:
             for number in range(len(lanes)):
-                # (behind all that is there)
+                # (after everything else in the queue)
                 ready.put((len(crates) + 2, 0, str(number), None))
     found = [it for lane in lanes for it in lane.result()]
     unproved = [it for _, _, edits, _ in waiting.values() for it in edits]

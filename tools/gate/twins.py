@@ -1,9 +1,9 @@
-"""Twins: copies of a function behind it, each with one wrong body.
+"""Twins: copies of a function after the function itself, each with one wrong body.
 
-A function's contract judges its body, in any place and under any name. So a wrong body is tried in a copy
-of its function that has another name, the same clauses, and the same files of proofs/ under that name. A
-twin calls what its function calls, and nothing calls the twin. So twins don't affect one another, and all
-of a crate fit one check.
+The contract of a function judges its body, wherever the function is and whatever its name is. So a wrong
+body is tried in a copy of its function that has another name, the same clauses, and the same files of proofs/
+under that name. A twin calls what its function calls, and nothing calls the twin. So twins don't affect one
+another, and one check can try all twins of a crate.
 """
 
 import dataclasses
@@ -13,7 +13,7 @@ import re
 
 @dataclasses.dataclass(eq=False)
 class Twin:
-    """A copy of a function: under which name, and with which edit, or without one."""
+    """A copy of a function with another name, and with an edit or without one."""
 
     function: object
     name: str
@@ -27,7 +27,7 @@ class Twin:
         return "::".join([*self.function.plain_name().split("::")[:-1], self.name])
 
     def lines(self, texts):
-        """The function's lines in these files, with the edit and under the twin's name."""
+        """The function's lines in these files, with the edit and the name of the twin."""
         it, changed = self.function, self.edit.lines if self.edit else {}
         lines = texts[it.file][it.head - 1 : it.closes]
         lines = [changed.get((it.file, it.head + at), line) for at, line in enumerate(lines)]
@@ -51,7 +51,7 @@ def texts_below(folder):
 
 
 def proof_path(function):
-    """What begins the names of the modules of a function's proof."""
+    """A pattern of the prefix of the module names of a function's proof."""
     return re.compile(rf"(?<=\.proofs\.){re.escape('.'.join(function.unit.split('::')))}(?=\.(?!Met\b))")
 
 
@@ -67,12 +67,13 @@ class Proofs:
         return {path: text for path, text in self.texts.items() if path.startswith(f"{folder_of(function)}/")}
 
     def calls_itself(self, function):
-        """Whether the function's proof is that of a cycle that it is alone in."""
+        """Whether the function's proof is that of a cycle with no other function."""
         parts = folder_of(function).rpartition("/")
         return any(path.startswith(f"{parts[0]}/+{parts[2]}/") for path in self.texts)
 
     def let_twins_of(self, function, functions):
-        """Whether a copy is proved as it is: of no trait or cycle, and no other file names its proof."""
+        """Whether a copy has the same proof: the function is not nested, not in a trait or a cycle, and no
+        other file names its proof."""
         others = [it for it in functions if it is not function and it.file == function.file]
         is_inner = any(it.spans(function.head) for it in others)
         own, named = self.of(function), proof_path(function)
@@ -90,7 +91,7 @@ class Proofs:
 
 
 def with_twins(twins, texts, own):
-    """Sources, as lists of lines, with these twins of functions of `own`, each behind its function."""
+    """Sources, as lists of lines, with these twins of functions of `own`, each after its function."""
     changed = {path: [*lines] for path, lines in texts.items()}
     for it in sorted(twins, key=lambda it: -it.function.closes):
         at = it.function.closes

@@ -48,9 +48,9 @@ both (Some c) None = None
 both (Some c) (Some d) = shown (Some c) (Some d)
 
 abbrev mutual
-  -- why a clause isn't what is wanted, if it isn't: negations are pushed inward; of operands that all have to
-  -- hold the first that fails counts, and of operands of which one has to hold, which all fail, the first that
-  -- isn't constant
+  -- why a clause isn't what is wanted, if it isn't: negations are pushed inward; of operands that all have
+  -- to hold the first that fails counts; of operands of which one has to hold, all of which fail, the first
+  -- one that isn't constant
   pub cause_in : Keys → Bool → Marked → Option CauseData
   cause_in keys wanted marked.always = unless (agrees wanted true) never
   cause_in keys wanted marked.never = unless (agrees wanted false) never
@@ -73,8 +73,8 @@ abbrev mutual
   cause_of_all keys wanted marked.no_clauses = Some never
   cause_of_all keys wanted (marked.clause m ms) = both (cause_in keys wanted m) (cause_of_all keys wanted ms)
 
--- what a cause says of a test of contexts: the literal that it names doesn't hold; where it names none, the test
--- is false in every context
+-- what a cause says of a test of contexts: the literal that it names doesn't hold; where it names none, the
+-- test is false in every context
 abbrev pub Explains : Keys → (Keys → Bool) → Option CauseData → Type 0
 Explains keys test None = Unit {0}
 Explains keys test (Some never) = (others : Keys) → test others ≡ false

@@ -1,3 +1,4 @@
 mod CauseLemmas
 mod StartLemmas
 mod TellLemmas
+mod PlacedLemmas

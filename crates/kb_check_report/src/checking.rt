@@ -1,5 +1,9 @@
 //! The check of some files, from their bytes to what is written.
-ghost use Rattle.std.specs.Prelude.{◌≡◌, IfOk, is_none, slice_get};
+ghost use Rattle.std.specs.Prelude.{◌≡◌, [], IfOk, is_none, option_map, slice_get};
+ghost use Rattle.std.specs.Option.{option_map_or};
+ghost use Rattle.kb_jsonc.specs.Reader.{without_mark as text_behind_mark};
+ghost use Rattle.kb_check_report.specs.Page.{IsPage};
+ghost use Rattle.kb_check_report.specs.Placed.{position_in, position_of_part, text_of};
 ghost use Rattle.kb_check_report.specs.Problems.{Checks, files_in};
 
 use crate::choices::{Choices, Form};
@@ -9,7 +13,7 @@ use crate::problems::find_problems;
 use crate::text_lines::write_problem;
 use kb_base::NoMemory;
 use kb_files::LoadFile;
-use kb_places::{Walker, without_mark};
+use kb_places::{Position, Span, Walker, without_mark};
 use kb_source_files::{SourceFile, SourceFiles};
 use kb_stream::write_whole;
 use std::alloc::Global;
@@ -56,7 +60,10 @@ struct Page<'a> {
 }
 
 /// The page of a file.
-fn page_of<'a>(files: &SourceFiles<'a>, name: LoadFile) -> Page<'a> {
+fn page_of<'a>(files: &SourceFiles<'a>, name: LoadFile) -> Page<'a>
+    ensures named { result.name ≡ name }
+    ensures page { IsPage files.now result }
+{
     let file = files.file_of(name);
     let bytes = bytes_of(file);
     Page {
@@ -68,30 +75,77 @@ fn page_of<'a>(files: &SourceFiles<'a>, name: LoadFile) -> Page<'a> {
 }
 
 /// The bytes of a file behind its byte order mark, none without a file.
-fn bytes_of<'a>(file: Option<SourceFile<'a>>) -> &'a [u8] {
+fn bytes_of<'a>(file: Option<SourceFile<'a>>) -> &'a [u8]
+    ensures { result.now ≡ option_map_or (λ file. text_behind_mark file.bytes.now) file.entry [] }
+{
     match file {
         Some(file) => without_mark(file.bytes),
         None => &[],
     }
 }
 
-/// Writes a problem behind a text.
-fn write_one(
-    alloc: Global,
+/// The line and the column of a part of the file of a page.
+fn position_on(page: &mut Page<'_>, span: Option<Span>) -> Option<Position>
+    requires { page.old.walker.text.now ≡ page.old.bytes.now }
+    ensures position { result ≡ option_map (position_of_part page.old.bytes.now) span }
+    ensures name { page.new.name ≡ page.old.name }
+    ensures bytes { page.new.bytes.now ≡ page.old.bytes.now }
+    ensures text { page.new.walker.text.now ≡ page.old.walker.text.now }
+{
+    match span {
+        Some(span) => Some(page.walker.position(span.begin)),
+        None => None,
+    }
+}
+
+/// Turns to the page of the file that a problem is in.
+fn turn_to<'a>(files: &SourceFiles<'a>, name: LoadFile, page: &mut Page<'a>)
+    requires { IsPage files.now page.old }
+    ensures named { page.new.name ≡ name }
+    ensures page { IsPage files.now page.new }
+{
+    if page.name != name {
+        *page = page_of(files, name);
+    }
+}
+
+/// The line and the column of a problem in its file, whose page is then the last.
+fn position_in<'a>(
+    files: &SourceFiles<'a>,
     problem: &Problem,
-    page: &mut Page<'_>,
+    page: &mut Page<'a>,
+) -> Option<Position>
+    requires { IsPage files.now page.old }
+    ensures position { result ≡ position_in files.now problem.now }
+    ensures page { IsPage files.now page.new }
+{
+    turn_to(files, problem.file, page);
+    position_on(page, problem.span)
+}
+
+/// Writes a problem behind a text.
+fn write_one<'a>(
+    alloc: Global,
+    files: &SourceFiles<'a>,
+    problem: &Problem,
+    page: &mut Page<'a>,
     form: Form,
     text: &mut String,
-) -> Result<(), NoMemory> {
+) -> Result<(), NoMemory>
+    requires { IsPage files.now page.old }
+    ensures { IsPage files.now page.new }
+{
+    let position = position_in(files, problem, page);
     match form {
-        Form::Text => write_problem(problem, page.path, &mut page.walker, page.bytes, text),
-        Form::Json => {
-            let position = match problem.span {
-                Some(span) => Some(page.walker.position(span.begin)),
-                None => None,
-            };
-            write_object(alloc, problem, page.path, position, text)
-        }
+        Form::Text => write_problem(
+            problem,
+            page.path,
+            position,
+            &mut page.walker,
+            page.bytes,
+            text,
+        ),
+        Form::Json => write_object(alloc, problem, page.path, position, text),
     }
 }
 
@@ -114,11 +168,8 @@ fn write_all<W: Write>(
     let mut page = page_of(files, LoadFile::Natives);
     let mut text = String::new(alloc);
     for problem in problems {
-        if page.name != problem.file {
-            page = page_of(files, problem.file);
-        }
         text.clear();
-        write_one(alloc, problem, &mut page, form, &mut text)?;
+        write_one(alloc, files, problem, &mut page, form, &mut text)?;
         write_text(text.as_str(), out)?;
     }
     Ok(())

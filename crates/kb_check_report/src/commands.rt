@@ -87,7 +87,7 @@ fn native_names(alloc: Global) -> Result<TakenNames, NoMemory> {
 }
 
 /// The names of the native commands and of the handlers of these extensions.
-pub fn taken_names(
+pub(crate) fn taken_names(
     alloc: Global,
     extensions: &[ExtensionSource<'_>],
 ) -> Result<TakenNames, NoMemory> {
@@ -137,7 +137,7 @@ fn handler_at(handlers: &[Seq<Handler>], list: usize, place: usize) -> Option<&H
 
 impl KnownCommands {
     /// The native commands, those that extensions contribute, and the handlers.
-    pub fn new(
+    pub(crate) fn new(
         alloc: Global,
         bindings: &Bindings,
         extensions: &[ExtensionSource<'_>],
@@ -152,7 +152,7 @@ impl KnownCommands {
     }
 
     /// Whether a command takes these arguments. A command that nobody has takes any.
-    pub fn takes(
+    pub(crate) fn takes(
         &self,
         alloc: Global,
         command: &str,
@@ -168,7 +168,7 @@ impl KnownCommands {
     }
 
     /// The signature of a handler's command.
-    pub fn signature(&self, command: &str) -> Option<&Signature> {
+    pub(crate) fn signature(&self, command: &str) -> Option<&Signature> {
         let Some(Known::Handler(list, place)) = self.names.get(command) else {
             return None;
         };
@@ -179,12 +179,12 @@ impl KnownCommands {
     }
 
     /// Whether there is a command of this name.
-    pub fn has(&self, command: &str) -> bool {
+    pub(crate) fn has(&self, command: &str) -> bool {
         self.names.contains_key(command)
     }
 
     /// A known command one edit from an unknown one.
-    pub fn near(&mut self, command: &str) -> Option<&str> {
+    pub(crate) fn near(&mut self, command: &str) -> Option<&str> {
         if self.guesses >= GUESS_LIMIT {
             return None;
         }

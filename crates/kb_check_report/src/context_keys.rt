@@ -113,7 +113,7 @@ fn unknown_sentence(alloc: Global, unknown: &[&str]) -> Result<String, NoMemory>
 
 /// Adds the clauses with keys that no scope of the layout has at first, each with these keys: those of these
 /// rules, and those of the commands and the items of the palette of all extensions.
-pub fn add_unknown_keys(
+pub(crate) fn add_unknown_keys(
     alloc: Global,
     files: &OpenedFiles<'_>,
     rules: &[Rc<Rule>],

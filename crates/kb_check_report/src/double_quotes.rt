@@ -73,7 +73,7 @@ impl Spot {
 }
 
 /// Whether a clause has a double quote in a word: not in a text in single quotes, and not in a pattern.
-pub fn has_double_quotes(clause: &str) -> bool {
+pub(crate) fn has_double_quotes(clause: &str) -> bool {
     let mut spot = Spot::Plain;
     for byte in clause.as_bytes() {
         if *byte == b'"' && spot.is_plain() {

@@ -1,20 +1,19 @@
 //! Where the entries of a file are, by the parts that hold them.
+ghost use Rattle.std.specs.Prelude.{◌≡◌, ◌==◌, ◌&&◌, IfOk, is_some, map, option_and_then, option_map};
+ghost use Rattle.serde_json.specs.Find.{as_object};
+ghost use Rattle.serde_json.specs.View.{view};
+ghost use Rattle.kb_places.specs.Place.{member, step_data};
+ghost use Rattle.kb_check_report.specs.Placed.{is_alone, members_to, steps_in, value_in};
+
 use kb_base::{NoMemory, Part};
 use kb_places::{Source, Span, Step, items, last_member, members};
 use serde_json::Value;
 use std::alloc::Global;
 
-/// The entries of one part of a file.
-#[derive(Drop)]
-pub struct Entries {
-    /// Where they are, in the order of the file.
-    pub spans: Vec<Span>,
-    /// Whether one entry stands in place of the list.
-    pub is_alone: bool,
-}
-
 /// The members that lead to a part of a `package.json`.
-pub fn steps_to(part: Part) -> &'static [&'static str] {
+pub(crate) fn steps_to(part: Part) -> &'static [&'static str]
+    ensures { map (λ name. name.now) result.now ≡ members_to part }
+{
     match part {
         Part::Commands => &["contributes", "commands"],
         Part::Keybindings => &["contributes", "keybindings"],
@@ -23,7 +22,7 @@ pub fn steps_to(part: Part) -> &'static [&'static str] {
 }
 
 /// Where the value at some members of a file is.
-pub fn span_at(
+pub(crate) fn span_at(
     alloc: Global,
     source: &Source<'_>,
     names: &[&str],
@@ -39,7 +38,7 @@ pub fn span_at(
 }
 
 /// Where the value of a member of the object at a part of a file is.
-pub fn span_of_member(
+pub(crate) fn span_of_member(
     alloc: Global,
     source: &Source<'_>,
     object: Span,
@@ -54,7 +53,10 @@ pub fn span_of_member(
 }
 
 /// The value behind some members, if it is there.
-pub fn member_at<'v>(value: &'v Value, names: &[&str]) -> Option<&'v Value> {
+pub(crate) fn member_at<'v>(value: &'v Value, names: &[&str]) -> Option<&'v Value>
+    ensures { option_map (λ v. view v.now) result
+        ≡ value_in (map (λ name. name.now) names.now) (view value.now) }
+{
     let mut found = value;
     for name in names {
         match found.get(*name) {
@@ -65,51 +67,60 @@ pub fn member_at<'v>(value: &'v Value, names: &[&str]) -> Option<&'v Value> {
     Some(found)
 }
 
-/// No entries.
-pub fn no_entries(alloc: Global) -> Entries {
-    Entries {
-        spans: Vec::new(alloc),
-        is_alone: false,
-    }
-}
-
-/// The entries of the list, or the lone object, at a part of a file.
-pub fn entries_at(
+/// Where the entries of the list, or the lone object, at a part of a file are, in the order of the file.
+pub(crate) fn entries_at(
     alloc: Global,
     source: &Source<'_>,
     span: Option<Span>,
-) -> Result<Entries, NoMemory> {
+) -> Result<Vec<Span>, NoMemory> {
     let Some(span) = span else {
-        return Ok(no_entries(alloc));
+        return Ok(Vec::new(alloc));
     };
     let text = source.plain().as_bytes();
     if text.get(span.begin) != Some(&b'{') {
-        return Ok(Entries {
-            spans: items(alloc, text, span)?,
-            is_alone: false,
-        });
+        return items(alloc, text, span);
     }
     let mut spans = Vec::new(alloc);
     spans.push(span)?;
-    Ok(Entries {
-        spans,
-        is_alone: true,
-    })
+    Ok(spans)
 }
 
-/// The path to an entry.
-pub fn path_to<'a>(
-    alloc: Global,
-    names: &[&'a str],
-    is_alone: bool,
-    place: usize,
-) -> Result<Vec<Step<'a>>, NoMemory> {
-    let mut path = Vec::new(alloc);
+/// Whether one object stands in place of the list at some members, and is the entry at a place.
+fn is_alone(value: &Value, names: &[&str], place: usize) -> bool
+    ensures { result ≡ is_alone (map (λ name. name.now) names.now) (view value.now) place }
+{
+    match member_at(value, names) {
+        Some(found) => place == 0 && found.is_object(),
+        None => false,
+    }
+}
+
+/// The steps to some members.
+fn member_steps<'a>(alloc: Global, names: &[&'a str]) -> Result<Vec<Step<'a>>, NoMemory>
+    ensures { IfOk result (λ steps. map step_data steps.items ≡ map (λ name. member name.now) names.now) }
+{
+    let mut steps = Vec::new(alloc);
     for name in names {
-        path.push(Step::Member(*name))?;
+        steps.push(Step::Member(*name))?;
     }
-    if !is_alone {
-        path.push(Step::Item(place))?;
+    Ok(steps)
+}
+
+/// The path to the entry at a place of the list at some members of a value.
+#[tactic(auto, using(crate::proofs::PlacedLemmas::lone_path, crate::proofs::PlacedLemmas::item_path))]
+pub(crate) fn path_to<'a>(
+    alloc: Global,
+    value: &Value,
+    names: &[&'a str],
+    place: usize,
+) -> Result<Vec<Step<'a>>, NoMemory>
+    ensures { IfOk result (λ path.
+        map step_data path.items ≡ steps_in (map (λ name. name.now) names.now) (view value.now) place) }
+{
+    let mut path = member_steps(alloc, names)?;
+    if is_alone(value, names, place) {
+        return Ok(path);
     }
+    path.push(Step::Item(place))?;
     Ok(path)
 }

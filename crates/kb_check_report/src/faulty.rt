@@ -19,7 +19,7 @@ pub enum Faulty {
 }
 
 /// The member that names the keystrokes of an entry.
-pub fn key_member(entry: &Value, file: LoadFile, platform: Platform) -> &'static str {
+pub(crate) fn key_member(entry: &Value, file: LoadFile, platform: Platform) -> &'static str {
     match file {
         LoadFile::Package(_) if entry.get(platform.name()).is_some() => platform.name(),
         _ => "key",
@@ -55,7 +55,7 @@ fn first_no_text(entry: &Value, names: &[&'static str]) -> Option<Faulty> {
 }
 
 /// The member that has the clause of an entry of a part.
-pub fn clause_member(part: Part) -> &'static str {
+pub(crate) fn clause_member(part: Part) -> &'static str {
     match part {
         Part::Commands => "enablement",
         Part::Keybindings | Part::Palette => "when",
@@ -88,7 +88,7 @@ fn wrong_in(entry: &Value, part: Part, is_missing: bool, key: &'static str) -> F
 }
 
 /// What the fault of a number is about, in an entry of a part.
-pub fn faulty_in(
+pub(crate) fn faulty_in(
     entry: &Value,
     part: Part,
     number: u32,

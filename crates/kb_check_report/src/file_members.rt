@@ -29,7 +29,7 @@ const PARAM: [&str; 2] = ["name", "kind"];
 
 /// Adds the members of a layout and of its scopes that are next to known ones. The context keys of a scope
 /// may have any name.
-pub fn add_layout(
+pub(crate) fn add_layout(
     alloc: Global,
     file: Option<SourceFile<'_>>,
     problems: &mut Vec<Problem>,
@@ -53,7 +53,7 @@ pub fn add_layout(
 
 /// Adds the members of a file of handlers, of its handlers and of their parameters that are next to known
 /// ones.
-pub fn add_handlers(
+pub(crate) fn add_handlers(
     alloc: Global,
     name: LoadFile,
     file: Option<SourceFile<'_>>,

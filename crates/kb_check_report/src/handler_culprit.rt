@@ -13,7 +13,7 @@ use serde_json::{Map, Value};
 use std::alloc::{AllocError, Global};
 
 /// What is wrong with the file of handlers of an extension, behind these extensions: where, and a sentence.
-pub fn handlers_culprit(
+pub(crate) fn handlers_culprit(
     alloc: Global,
     earlier: &[ExtensionSource<'_>],
     source: &Source<'_>,
@@ -30,7 +30,7 @@ pub fn handlers_culprit(
     };
     let span = span_of_member(alloc, source, whole, "handlers")?;
     let list = entries_at(alloc, source, span)?;
-    let spans = list.spans.as_slice();
+    let spans = list.as_slice();
     match refusal.number {
         60..=69 => unaccepted(alloc, source, handlers.as_slice(), spans, refusal),
         70 => taken(alloc, earlier, source, handlers.as_slice(), spans),

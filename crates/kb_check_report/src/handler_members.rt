@@ -51,12 +51,12 @@ fn wrong_param(item: usize, inner: &'static str, sentence: &'static str) -> Wron
 }
 
 /// The command of a handler, or the empty text.
-pub fn command_of(handler: &Value) -> &str {
+pub(crate) fn command_of(handler: &Value) -> &str {
     handler.get("command").and_then(Value::as_str).unwrap_or("")
 }
 
 /// What a handler is wrong in, for the fault of a number.
-pub fn wrong_in(alloc: Global, handler: &Value, number: u32) -> Result<Wrong, NoMemory> {
+pub(crate) fn wrong_in(alloc: Global, handler: &Value, number: u32) -> Result<Wrong, NoMemory> {
     match number {
         40 => Ok(missing_in(handler)),
         41 => shape_in(alloc, handler),

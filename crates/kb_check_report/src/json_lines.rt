@@ -51,7 +51,7 @@ fn object_of(
 }
 
 /// Writes a problem behind a text.
-pub fn write_object(
+pub(crate) fn write_object(
     alloc: Global,
     problem: &Problem,
     path: &str,

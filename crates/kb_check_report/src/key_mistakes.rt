@@ -127,7 +127,7 @@ fn is_modifier(word: &str) -> bool {
 }
 
 /// A sentence on a text of keystrokes that has a fault.
-pub fn key_sentence(alloc: Global, number: u32, text: &str) -> Result<String, NoMemory> {
+pub(crate) fn key_sentence(alloc: Global, number: u32, text: &str) -> Result<String, NoMemory> {
     match number {
         11 => format!(in alloc; "more than four keystrokes; a chord has at most four"),
         12 => format!(in alloc; "no key stands behind the modifiers, or there are only spaces"),

@@ -35,7 +35,11 @@ enum Wrong<'v> {
 }
 
 /// What is wrong with a layout: where, and a sentence.
-pub fn layout_culprit(alloc: Global, source: &Source<'_>, number: u32) -> Result<Said, NoMemory> {
+pub(crate) fn layout_culprit(
+    alloc: Global,
+    source: &Source<'_>,
+    number: u32,
+) -> Result<Said, NoMemory> {
     let value = source.value();
     if !value.is_object() {
         return said(
@@ -55,7 +59,7 @@ pub fn layout_culprit(alloc: Global, source: &Source<'_>, number: u32) -> Result
 }
 
 /// A sentence about a part of a file.
-pub fn said(alloc: Global, span: Span, sentence: &str) -> Result<Said, NoMemory> {
+pub(crate) fn said(alloc: Global, span: Span, sentence: &str) -> Result<Said, NoMemory> {
     Ok((Some(span), String::from_str(alloc, sentence)?))
 }
 

@@ -36,7 +36,7 @@ pub struct Loaded<'a> {
 /// The lints on an accepted load, in the order of their kinds. Those of a kind that isn't looked for are
 /// mostly left out, to save time.
 #[tactic(auto, using(crate::proofs::StartLemmas::none_said))]
-pub fn linted_in(
+pub(crate) fn linted_in(
     alloc: Global,
     files: &OpenedFiles<'_>,
     accepted: Loaded<'_>,

@@ -59,7 +59,7 @@ fn are_commands(elements: &[Value]) -> bool {
 }
 
 /// Adds the commands of the list that a rule runs which nobody has.
-pub fn add_unknown_elements(
+pub(crate) fn add_unknown_elements(
     alloc: Global,
     files: &OpenedFiles<'_>,
     rule: &Rule,
@@ -102,7 +102,7 @@ fn add_unknown_element(
 
 /// Adds a rule that runs a list, if it gives none, and else the commands of the list that don't take their
 /// arguments.
-pub fn add_wrong_list(
+pub(crate) fn add_wrong_list(
     alloc: Global,
     files: &OpenedFiles<'_>,
     rule: &Rule,

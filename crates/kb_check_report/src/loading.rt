@@ -70,7 +70,7 @@ fn inputs_of<'a>(files: &SourceFiles<'a>, extensions: &'a [ExtensionFiles<'a>]) 
 }
 
 /// Loads a session from these files, with all native commands and with verified handlers.
-pub fn load_sources(
+pub(crate) fn load_sources(
     alloc: Global,
     files: &SourceFiles<'_>,
 ) -> Result<Session<PlainNative>, Failure<LoadFault>>
@@ -81,7 +81,7 @@ pub fn load_sources(
 }
 
 /// The handlers of a file that a load accepts, or none where there is no file.
-pub fn handlers_of(alloc: Global, bytes: Option<&[u8]>) -> Result<Seq<Handler>, NoMemory>
+pub(crate) fn handlers_of(alloc: Global, bytes: Option<&[u8]>) -> Result<Seq<Handler>, NoMemory>
     ensures { IfOk result (λ handlers. handlers
         ≡ result_unwrap_or (handlers_in_file (option_map (λ bytes. bytes.now) bytes.entry)) []) }
 {

@@ -101,7 +101,7 @@ fn fails(value: &Value, names: &[&str], shape: Shape) -> bool {
 }
 
 /// What is wrong with a manifest: where, and a sentence.
-pub fn manifest_culprit(alloc: Global, source: &Source<'_>) -> Result<Said, NoMemory> {
+pub(crate) fn manifest_culprit(alloc: Global, source: &Source<'_>) -> Result<Said, NoMemory> {
     let value = source.value();
     let whole = source.whole();
     if !value.is_object() {
@@ -124,7 +124,7 @@ pub fn manifest_culprit(alloc: Global, source: &Source<'_>) -> Result<Said, NoMe
 }
 
 /// What is said of a manifest with the identifier of one of these extensions.
-pub fn identifier_culprit(
+pub(crate) fn identifier_culprit(
     alloc: Global,
     earlier: &[ExtensionSource<'_>],
     source: &Source<'_>,
@@ -172,7 +172,7 @@ fn spot_of(alloc: Global, file: SourceFile<'_>, id: &str) -> Result<Option<Strin
 }
 
 /// What is said of a manifest of which a dependency isn't among these extensions.
-pub fn dependency_culprit(
+pub(crate) fn dependency_culprit(
     alloc: Global,
     earlier: &[ExtensionSource<'_>],
     source: &Source<'_>,

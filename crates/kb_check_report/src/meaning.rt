@@ -1,7 +1,7 @@
 //! What the faults of files mean.
 
 /// What the fault of a file's text means, and what to do.
-pub fn text_meaning(number: u32) -> &'static str {
+pub(crate) fn text_meaning(number: u32) -> &'static str {
     match number {
         1 => "this byte belongs to no UTF-8 text; save the file as UTF-8",
         2 => "this block comment has no end; close it with */",
@@ -14,7 +14,7 @@ pub fn text_meaning(number: u32) -> &'static str {
 }
 
 /// What the fault of a clause means.
-pub fn clause_meaning(number: u32) -> &'static str {
+pub(crate) fn clause_meaning(number: u32) -> &'static str {
     match number {
         30 => {
             "the clause has a part that is no token: a lone =, & or |, or a quote or a pattern without \
@@ -28,7 +28,7 @@ pub fn clause_meaning(number: u32) -> &'static str {
 }
 
 /// What the fault of a handler's code means.
-pub fn code_meaning(number: u32) -> &'static str {
+pub(crate) fn code_meaning(number: u32) -> &'static str {
     match number {
         42 => "the code isn't hexadecimal",
         50 => "the bytes of the code aren't a whole number of three-byte instructions",
@@ -40,7 +40,7 @@ pub fn code_meaning(number: u32) -> &'static str {
 }
 
 /// What it means that a handler isn't accepted.
-pub fn verdict_meaning(number: u32) -> &'static str {
+pub(crate) fn verdict_meaning(number: u32) -> &'static str {
     match number {
         60 => "an instruction takes more values than are on the stack",
         61 => "a value has the wrong kind, or no text or parameter has this index",

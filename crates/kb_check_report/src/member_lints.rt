@@ -38,7 +38,7 @@ const POINTS: [&str; 3] = ["commands", "keybindings", "menus"];
 const MENUS: [&str; 1] = ["commandPalette"];
 
 /// Adds what the members of a file's entries are wrong in.
-pub fn add_members(
+pub(crate) fn add_members(
     alloc: Global,
     opened: &Opened<'_>,
     lint: Lint,
@@ -62,7 +62,7 @@ fn add_of_part(
 ) -> Result<(), NoMemory>
     ensures { OnOk result (never_said problems.new.items ≡ never_said problems.old.items) }
 {
-    for place in 0..opened.entries(part).spans.len() {
+    for place in 0..opened.entries(part).len() {
         add_of_entry(alloc, opened, part, place, lint, problems)?;
     }
     Ok(())
@@ -101,7 +101,7 @@ fn add_misspelled(
 ) -> Result<(), NoMemory>
     ensures { OnOk result (never_said problems.new.items ≡ never_said problems.old.items) }
 {
-    let Some(span) = opened.entries(part).spans.get(place) else {
+    let Some(span) = opened.entries(part).get(place) else {
         return Ok(());
     };
     let object = Piece {
@@ -145,7 +145,7 @@ fn add_quotes(
 
 /// Adds the members of a manifest, of its contributions and of its menus that are next to known ones, if this
 /// is the lint that is looked for.
-pub fn add_points(
+pub(crate) fn add_points(
     alloc: Global,
     opened: &Opened<'_>,
     lint: Lint,

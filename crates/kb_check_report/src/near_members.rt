@@ -27,7 +27,7 @@ pub struct Piece<'a> {
 
 impl<'a> Piece<'a> {
     /// The value of a file.
-    pub fn whole(file: LoadFile, source: &'a Source<'_>) -> Piece<'a> {
+    pub(crate) fn whole(file: LoadFile, source: &'a Source<'_>) -> Piece<'a> {
         Piece {
             file,
             text: source.plain().as_bytes(),
@@ -37,7 +37,7 @@ impl<'a> Piece<'a> {
     }
 
     /// The value of a member.
-    pub fn member(self, alloc: Global, name: &str) -> Result<Option<Piece<'a>>, NoMemory> {
+    pub(crate) fn member(self, alloc: Global, name: &str) -> Result<Option<Piece<'a>>, NoMemory> {
         let Some(value) = self.value.get(name) else {
             return Ok(None);
         };
@@ -124,7 +124,7 @@ fn is_some_near(members: &Map<String, Value>, known: &[&'static str]) -> bool {
 }
 
 /// Adds the members of an object that are next to known ones, with the word for its members.
-pub fn add_near_members(
+pub(crate) fn add_near_members(
     alloc: Global,
     object: Piece<'_>,
     what: &str,
@@ -156,7 +156,7 @@ pub fn add_near_members(
 }
 
 /// Adds the members of the objects of a list that are next to known ones.
-pub fn add_near_in_each(
+pub(crate) fn add_near_in_each(
     alloc: Global,
     list: Piece<'_>,
     known: &[&'static str],
@@ -172,7 +172,7 @@ pub fn add_near_in_each(
 }
 
 /// The values of a list, or none where there is no list.
-pub fn pieces_of<'a>(alloc: Global, list: Piece<'a>) -> Result<Vec<Piece<'a>>, NoMemory> {
+pub(crate) fn pieces_of<'a>(alloc: Global, list: Piece<'a>) -> Result<Vec<Piece<'a>>, NoMemory> {
     let mut pieces = Vec::new(alloc);
     let Some(values) = list.value.as_array() else {
         return Ok(pieces);

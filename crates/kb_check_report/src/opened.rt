@@ -1,12 +1,19 @@
 //! The files of a load, opened again for places in them.
-ghost use Rattle.std.specs.Prelude.{◌≡◌};
+ghost use Rattle.std.specs.Prelude.{◌≡◌, IfOk, IfSome, Some, map};
+ghost use Rattle.serde_json.specs.View.{view};
+ghost use Rattle.kb_files.specs.declared.fault.LoadFile.TheVariants as file;
+ghost use Rattle.kb_places.specs.Place.{step_data};
+ghost use Rattle.kb_source_files.specs.SourceFiles.{file_of};
+ghost use Rattle.kb_source_files.specs.declared.source_files.SourceFiles.{SourceFiles};
+ghost use Rattle.kb_check_report.specs.Opened.{AreOpened, ArePackages, IsOpened};
+ghost use Rattle.kb_check_report.specs.Placed.{IsEntryAt, list_in, steps_in};
 ghost use Rattle.kb_check_report.specs.Starts.{file_in};
 
-use crate::entries::{Entries, entries_at, no_entries, path_to, span_at, span_of_member, steps_to};
+use crate::entries::{entries_at, path_to, span_at, span_of_member, steps_to};
 use kb_base::{NoMemory, Origin, Part};
 use kb_files::LoadFile;
 use kb_places::{LineTable, Source, Span, Step, open, value_at};
-use kb_source_files::{SourceFile, SourceFiles};
+use kb_source_files::{ExtensionSource, SourceFile, SourceFiles};
 use serde_json::Value;
 use std::alloc::Global;
 
@@ -18,13 +25,13 @@ pub struct Opened<'a> {
     /// The file as it was read.
     pub source: Source<'a>,
     lines: LineTable,
-    commands: Entries,
-    keybindings: Entries,
-    palette: Entries,
+    commands: Vec<Span>,
+    keybindings: Vec<Span>,
+    palette: Vec<Span>,
 }
 
 /// The file that entries of an origin are in.
-pub fn file_of(origin: Origin) -> LoadFile
+pub(crate) fn file_of(origin: Origin) -> LoadFile
     ensures { result ≡ file_in origin }
 {
     match origin {
@@ -34,25 +41,26 @@ pub fn file_of(origin: Origin) -> LoadFile
     }
 }
 
-/// The entries of one part of a `package.json`.
-fn entries_in(alloc: Global, source: &Source<'_>, part: Part) -> Result<Entries, NoMemory> {
+/// Where the entries of one part of a `package.json` are.
+fn entries_in(alloc: Global, source: &Source<'_>, part: Part) -> Result<Vec<Span>, NoMemory> {
     let span = span_at(alloc, source, steps_to(part))?;
     entries_at(alloc, source, span)
 }
 
-/// Opens a file of an origin, if it can be read.
+/// Opens a file of a name, if it can be read.
 fn open_file<'a>(
     alloc: Global,
-    origin: Origin,
+    name: LoadFile,
     file: SourceFile<'a>,
-) -> Result<Option<Opened<'a>>, NoMemory> {
+) -> Result<Option<Opened<'a>>, NoMemory>
+    ensures { IfOk result (λ opened. IfSome opened (IsOpened name (Some file.entry))) }
+{
     let Ok(source) = open(alloc, file.bytes)? else {
         return Ok(None);
     };
-    let file = file_of(origin);
-    match origin {
-        Origin::Extension(_) => Ok(Some(Opened {
-            file,
+    match name {
+        LoadFile::Package(_) => Ok(Some(Opened {
+            file: name,
             commands: entries_in(alloc, &source, Part::Commands)?,
             keybindings: entries_in(alloc, &source, Part::Keybindings)?,
             palette: entries_in(alloc, &source, Part::Palette)?,
@@ -60,10 +68,10 @@ fn open_file<'a>(
             source,
         })),
         _ => Ok(Some(Opened {
-            file,
-            commands: no_entries(alloc),
+            file: name,
+            commands: Vec::new(alloc),
             keybindings: entries_at(alloc, &source, Some(source.whole()))?,
-            palette: no_entries(alloc),
+            palette: Vec::new(alloc),
             lines: LineTable::new(alloc, source.bytes())?,
             source,
         })),
@@ -71,23 +79,25 @@ fn open_file<'a>(
 }
 
 impl<'a> Opened<'a> {
-    /// The entries of a part.
-    pub fn entries(&self, part: Part) -> &Entries {
+    /// Where the entries of a part are, in the order of the file.
+    pub(crate) fn entries(&self, part: Part) -> &[Span] {
         match part {
-            Part::Commands => &self.commands,
-            Part::Keybindings => &self.keybindings,
-            Part::Palette => &self.palette,
+            Part::Commands => self.commands.as_slice(),
+            Part::Keybindings => self.keybindings.as_slice(),
+            Part::Palette => self.palette.as_slice(),
         }
     }
 
     /// The line of a rule.
-    pub fn rule_line(&self, place: usize) -> Option<usize> {
-        let span = self.keybindings.spans.get(place)?;
+    pub(crate) fn rule_line(&self, place: usize) -> Option<usize> {
+        let span = self.keybindings.get(place)?;
         Some(self.lines.line(span.begin))
     }
 
     /// The members that lead to a part.
-    fn steps_to(&self, part: Part) -> &'static [&'static str] {
+    fn steps_to(&self, part: Part) -> &'static [&'static str]
+        ensures { map (λ name. name.now) result.now ≡ list_in self.now.file part }
+    {
         match self.file {
             LoadFile::Package(_) => steps_to(part),
             _ => &[],
@@ -100,17 +110,15 @@ impl<'a> Opened<'a> {
         alloc: Global,
         part: Part,
         place: usize,
-    ) -> Result<Vec<Step<'static>>, NoMemory> {
-        path_to(
-            alloc,
-            self.steps_to(part),
-            self.entries(part).is_alone,
-            place,
-        )
+    ) -> Result<Vec<Step<'static>>, NoMemory>
+        ensures { IfOk result (λ path. map step_data path.items
+            ≡ steps_in (list_in self.now.file part) (view self.now.source.value) place) }
+    {
+        path_to(alloc, self.source.value(), self.steps_to(part), place)
     }
 
     /// The value of an entry.
-    pub fn value(
+    pub(crate) fn value(
         &self,
         alloc: Global,
         part: Part,
@@ -121,8 +129,17 @@ impl<'a> Opened<'a> {
     }
 
     /// Where an entry is.
-    pub fn entry(&self, alloc: Global, part: Part, place: usize) -> Result<Option<Span>, NoMemory> {
-        let Some(span) = self.entries(part).spans.get(place) else {
+    #[tactic(auto, using(crate::proofs::PlacedLemmas::entry_stands))]
+    pub(crate) fn entry(
+        &self,
+        alloc: Global,
+        part: Part,
+        place: usize,
+    ) -> Result<Option<Span>, NoMemory>
+        ensures { IfOk result (λ found. IfSome found
+            (IsEntryAt self.now.source (list_in self.now.file part) place)) }
+    {
+        let Some(span) = self.entries(part).get(place) else {
             return Ok(None);
         };
         let path = self.path_to(alloc, part, place)?;
@@ -130,14 +147,18 @@ impl<'a> Opened<'a> {
     }
 
     /// Where the value of a member of an entry is, or the entry where it has no such member.
-    pub fn member(
+    #[tactic(auto, using(crate::proofs::PlacedLemmas::member_stands))]
+    pub(crate) fn member(
         &self,
         alloc: Global,
         part: Part,
         place: usize,
         name: &str,
-    ) -> Result<Option<Span>, NoMemory> {
-        let Some(entry) = self.entries(part).spans.get(place) else {
+    ) -> Result<Option<Span>, NoMemory>
+        ensures { IfOk result (λ found. IfSome found
+            (IsEntryAt self.now.source (list_in self.now.file part) place)) }
+    {
+        let Some(entry) = self.entries(part).get(place) else {
             return Ok(None);
         };
         let Some(span) = span_of_member(alloc, &self.source, *entry, name)? else {
@@ -159,14 +180,16 @@ pub struct OpenedFiles<'a> {
     packages: Vec<Option<Opened<'a>>>,
 }
 
-/// Opens a file that may be absent.
+/// Opens a file of a name that may be absent.
 fn open_optional<'a>(
     alloc: Global,
-    origin: Origin,
+    name: LoadFile,
     file: Option<SourceFile<'a>>,
-) -> Result<Option<Opened<'a>>, NoMemory> {
+) -> Result<Option<Opened<'a>>, NoMemory>
+    ensures { IfOk result (λ opened. IfSome opened (IsOpened name file.entry)) }
+{
     match file {
-        Some(file) => open_file(alloc, origin, file),
+        Some(file) => open_file(alloc, name, file),
         None => Ok(None),
     }
 }
@@ -174,30 +197,39 @@ fn open_optional<'a>(
 /// Opens the manifests of all extensions.
 fn open_packages<'a>(
     alloc: Global,
-    files: &SourceFiles<'a>,
-) -> Result<Vec<Option<Opened<'a>>>, NoMemory> {
+    extensions: &[ExtensionSource<'a>],
+) -> Result<Vec<Option<Opened<'a>>>, NoMemory>
+    ensures { IfOk result (λ packages. ArePackages extensions.now packages.items) }
+{
     let mut packages = Vec::new(alloc);
-    let mut number = 0u32;
-    for extension in files.extensions {
-        packages.push(open_file(alloc, Origin::Extension(number), extension.package)?)?;
-        number = number.saturating_add(1);
+    for (number, extension) in extensions.iter().enumerate() {
+        let opened = open_file(alloc, LoadFile::Package(number), extension.package)?;
+        packages.push(opened)?;
     }
     Ok(packages)
 }
 
 /// Opens all files with entries.
-pub fn open_all<'a>(alloc: Global, files: &SourceFiles<'a>) -> Result<OpenedFiles<'a>, NoMemory> {
+pub(crate) fn open_all<'a>(
+    alloc: Global,
+    files: &SourceFiles<'a>,
+) -> Result<OpenedFiles<'a>, NoMemory>
+    ensures { IfOk result (AreOpened files.now) }
+{
     Ok(OpenedFiles {
         sources: *files,
-        defaults: open_optional(alloc, Origin::Defaults, files.defaults)?,
-        user: open_optional(alloc, Origin::User, files.user)?,
-        packages: open_packages(alloc, files)?,
+        defaults: open_optional(alloc, LoadFile::Defaults, files.defaults)?,
+        user: open_optional(alloc, LoadFile::User, files.user)?,
+        packages: open_packages(alloc, files.extensions)?,
     })
 }
 
 impl<'a> OpenedFiles<'a> {
     /// The file that entries of an origin are in.
-    pub fn of(&self, origin: Origin) -> Option<&Opened<'a>> {
+    pub(crate) fn of(&self, origin: Origin) -> Option<&Opened<'a>>
+        ensures { (files : SourceFiles) → AreOpened files self.now → IfSome result (λ opened.
+            IsOpened (file_in origin) (file_of files (file_in origin)) opened.now) }
+    {
         match origin {
             Origin::Defaults => self.defaults.as_ref(),
             Origin::Extension(number) => match self.packages.get(number as usize) {

@@ -74,7 +74,7 @@ fn clause_of(
 }
 
 /// Adds each pattern that isn't read. A clause with several of them is looked for once.
-pub fn add_unread_patterns(
+pub(crate) fn add_unread_patterns(
     alloc: Global,
     files: &OpenedFiles<'_>,
     unread: &[UnreadPattern],

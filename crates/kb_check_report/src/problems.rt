@@ -3,6 +3,8 @@ ghost use Rattle.std.specs.Prelude.{◌≡◌, ◌∷◌, IfOk, List, OnOk};
 ghost use Rattle.std.specs.List.{filter_map};
 ghost use Rattle.kb_bindings.specs.Sources.{enablement, rules_of};
 ghost use Rattle.kb_bindings.specs.Warning.{warnings_of};
+ghost use Rattle.kb_source_files.specs.declared.source_files.SourceFiles.{SourceFiles};
+ghost use Rattle.kb_check_report.specs.Placed.{ArePlaced};
 ghost use Rattle.kb_check_report.specs.Problems.{AreWanted, IsRefusal, Tells};
 ghost use Rattle.kb_check_report.specs.Problems.{files_in, is_wanted, warning_in};
 ghost use Rattle.kb_check_report.specs.Starts.{AreSound};
@@ -40,6 +42,10 @@ pub fn find_problems(
 
     // No lint among them is silenced, and those that are off by default are asked for.
     ensures wanted { IfOk result (λ problems. AreWanted choices.now problems.items) }
+
+    // A refusal is in the file that the load names. A warning is in its file, and where a place is named, its
+    // entry or a member of it begins there.
+    ensures placed { IfOk result (λ problems. ArePlaced files.now problems.items) }
 {
     match load_sources(alloc, files) {
         Ok(session) => Ok(of_session(alloc, files, session, choices)?),
@@ -60,6 +66,7 @@ fn of_session(
     ensures sound { IfOk result (λ problems.
         AreSound (enablement session.state.sources) (rules_of session.state.sources) problems.items) }
     ensures wanted { IfOk result (λ problems. AreWanted choices.now problems.items) }
+    ensures placed { IfOk result (λ problems. ArePlaced files.now problems.items) }
 {
     let found = of_accepted(
         alloc,
@@ -73,7 +80,7 @@ fn of_session(
 }
 
 /// The problem of a load that is refused. It is no lint.
-#[tactic(auto, using(crate::proofs::CauseLemmas::refusal_wanted))]
+#[tactic(auto, using(crate::proofs::CauseLemmas::refusal_wanted, crate::proofs::PlacedLemmas::refusal_placed))]
 fn of_refused(
     alloc: Global,
     files: &SourceFiles<'_>,
@@ -81,6 +88,7 @@ fn of_refused(
 ) -> Result<Vec<Problem>, NoMemory>
     ensures refusal { IfOk result (λ problems. IsRefusal fault problems.items) }
     ensures wanted { (choices : Choices) → IfOk result (λ problems. AreWanted choices problems.items) }
+    ensures placed { IfOk result (λ problems. ArePlaced files.now problems.items) }
 {
     let problem = refused(alloc, files, fault)?;
     let mut problems = Vec::new(alloc);
@@ -102,6 +110,7 @@ fn of_accepted<'b>(
     ensures sound { IfOk result (λ problems.
         AreSound (enablement bindings.now) (rules_of bindings.now) problems.items) }
     ensures wanted { IfOk result (λ problems. AreWanted choices.now problems.items) }
+    ensures placed { IfOk result (λ problems. ArePlaced sources.now problems.items) }
 {
     let files = open_all(alloc, &*sources)?;
     let mut problems = warned(alloc, &files, sources.platform, bindings.warnings())?;
@@ -122,7 +131,7 @@ fn is_wanted(cause: Cause, choices: &Choices<'_>) -> bool
 }
 
 /// Adds a lint behind other problems, if it is looked for.
-#[tactic(auto, using(crate::proofs::CauseLemmas::lint_adds, crate::proofs::CauseLemmas::wanted_adds))]
+#[tactic(auto, using(crate::proofs::CauseLemmas::lint_adds, crate::proofs::CauseLemmas::wanted_adds, crate::proofs::PlacedLemmas::lint_placed))]
 fn add_lint(
     lint: Problem,
     choices: &Choices<'_>,
@@ -132,6 +141,8 @@ fn add_lint(
         (filter_map warning_in problems.new.items ≡ filter_map warning_in problems.old.items) }
     ensures wanted { AreWanted choices.now problems.old.items
         → OnOk result (AreWanted choices.now problems.new.items) }
+    ensures placed { (files : SourceFiles) → ArePlaced files problems.old.items
+        → OnOk result (ArePlaced files problems.new.items) }
     ensures sound { (enablement : Enabling) (rules : List Rule) (rest : List Problem)
         → AreSound enablement rules (lint ∷ rest) → AreSound enablement rules problems.old.items
         → OnOk result (AreSound enablement rules problems.new.items) }
@@ -153,6 +164,8 @@ fn add_lints(
         (filter_map warning_in problems.new.items ≡ filter_map warning_in problems.old.items) }
     ensures wanted { AreWanted choices.now problems.old.items
         → OnOk result (AreWanted choices.now problems.new.items) }
+    ensures placed { (files : SourceFiles) → ArePlaced files problems.old.items
+        → OnOk result (ArePlaced files problems.new.items) }
     ensures sound { (enablement : Enabling) (rules : List Rule) → AreSound enablement rules lints.items
         → AreSound enablement rules problems.old.items
         → OnOk result (AreSound enablement rules problems.new.items) }

@@ -18,12 +18,13 @@ use std::alloc::Global;
 pub type Said = (Option<Span>, String);
 
 /// The problem of a load that is refused.
-pub fn refused(
+pub(crate) fn refused(
     alloc: Global,
     files: &SourceFiles<'_>,
     fault: LoadFault,
 ) -> Result<Problem, NoMemory>
-    ensures { IfOk result (λ problem. problem.cause ≡ Refused fault.file fault.refusal.number) }
+    ensures cause { IfOk result (λ problem. problem.cause ≡ Refused fault.file fault.refusal.number) }
+    ensures file { IfOk result (λ problem. problem.file ≡ fault.file) }
 {
     let (span, sentence) = match files.file_of(fault.file) {
         Some(file) => said_of_file(alloc, files, file, &fault)?,

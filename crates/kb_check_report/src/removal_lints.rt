@@ -34,7 +34,7 @@ fn removable(alloc: Global, bindings: &Bindings) -> Result<Vec<Rc<Rule>>, NoMemo
 }
 
 /// Adds the removals that take nothing.
-pub fn add_idle_removals(
+pub(crate) fn add_idle_removals(
     alloc: Global,
     files: &OpenedFiles<'_>,
     bindings: &Bindings,
@@ -130,7 +130,7 @@ fn is_dropped(warning: Option<&Warning>, place: usize) -> bool {
 fn places_of(alloc: Global, opened: &Opened<'_>, list: &RuleList) -> Result<Vec<usize>, NoMemory> {
     let mut places = Vec::new(alloc);
     let mut next = 0;
-    for place in 0..opened.entries(Part::Keybindings).spans.len() {
+    for place in 0..opened.entries(Part::Keybindings).len() {
         if let Some(entry) = opened.value(alloc, Part::Keybindings, place)? {
             next = first_at(list.warnings(), next, place);
             if is_removal(entry) && !is_dropped(list.warnings().get(next), place) {

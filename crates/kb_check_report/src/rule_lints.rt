@@ -22,7 +22,11 @@ use std::alloc::Global;
 use std::rc::Rc;
 
 /// The place of a rule as messages name it.
-pub fn spot_of(alloc: Global, files: &OpenedFiles<'_>, rule: &Rule) -> Result<String, NoMemory> {
+pub(crate) fn spot_of(
+    alloc: Global,
+    files: &OpenedFiles<'_>,
+    rule: &Rule,
+) -> Result<String, NoMemory> {
     let path = match files.sources.file_of_origin(rule.origin) {
         Some(file) => file.path,
         None => "",
@@ -38,7 +42,7 @@ pub fn spot_of(alloc: Global, files: &OpenedFiles<'_>, rule: &Rule) -> Result<St
 }
 
 /// A problem of a rule, at a member of it.
-pub fn rule_problem(
+pub(crate) fn rule_problem(
     alloc: Global,
     files: &OpenedFiles<'_>,
     rule: &Rule,
@@ -83,7 +87,7 @@ fn shadowed_at(found: &[Shadowed], number: usize) -> Option<Shadowed>
 }
 
 /// Adds the rules that can never start, since a lower one takes their keystrokes, from the top down.
-pub fn add_shadowed(
+pub(crate) fn add_shadowed(
     alloc: Global,
     files: &OpenedFiles<'_>,
     rules: &[Rc<Rule>],
@@ -167,7 +171,7 @@ fn cut_at(found: &[CutOff], number: usize) -> Option<CutOff>
 }
 
 /// Adds the rules that can never start, since a lower one takes the first of their keystrokes.
-pub fn add_cut_off(
+pub(crate) fn add_cut_off(
     alloc: Global,
     files: &OpenedFiles<'_>,
     rules: &[Rc<Rule>],
@@ -234,7 +238,7 @@ fn extended_at(found: &[Extended], number: usize) -> Option<Extended>
 }
 
 /// Adds the rules that can never start, since a lower one has their keystrokes and more, from the top down.
-pub fn add_extended(
+pub(crate) fn add_extended(
     alloc: Global,
     files: &OpenedFiles<'_>,
     rules: &[Rc<Rule>],
@@ -301,7 +305,7 @@ fn add_one_extended(
 }
 
 /// Adds the rules whose command nobody has.
-pub fn add_unknown_commands(
+pub(crate) fn add_unknown_commands(
     alloc: Global,
     files: &OpenedFiles<'_>,
     rules: &[Rc<Rule>],
@@ -348,7 +352,7 @@ fn add_unknown_command(
 }
 
 /// The sentence on a command that nobody has.
-pub fn unknown_sentence(
+pub(crate) fn unknown_sentence(
     alloc: Global,
     command: &str,
     known: &mut KnownCommands,
@@ -364,7 +368,7 @@ pub fn unknown_sentence(
 }
 
 /// Adds the rules whose arguments their command doesn't take.
-pub fn add_wrong_arguments(
+pub(crate) fn add_wrong_arguments(
     alloc: Global,
     files: &OpenedFiles<'_>,
     rules: &[Rc<Rule>],
@@ -415,7 +419,7 @@ fn arguments(rule: &Rule) -> Option<&Value> {
 }
 
 /// The sentence on arguments that a command doesn't take.
-pub fn arguments_sentence(
+pub(crate) fn arguments_sentence(
     alloc: Global,
     command: &str,
     known: &KnownCommands,

@@ -1,4 +1,6 @@
 //! Problems as lines for people: a sentence with the place, and below it the line of the file with a caret.
+ghost use Rattle.std.specs.Prelude.{◌≡◌};
+
 use crate::problem::Problem;
 use kb_base::NoMemory;
 use kb_places::{Position, Walker};
@@ -10,7 +12,7 @@ const WIDTH: usize = 160;
 const BEFORE: usize = 99;
 
 /// Writes the line of a problem behind a text.
-pub fn write_headline(
+pub(crate) fn write_headline(
     problem: &Problem,
     path: &str,
     position: Option<Position>,
@@ -101,7 +103,7 @@ fn text_of(bytes: &[u8]) -> &str {
 
 /// Writes the line of a file that begins at an index behind a text, with a caret below a byte of it. Of a
 /// long line the part round the caret is shown, and no other byte of it is read.
-pub fn write_source(
+pub(crate) fn write_source(
     bytes: &[u8],
     begin: usize,
     at: usize,
@@ -127,22 +129,24 @@ fn write_blanks(part: &str, text: &mut String) -> Result<(), NoMemory> {
     Ok(())
 }
 
-/// Writes a problem behind a text.
-pub fn write_problem(
+/// Writes a problem with its position behind a text.
+pub(crate) fn write_problem(
     problem: &Problem,
     path: &str,
+    position: Option<Position>,
     walker: &mut Walker<'_>,
     bytes: &[u8],
     text: &mut String,
-) -> Result<(), NoMemory> {
+) -> Result<(), NoMemory>
+    ensures { walker.new.text.now ≡ walker.old.text.now }
+{
+    write_headline(problem, path, position, text)?;
     match problem.span {
         Some(span) => {
             let at = span.begin.min(bytes.len());
-            let position = walker.position(at);
             let begin = walker.line_begin(at);
-            write_headline(problem, path, Some(position), text)?;
             write_source(bytes, begin, at, text)
         }
-        None => write_headline(problem, path, None, text),
+        None => Ok(()),
     }
 }

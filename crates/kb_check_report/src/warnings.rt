@@ -1,5 +1,10 @@
 //! The warnings of a load as problems.
-ghost use Rattle.std.specs.Prelude.{◌≡◌, [], ◌∷◌, ◌++◌, IfOk, OnOk, map};
+ghost use Rattle.std.specs.Prelude.{◌≡◌, [], ◌∷◌, ◌++◌, IfOk, IfSome, OnOk, map};
+ghost use Rattle.kb_source_files.specs.SourceFiles.{file_of};
+ghost use Rattle.kb_source_files.specs.declared.source_files.SourceFiles.{SourceFiles};
+ghost use Rattle.kb_check_report.specs.Opened.{AreOpened};
+ghost use Rattle.kb_check_report.specs.Placed.{ArePlaced, IsEntryAt, IsEntryIn, IsPlacedWarning, list_in};
+ghost use Rattle.kb_check_report.specs.Starts.{file_in};
 ghost use Rattle.kb_check_report.specs.declared.cause.Cause.TheVariants.{Warned};
 
 use crate::cause::Cause;
@@ -15,13 +20,15 @@ use serde_json::Value;
 use std::alloc::Global;
 
 /// A problem for each warning, in order.
-pub fn warned(
+pub(crate) fn warned(
     alloc: Global,
     files: &OpenedFiles<'_>,
     platform: Platform,
     warnings: &[Warning],
 ) -> Result<Vec<Problem>, NoMemory>
-    ensures { IfOk result (λ problems. map (λ p. p.cause) problems.items ≡ map Warned warnings.now) }
+    ensures causes { IfOk result (λ problems. map (λ p. p.cause) problems.items ≡ map Warned warnings.now) }
+    ensures placed { (sources : SourceFiles) → AreOpened sources files.now
+        → IfOk result (λ problems. ArePlaced sources problems.items) }
 {
     let mut problems = Vec::new(alloc);
     for warning in warnings {
@@ -31,6 +38,7 @@ pub fn warned(
 }
 
 /// Adds the problem of a warning.
+#[tactic(auto, using(crate::proofs::PlacedLemmas::warned_adds))]
 fn add_warned(
     alloc: Global,
     files: &OpenedFiles<'_>,
@@ -38,8 +46,10 @@ fn add_warned(
     warning: Warning,
     problems: &mut Vec<Problem>,
 ) -> Result<(), NoMemory>
-    ensures { OnOk result (map (λ p. p.cause) problems.new.items
+    ensures causes { OnOk result (map (λ p. p.cause) problems.new.items
         ≡ map (λ p. p.cause) problems.old.items ++ Warned warning ∷ []) }
+    ensures placed { (sources : SourceFiles) → AreOpened sources files.now
+        → ArePlaced sources problems.old.items → OnOk result (ArePlaced sources problems.new.items) }
 {
     problems.push(warned_of(alloc, files, platform, warning)?)?;
     Ok(())
@@ -52,12 +62,11 @@ fn warned_of(
     platform: Platform,
     warning: Warning,
 ) -> Result<Problem, NoMemory>
-    ensures { IfOk result (λ problem. problem.cause ≡ Warned warning) }
+    ensures cause { IfOk result (λ problem. problem.cause ≡ Warned warning) }
+    ensures placed { (sources : SourceFiles) → AreOpened sources files.now
+        → IfOk result (λ problem. IsPlacedWarning sources problem warning) }
 {
-    let (span, sentence) = match files.of(warning.origin) {
-        Some(opened) => said_of(alloc, opened, platform, warning)?,
-        None => (None, String::from_str(alloc, "the entry has a fault")?),
-    };
+    let (span, sentence) = said_in(alloc, files, platform, warning)?;
     Ok(Problem {
         cause: Cause::Warned(warning),
         file: file_of(warning.origin),
@@ -66,13 +75,34 @@ fn warned_of(
     })
 }
 
+/// The place of a warning in its file, and what is said of it.
+#[tactic(auto, using(crate::proofs::PlacedLemmas::part_there))]
+fn said_in(
+    alloc: Global,
+    files: &OpenedFiles<'_>,
+    platform: Platform,
+    warning: Warning,
+) -> Result<(Option<Span>, String), NoMemory>
+    ensures { (sources : SourceFiles) → AreOpened sources files.now → IfOk result (λ said. IfSome said.0
+        (IsEntryIn (file_of sources (file_in warning.origin)) (list_in (file_in warning.origin) warning.part)
+        warning.place)) }
+{
+    match files.of(warning.origin) {
+        Some(opened) => Ok(said_of(alloc, opened, platform, warning)?),
+        None => Ok((None, String::from_str(alloc, "the entry has a fault")?)),
+    }
+}
+
 /// The place of a warning, and what is said of it.
 fn said_of(
     alloc: Global,
     opened: &Opened<'_>,
     platform: Platform,
     warning: Warning,
-) -> Result<(Option<Span>, String), NoMemory> {
+) -> Result<(Option<Span>, String), NoMemory>
+    ensures { IfOk result (λ said. IfSome said.0
+        (IsEntryAt opened.now.source (list_in opened.now.file warning.part) warning.place)) }
+{
     let Some(entry) = opened.value(alloc, warning.part, warning.place)? else {
         return Ok((None, String::from_str(alloc, "the entry has a fault")?));
     };
@@ -88,7 +118,10 @@ fn span_of(
     opened: &Opened<'_>,
     warning: Warning,
     faulty: Faulty,
-) -> Result<Option<Span>, NoMemory> {
+) -> Result<Option<Span>, NoMemory>
+    ensures { IfOk result (λ found. IfSome found
+        (IsEntryAt opened.now.source (list_in opened.now.file warning.part) warning.place)) }
+{
     match faulty {
         Faulty::Member(name) => opened.member(alloc, warning.part, warning.place, name),
         Faulty::Entry | Faulty::Missing(_) => opened.entry(alloc, warning.part, warning.place),

@@ -1,5 +1,5 @@
 -- What the calls of an engine make of it.
-use Rattle.std.specs.Prelude.{◌≡◌, ⊤, ℕ, true, false, List, [], ◌∷◌, ◌++◌, drop, length, Option, Some, None}
+use Rattle.std.specs.Prelude.{◌≡◌, ℕ, true, false, List, [], ◌∷◌, ◌++◌, drop, length, Option, Some, None}
 use Rattle.std.specs.Prelude.{IsSome, ◌==◌, if◌then◌else◌}
 use Rattle.std.specs.Str.{is_utf8}
 use Rattle.kb_core.specs.Native.{natives}
@@ -20,6 +20,7 @@ use Rattle.kb_embed.specs.declared.taken.TakenKind.TheVariants as kind
 use Rattle.kb_palette.specs.declared.listing.Entry.{Entry}
 use Rattle.kb_script.specs.Script.{key_event}
 use Rattle.kb_session.specs.Session.{IsOf}
+use Rattle.kb_session.specs.State.{State}
 use Rattle.kb_stream.specs.Writing.{text_of_lines}
 use Rattle.kb_trace.specs.declared.event.Event.{Event}
 
@@ -44,7 +45,7 @@ GivesFile number bytes old outcome.Done new =
     × (new ≡ record old { files = new.files })
 GivesFile number bytes old outcome.OutOfOrder new = IsLate old new
 GivesFile number bytes old outcome.Unknown new = (with_file number bytes old.files ≡ None) × (new ≡ old)
-GivesFile number bytes old outcome.NoMemory new = new ≡ old
+GivesFile number bytes old outcome.NoMemory new = IsSome (with_file number bytes old.files) × (new ≡ old)
 GivesFile number bytes old o new = ⊥
 
 -- the platform is named, by its number
@@ -96,8 +97,15 @@ TellsIn e None o new = (o ≡ outcome.OutOfOrder) × (new ≡ None)
 TellsIn e (Some old) o None = ⊥
 TellsIn e (Some old) o (Some new) = running.Tells e old o new
 
+-- what was taken of the session, if there is one
+abbrev pub TakesOf : (State → Taken → Type 0) → EngineData → Option RunningData → Outcome → Taken → Type 0
+TakesOf P old None o t = t ≡ old.taken
+TakesOf P old (Some r) o t = taken.TakesBy (P r.session.state) o t
+
 abbrev pub Tells : Event → EngineData → Outcome → EngineData → Type 0
-Tells e old o new = TellsIn e old.running o new.running × KeepsFiles old new
+Tells e old o new =
+    TellsIn e old.running o new.running × TakesOf (taken.Takes e) old old.running o new.taken
+    × KeepsFiles old new
 
 -- a line of a script is told to the session, if there is one
 abbrev pub TellsLineIn : List ℕ → Option RunningData → Outcome → Option RunningData → Type 0
@@ -106,7 +114,9 @@ TellsLineIn line (Some old) o None = ⊥
 TellsLineIn line (Some old) o (Some new) = running.TellsLine line old o new
 
 abbrev pub TellsLine : List ℕ → EngineData → Outcome → EngineData → Type 0
-TellsLine line old o new = TellsLineIn line old.running o new.running × KeepsFiles old new
+TellsLine line old o new =
+    TellsLineIn line old.running o new.running × TakesOf (taken.TakesLine line) old old.running o new.taken
+    × KeepsFiles old new
 
 -- memory was refused before an event was made: the session is stopped, if there is one
 abbrev pub HaltsIn : Option RunningData → Outcome → Option RunningData → Type 0
@@ -114,13 +124,13 @@ HaltsIn None o new = (o ≡ outcome.OutOfOrder) × (new ≡ None)
 HaltsIn (Some old) o None = ⊥
 HaltsIn (Some old) o (Some new) = (o ≡ outcome.NoMemory) × HaltsFrom old new
 
-abbrev pub Halts : EngineData → Outcome → EngineData → Type 0
-Halts old o new = HaltsIn old.running o new.running × KeepsFiles old new
+abbrev pub LosesTaken : EngineData → Option RunningData → Taken → Type 0
+LosesTaken old None t = t ≡ old.taken
+LosesTaken old (Some r) t = t ≡ taken.no_taken
 
--- what an event takes of the session, if there is one
-abbrev pub TakesIn : Event → Option RunningData → Taken → Type 0
-TakesIn e None t = ⊤
-TakesIn e (Some r) t = taken.Takes e r.session.state t
+abbrev pub Halts : EngineData → Outcome → EngineData → Type 0
+Halts old o new =
+    HaltsIn old.running o new.running × LosesTaken old old.running new.taken × KeepsFiles old new
 
 -- the event of a key's text
 abbrev pub key_told : List ℕ → Option Event

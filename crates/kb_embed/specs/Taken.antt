@@ -1,6 +1,8 @@
 -- What an event takes: the rule of a key press, or the entry of a choice.
-use Rattle.std.specs.Prelude.{◌≡◌, ◌++◌, ⊤, ℕ, false, List, [], ◌∷◌, Option, Some, None}
+use Rattle.std.specs.Prelude.{◌≡◌, ◌++◌, ℕ, false, List, [], ◌∷◌, Option, Some, None}
 use Rattle.kb_bindings.specs.Sources.{source_of}
+use Rattle.kb_embed.specs.declared.outcome.Outcome.{Outcome}
+use Rattle.kb_embed.specs.declared.outcome.Outcome.TheVariants as outcome
 use Rattle.kb_embed.specs.declared.taken.Taken.{Taken}
 use Rattle.kb_embed.specs.declared.taken.TakenKind.{TakenKind}
 use Rattle.kb_embed.specs.declared.taken.TakenKind.TheVariants as kind
@@ -11,7 +13,9 @@ use Rattle.kb_resolve.specs.Resolved.{Resolution, found, more, nothing}
 use Rattle.kb_rules.specs.declared.rule.Rule.{Rule}
 use Rattle.kb_session.specs.Inspect.{found_by}
 use Rattle.kb_session.specs.Palette.{entry_at}
-use Rattle.kb_session.specs.State.{State}
+use Rattle.kb_session.specs.State.{State, happens}
+use Rattle.kb_script.specs.Script.{line_said}
+use Rattle.kb_script.specs.Shelf.{Said, tells}
 use Rattle.kb_trace.specs.declared.event.Event.{Event}
 use Rattle.kb_trace.specs.declared.event.Event.TheVariants as event
 use Rattle.serde_json.specs.Data.{Data}
@@ -47,8 +51,32 @@ abbrev pub chosen : Option Entry → Taken
 chosen None = bare kind.Nothing []
 chosen (Some e) = record (bare kind.Started []) { command = e.command }
 
+-- nothing
+abbrev pub no_taken : Taken
+no_taken = bare kind.Nothing []
+
 -- what an event takes; an event that starts no command takes nothing
 abbrev pub Takes : Event → State → Taken → Type 0
 Takes (event.Key key) s t = TakesFound s (chord_spelling (s.pressed ++ key ∷ [])) (found_by key s) t
 Takes (event.Choose number) s t = t ≡ chosen (entry_at number s.listed)
-Takes e s t = t ≡ bare kind.Nothing []
+Takes e s t = t ≡ no_taken
+
+-- what a line takes: what its event takes, if it says one
+abbrev pub TakesSaid : Option Said → State → Taken → Type 0
+TakesSaid (Some (tells (happens e))) s t = Takes e s t
+TakesSaid said s t = t ≡ no_taken
+
+abbrev pub TakesLine : List ℕ → State → Taken → Type 0
+TakesLine line s t = TakesSaid (line_said 0 line) s t
+
+-- what was taken behind an outcome: nothing, if nothing was done
+abbrev pub taken_if : Outcome → Taken → Taken
+taken_if outcome.Stopped t = no_taken
+taken_if outcome.NoMemory t = no_taken
+taken_if o t = t
+
+-- the same as a relation
+abbrev pub TakesBy : (Taken → Type 0) → Outcome → Taken → Type 0
+TakesBy P outcome.Stopped t = t ≡ no_taken
+TakesBy P outcome.NoMemory t = t ≡ no_taken
+TakesBy P o t = P t

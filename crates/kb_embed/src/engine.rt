@@ -1,17 +1,17 @@
 //! An engine as a host holds it: it is given files, then it is loaded, and then it is told events.
-ghost use Rattle.std.specs.Prelude.{◌≡◌, ◌≢◌, option_map};
+ghost use Rattle.std.specs.Prelude.{◌≡◌, option_map};
 ghost use Rattle.kb_core.specs.Native.{natives};
 ghost use Rattle.kb_embed.specs.Engine.{GivesExtension, GivesFile, GivesPlatform, Halts, IsEarly, LoadsBy};
-ghost use Rattle.kb_embed.specs.Engine.{TakesIn, Tells, TellsLine, new_engine};
-ghost use Rattle.kb_embed.specs.declared.outcome.Outcome.TheVariants as outcome;
+ghost use Rattle.kb_embed.specs.Engine.{Tells, TellsLine, new_engine};
 ghost use Rattle.kb_session.specs.Session.{IsOf};
 
-use crate::files::{HostFiles, copied, platform_numbered};
+use crate::files::{HostFiles, copied, is_file, platform_numbered};
 use crate::notice::{refusal_text, warnings_text};
 use crate::outcome::Outcome;
 use crate::plain::PlainCommand;
 use crate::running::Running;
-use crate::taken::{Taken, TakenKind, taken_by, taken_by_line};
+use crate::taken::{Taken, TakenKind, nothing_taken};
+use crate::telling::{tell_line_noted, tell_noted};
 use kb_base::{Failure, Text};
 use kb_session::Session;
 use kb_trace::Event;
@@ -102,6 +102,9 @@ impl Engine {
         if self.running.is_some() {
             return Outcome::OutOfOrder;
         }
+        if !is_file(number) {
+            return Outcome::Unknown;
+        }
         match copied(self.alloc, bytes) {
             Ok(bytes) => {
                 if self.files.set(number, bytes) {
@@ -173,47 +176,34 @@ impl Engine {
         }
     }
 
-    /// Tells the session an event. What the event takes is noted before. The outcomes are those of
-    /// `Running::tell`, and `OutOfOrder` before the load.
-    #[tactic(auto, using(crate::proofs::EngineLemmas::halting))]
+    /// Tells the session an event. What the event takes is noted, or nothing if it isn't done. The outcomes
+    /// are those of `Running::tell`, and `OutOfOrder` before the load.
     pub fn tell(&mut self, event: Event) -> Outcome
-        ensures told { Tells event self.old result self.new }
-        ensures taken { result ≢ outcome.NoMemory → TakesIn event self.old.running self.new.taken }
+        ensures { Tells event self.old result self.new }
     {
-        let Some(running) = &mut self.running else {
-            return Outcome::OutOfOrder;
-        };
-        match taken_by(self.alloc, &event, running.session()) {
-            Ok(taken) => {
+        match &mut self.running {
+            Some(running) => {
+                let (outcome, taken) = tell_noted(self.alloc, running, event);
                 self.taken = taken;
-                running.tell(event)
+                outcome
             }
-            Err(_) => {
-                running.halt();
-                Outcome::NoMemory
-            }
+            None => Outcome::OutOfOrder,
         }
     }
 
     /// Has the session do what a line of a script says (`docs/FORMATS.md` lists the lines). What a key press
-    /// or a choice takes is noted too. The outcomes are those of `Running::tell_line`, and `OutOfOrder`
-    /// before the load.
-    #[tactic(auto, using(crate::proofs::EngineLemmas::halting))]
+    /// or a choice takes is noted, or nothing if it isn't done. The outcomes are those of
+    /// `Running::tell_line`, and `OutOfOrder` before the load.
     pub fn tell_line(&mut self, line: &[u8]) -> Outcome
         ensures { TellsLine line.now self.old result self.new }
     {
-        let Some(running) = &mut self.running else {
-            return Outcome::OutOfOrder;
-        };
-        match taken_by_line(self.alloc, line, running.session()) {
-            Ok(taken) => {
+        match &mut self.running {
+            Some(running) => {
+                let (outcome, taken) = tell_line_noted(self.alloc, running, line);
                 self.taken = taken;
-                running.tell_line(self.alloc, line)
+                outcome
             }
-            Err(_) => {
-                running.halt();
-                Outcome::NoMemory
-            }
+            None => Outcome::OutOfOrder,
         }
     }
 
@@ -225,6 +215,7 @@ impl Engine {
         match &mut self.running {
             Some(running) => {
                 running.halt();
+                self.taken = nothing_taken(self.alloc);
                 Outcome::NoMemory
             }
             None => Outcome::OutOfOrder,

@@ -1,6 +1,7 @@
 //! The files that an engine is loaded from, as a host hands them in.
-ghost use Rattle.std.specs.Prelude.{◌≡◌, false, None, Some, IfOk, IsTrue, OnOk, OnErr, map, option_map};
-ghost use Rattle.kb_bindings.specs.Load.{MarksAreRight};
+ghost use Rattle.std.specs.Prelude.{◌≡◌, ℕ, List, false, None, Some, IfOk, IsTrue, OnOk, OnErr, map};
+ghost use Rattle.std.specs.Prelude.{is_some, option_map};
+ghost use Rattle.kb_bindings.specs.Load.{Files, MarksAreRight};
 ghost use Rattle.kb_core.specs.Native.{natives};
 ghost use Rattle.kb_embed.specs.Files.{no_files, platform_numbered, with_extension, with_file, with_platform};
 ghost use Rattle.kb_files.specs.Extensions.{extension_bytes};
@@ -47,6 +48,13 @@ impl Model for HostFiles {
       platform = f.platform;
       extensions = map (λ e. record { manifest = e.manifest; handlers = e.handlers }) f.extensions.items;
     } };
+}
+
+/// Whether a number stands for a file: 0 is the layout, 1 the default rules, 2 the user's rules.
+pub(crate) fn is_file(number: u32) -> bool
+    ensures { (bytes : List ℕ) (files : Files) → is_some (with_file number bytes files) ≡ result }
+{
+    number == 0 || number == 1 || number == 2
 }
 
 impl HostFiles {

@@ -13,6 +13,7 @@ pub mod plain;
 pub mod reading;
 pub mod running;
 pub mod taken;
+mod telling;
 
 pub use engine::Engine;
 pub use files::{HostExtension, HostFiles};

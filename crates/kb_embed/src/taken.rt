@@ -1,13 +1,15 @@
 //! What an event takes: the rule of a key press, or the entry of a choice. A host reads the command and its
 //! arguments here, so that it can run commands of its own.
 ghost use Rattle.std.specs.Prelude.{◌≡◌, [], ◌∷◌, ◌++◌, IfOk, option_map};
-ghost use Rattle.kb_embed.specs.Taken.{AreArguments, Takes, TakesFound, TakesRule, bare, chosen};
+ghost use Rattle.kb_embed.specs.Taken.{AreArguments, Takes, TakesFound, TakesLine, TakesRule};
+ghost use Rattle.kb_embed.specs.Taken.{bare, chosen, no_taken, taken_if};
 ghost use Rattle.kb_embed.specs.declared.taken.TakenKind.TheVariants.{Nothing};
 ghost use Rattle.kb_keys.specs.Chord.{chord_spelling};
 ghost use Rattle.kb_session.specs.Inspect.{found_by};
 ghost use Rattle.kb_session.specs.Palette.{entry_at};
 ghost use Rattle.kb_session.specs.State.{State};
 
+use crate::outcome::Outcome;
 use crate::plain::PlainCommand;
 use kb_base::{NoMemory, Text};
 use kb_keys::{Keystroke, write_strokes};
@@ -80,25 +82,33 @@ pub fn taken_by(
 }
 
 /// What an event takes that starts no command.
-fn nothing_taken(alloc: Global) -> Taken
-    ensures { result ≡ bare Nothing [] }
+pub(crate) fn nothing_taken(alloc: Global) -> Taken
+    ensures { result ≡ no_taken }
 {
     Taken::bare(alloc, TakenKind::Nothing, Text::new(alloc))
 }
 
-/// What a line of a script takes of a session, before it is told. Only a line that begins with `k` or `c` can
-/// be a key press or a choice, so no other line is read. Error: `NoMemory`.
+/// What a line of a script takes of a session, before it is told. Error: `NoMemory`.
 pub(crate) fn taken_by_line(
     alloc: Global,
     line: &[u8],
     session: &Session<PlainCommand>,
-) -> Result<Taken, NoMemory> {
-    match line.first() {
-        Some(b'k' | b'c') => match read_line(alloc, 0, line)? {
-            Some(ScriptLine::Event(event)) => taken_by(alloc, &event, session),
-            _ => Ok(nothing_taken(alloc)),
-        },
+) -> Result<Taken, NoMemory>
+    ensures { IfOk result (TakesLine line.now session.now.state) }
+{
+    match read_line(alloc, 0, line)? {
+        Some(ScriptLine::Event(event)) => taken_by(alloc, &event, session),
         _ => Ok(nothing_taken(alloc)),
+    }
+}
+
+/// What was taken behind an outcome: nothing, if nothing was done.
+pub(crate) fn taken_behind(alloc: Global, outcome: Outcome, taken: Taken) -> Taken
+    ensures { result ≡ taken_if outcome taken }
+{
+    match outcome {
+        Outcome::Stopped | Outcome::NoMemory => nothing_taken(alloc),
+        _ => taken,
     }
 }
 

@@ -1,19 +1,20 @@
 //! A core that commands change in place.
-ghost use Rattle.std.specs.Prelude.{◌≡◌, ◌≤◌, None, Some, OnOk, OnErr, IfOk, IfErr, IfSome, IsSome};
-ghost use Rattle.kb_code.specs.Commands.{declared_by};
+ghost use Rattle.std.specs.Prelude.{◌≡◌, ◌≤◌, None, Some, OnOk, OnErr, IfOk, IfErr, IfSome, IsSome, true};
+ghost use Rattle.kb_code.specs.Commands.{Coded, declared_by};
 ghost use Rattle.kb_core.specs.Core.{core_after};
 ghost use Rattle.kb_core.specs.Native.{Fits, budget_of};
+ghost use Rattle.kb_core.specs.Signature.{fits};
 ghost use Rattle.kb_execute.specs.HeldCore.{outcome};
 ghost use Rattle.kb_soundness.specs.Sound as verified;
 ghost use Rattle.kb_vm.specs.Meaning.{start_of};
 ghost use Rattle.kb_vm.specs.Outcome.{Gives};
 
 use kb_base::{Failure, NoMemory};
-use kb_code::Commands;
+use kb_code::{Commands, Linked};
 use kb_context::{ContextValue, ScopeFault, UnknownScope};
 use kb_core::{Args, Core, Ran};
 use kb_registry::HostCommand;
-use kb_soundness::start;
+use kb_soundness::{start, start_coded};
 use kb_stream::Lines;
 use kb_vm::{End, Outcome};
 use std::alloc::Global;
@@ -107,6 +108,36 @@ impl HeldCore {
             lines,
             finish,
         } = start(alloc, commands, command, args, self.core.take().unwrap());
+        self.core = Some(core);
+        Ended {
+            spent,
+            lines,
+            finish,
+        }
+    }
+
+    /// Runs a live handler with arguments that fit it on this core, as `kb_soundness::start_coded` does: it
+    /// costs at most the handler's budget, and among verified handlers it never ends with a trap.
+    pub fn start_coded<'r, L: Commands>(
+        &mut self,
+        alloc: Global,
+        commands: &'r L,
+        handler: Linked<'r>,
+        args: Args,
+    ) -> Ended<'r>
+        requires live { L.live commands.now handler.command ≡ Some (Coded handler) }
+        requires fit { fits handler.signature.params args ≡ true }
+        ensures answer { Gives (start_of (L.live commands.now) handler.entry.command args self.old) self.old
+            (outcome self.new result) }
+        ensures bound { result.spent ≤ handler.entry.signature.budget }
+        ensures sound { verified.AllVerified (L.live commands.now) → verified.IsNoTrap result.finish }
+    {
+        let Outcome {
+            core,
+            spent,
+            lines,
+            finish,
+        } = start_coded(alloc, commands, handler, args, self.core.take().unwrap());
         self.core = Some(core);
         Ended {
             spent,

@@ -1,8 +1,9 @@
 //! The execution of a command.
-ghost use Rattle.std.specs.Prelude.{◌≡◌, IfOk, OnErr, Some, option_map};
+ghost use Rattle.std.specs.Prelude.{◌≡◌, IfOk, OnErr, Some, None, option_map};
 ghost use Rattle.serde_json.specs.View.{view};
 ghost use Rattle.kb_code.specs.Commands.{Table, Plain, Coded};
 ghost use Rattle.kb_core.specs.Core.{Core};
+ghost use Rattle.kb_core.specs.Native.{named};
 ghost use Rattle.kb_registry.specs.Live.{callee};
 ghost use Rattle.kb_execute.specs.HeldCore.{outcome};
 ghost use Rattle.kb_vm.specs.Meaning.{Answer};
@@ -13,7 +14,7 @@ ghost use Rattle.kb_execute.specs.Start.{started, started_as, behind, ran, start
 use crate::held_core::{Ended, HeldCore};
 use crate::run_commands::start_list;
 use kb_base::NoMemory;
-use kb_code::{Commands, Found, Handler, Target};
+use kb_code::Linked;
 use kb_core::{Core, Native};
 use kb_registry::{HostCommand, Registry};
 use kb_stream::Lines;
@@ -72,15 +73,57 @@ pub(crate) fn start_live<C: HostCommand>(
         ≡ behind trace.old (start_live command.now given registry.now core.old)) }
     ensures err { OnErr result (Begins trace.old trace.new) }
 {
-    if let Some(closure) = registry.live_command(command) {
-        return run_native(alloc, command, closure, given, core, trace);
+    match Native::named(command) {
+        Some(native) => start_native(alloc, command, native, given, registry, core, trace),
+        None => start_handler(alloc, command, given, registry, core, trace),
     }
-    match registry.command(command, Target::of(Native::named(command))) {
-        Some(Found::Coded(handler)) => {
-            let handler = handler.handler();
-            run_handler(alloc, command, handler, given, registry, core, trace)
+}
+
+/// Runs the native command of an identifier, if it has a registered closure, and adds the trace lines. On
+/// `NoMemory` the lines are unchanged.
+fn start_native<C: HostCommand>(
+    alloc: Global,
+    command: &str,
+    native: Native,
+    given: Option<&Value>,
+    registry: &Registry<C>,
+    core: &mut HeldCore,
+    trace: &mut Lines,
+) -> Result<Finish, NoMemory>
+    requires { named command.now ≡ Some native }
+    ensures ok { let given = option_map (λ v. view v.now) given.entry in
+        IfOk result (λ finish. started core.new trace.new finish
+        ≡ behind trace.old (start_live command.now given registry.now core.old)) }
+    ensures err { OnErr result (trace.new ≡ trace.old) }
+{
+    match registry.closure(native) {
+        Some(closure) => run_native(alloc, command, closure, given, core, trace),
+        None => {
+            lines::not_found_line(trace, command)?;
+            Ok(Finish::NotFound)
         }
-        Some(Found::Plain(_)) => unreachable!(),
+    }
+}
+
+/// Runs the live handler with a name that is no native command's, if there is one, and adds the trace
+/// lines.
+#[tactic(auto, using(crate::proofs::StartLemmas::found_by_name))]
+fn start_handler<C: HostCommand>(
+    alloc: Global,
+    command: &str,
+    given: Option<&Value>,
+    registry: &Registry<C>,
+    core: &mut HeldCore,
+    trace: &mut Lines,
+) -> Result<Finish, NoMemory>
+    requires { named command.now ≡ None }
+    ensures ok { let given = option_map (λ v. view v.now) given.entry in
+        IfOk result (λ finish. started core.new trace.new finish
+        ≡ behind trace.old (start_live command.now given registry.now core.old)) }
+    ensures err { OnErr result (Begins trace.old trace.new) }
+{
+    match registry.linked(command) {
+        Some(handler) => run_handler(alloc, command, handler, given, registry, core, trace),
         None => {
             lines::not_found_line(trace, command)?;
             Ok(Finish::NotFound)
@@ -113,26 +156,27 @@ fn run_native<C: HostCommand>(
 }
 
 /// Runs a live handler, if the arguments fit, and adds the trace lines.
-fn run_handler<C: HostCommand>(
+fn run_handler<'r, C: HostCommand>(
     alloc: Global,
     command: &str,
-    handler: &Handler,
+    handler: Linked<'r>,
     given: Option<&Value>,
-    registry: &Registry<C>,
+    registry: &'r Registry<C>,
     core: &mut HeldCore,
     trace: &mut Lines,
 ) -> Result<Finish, NoMemory>
-    requires { callee command.now registry.now ≡ Some (Coded handler.now) }
+    requires live { callee command.now registry.now ≡ Some (Coded handler) }
+    requires named { handler.command ≡ command.now }
     ensures ok { let given = option_map (λ v. view v.now) given.entry in
         IfOk result (λ finish. started core.new trace.new finish
         ≡ behind trace.old (start_live command.now given registry.now core.old)) }
     ensures err { OnErr result (Begins trace.old trace.new) }
 {
-    let Some(args) = handler.signature().read_args(alloc, given)? else {
+    let Some(args) = handler.handler().signature().read_args(alloc, given)? else {
         lines::bad_arguments_line(trace, command)?;
         return Ok(Finish::BadArguments);
     };
-    let ended = core.start(alloc, registry, command, args);
+    let ended = core.start_coded(alloc, registry, handler, args);
     note_end(&ended, core.core(), trace)
 }
 

@@ -93,8 +93,9 @@ fn pass_over<'s>(
         ++ passed_over strokes.now (context scopes.now.seen) (enablement_in enablements.entry.now)
         (map (λ r. r.value) rules.entry.now)) }
     ensures right { IfOk result (λ _.
-        All (IsRightlyPassed (context scopes.now.seen) (enablement_in enablements.entry.now)) passed.old.items
-        → All (IsRightlyPassed (context scopes.now.seen) (enablement_in enablements.entry.now)) passed.new.items) }
+        let enablement = enablement_in enablements.entry.now in
+        All (IsRightlyPassed (context scopes.now.seen) enablement) passed.old.items
+        → All (IsRightlyPassed (context scopes.now.seen) enablement) passed.new.items) }
 {
     for rule in rules.iter().rev() {
         if !rule.chord.begins_with(strokes) {

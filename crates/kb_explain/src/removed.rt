@@ -2,8 +2,8 @@
 ghost use Rattle.std.specs.Prelude.{◌≡◌, ◌++◌, ◌∷◌, [], true, All, IfOk, IfSome, OnOk};
 ghost use Rattle.std.specs.Prelude.{if◌then◌else◌, filter, is_some, map};
 ghost use Rattle.std.specs.List.{flat_map, list_any};
-ghost use Rattle.kb_explain.specs.Removed.{is_removed, removals_by, removals_in, removals_of, removed_by, removed_in};
-ghost use Rattle.kb_explain.specs.Removed.{IsTaken, rules_of};
+ghost use Rattle.kb_explain.specs.Removed.{is_removed, removals_by, removals_in, removals_of};
+ghost use Rattle.kb_explain.specs.Removed.{IsTaken, removed_by, removed_in, rules_of};
 ghost use Rattle.kb_rules.specs.Removal.{takes};
 
 use kb_base::{NoMemory, Origin, Warning};
@@ -181,8 +181,10 @@ fn add_one<'s>(
     strokes: &[Keystroke],
     made: &mut Vec<Removed<'s>>,
 ) -> Result<(), NoMemory>
-    ensures all { OnOk result (rules_of made.new.items ≡ rules_of made.old.items
-        ++ (if is_removed (removals_of removals.now) strokes.now rule.entry.now then rule.entry.now ∷ [] else [])) }
+    ensures all { OnOk result (
+        let removed = is_removed (removals_of removals.now) strokes.now rule.entry.now in
+        rules_of made.new.items
+        ≡ rules_of made.old.items ++ (if removed then rule.entry.now ∷ [] else [])) }
     ensures taken { OnOk result (All IsTaken made.old.items → All IsTaken made.new.items) }
 {
     if !rule.chord.begins_with(strokes) {

@@ -23,7 +23,8 @@ visits_in commands h times p steps c (falls {q = q} {c = d} {steps = more} i at 
 visits_in commands h times p steps c (jumps {r = r} {c = d} {steps = more} i at e lt path) =
     visit_of commands h times p i ∷ visits_in commands h times r more d path
 visits_in commands h times p steps c
-    (repeats {q = q} {n = n} {e = end} {c = a} {d = d} {turn = turn} {rest = rest} i at is lt closes inner past) =
+    (repeats {q = q} {n = n} {e = end} {c = a} {d = d} {turn = turn} {rest = rest}
+    i at is lt closes inner past) =
     visit_of commands h times p i ∷ visits_in commands h (capped (times * n)) q turn a inner
     ++ visits_in commands h times (suc end) rest d past
 

@@ -12,8 +12,8 @@ use kb_disk::FileSource;
 use std::alloc::Global;
 use std::io::{BufWriter, Write};
 
-/// Reads the extensions in these directories, writes the report on their handlers in a form, flushes the buffer,
-/// and returns whether all handlers are accepted.
+/// Reads the extensions in these directories, writes the report on their handlers in a form, flushes the
+/// buffer, and returns whether all handlers are accepted.
 ///
 /// Errors: why the extensions were not read (first that there are more than 100 directories); then refused
 /// memory, or a report that was not written.

@@ -49,7 +49,8 @@ pub(crate) fn defect_sentence(
 fn shapes_sentence(instr: Option<Instr>) -> &'static str {
     match instr {
         Some(Instr::End) => {
-            "Two ways lead here, or an iteration of the block ends, and leave other kinds of values on the stack than stand behind its REPEAT, or another number of them."
+            "Two ways lead here, or an iteration of the block ends, and leave other kinds of values on \
+             the stack than stand behind its REPEAT, or another number of them."
         }
         _ => {
             "Two ways lead here, and leave other kinds of values on the stack, or another number of them."

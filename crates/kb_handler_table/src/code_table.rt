@@ -187,7 +187,7 @@ impl CodeTable {
 
     /// Puts the code of a prepared group in the place of the extension's code, and returns that, or `None` if
     /// the extension has no group in the table; then nothing changes. Both declare the same commands. The
-    /// handlers stay live, or not live. It takes no memory.
+    /// handlers stay live, or not live.
     pub fn exchange(&mut self, group: Group) -> Option<Codes>
         requires { same_face (handlers_of group.extension self.old) group.codes.handlers ≡ true }
         ensures codes { result ≡ group_of group.extension self.old }

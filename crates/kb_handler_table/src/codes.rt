@@ -37,7 +37,7 @@ impl Codes {
         }
     }
 
-    /// Code whose handlers were all verified. It takes no memory.
+    /// Code whose handlers were all verified.
     pub fn checked(verified: VerifiedList) -> Codes
         ensures { result ≡ checked verified }
     {

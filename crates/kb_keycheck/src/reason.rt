@@ -31,7 +31,7 @@ pub(crate) fn unread_reason<R: Files>(rt: &R, alloc: Global, file: CannotRead<'_
         Ok(file) => opened_reason(&file),
         Err(error) => match error.kind() {
             ErrorKind::NotFound => ": there is no such file",
-            ErrorKind::PermissionDenied => ": there is no leave to read it",
+            ErrorKind::PermissionDenied => ": permission is denied",
             ErrorKind::NotADirectory => ": a part of the path is no directory",
             _ => "",
         },

@@ -18,7 +18,7 @@ use std::alloc::Global;
 /// before was: against the native commands that are live now, its own handlers, and the handlers of the
 /// extensions that it depends on, enabled or not (our decision).
 ///
-/// Errors: the first fault of the file (1 to 4, 40 to 44, 50 to 52); then 95 if the handlers aren't of the
+/// Errors: the first fault of the file (1 to 4, 40 to 44, 50 to 53); then 95 if the handlers aren't of the
 /// same commands as before, with the same parameters, budgets and depths; then the first handler that isn't
 /// accepted (60 to 69, with its command); or `NoMemory`.
 pub fn updated_code<C: HostCommand>(

@@ -1,5 +1,6 @@
 pub mod LineLemmas
 mod DepthLemmas
+mod LineTableLemmas
 mod OpenLemmas
 mod PlaceLemmas
 mod PositionLemmas

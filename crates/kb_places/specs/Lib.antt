@@ -1,3 +1,4 @@
 pub mod Place
 pub mod Open
 pub mod Position
+pub mod Lines

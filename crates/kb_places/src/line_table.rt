@@ -1,4 +1,7 @@
 //! The lines of a text, for the line of any index.
+ghost use Rattle.std.specs.Prelude.{◌≡◌, ◌<◌, ◌≤◌, IfOk, List, length, ℕ};
+ghost use Rattle.kb_places.specs.Lines.{IsTableOf, begins_line, line_of};
+
 use kb_base::NoMemory;
 use std::alloc::Global;
 
@@ -9,31 +12,38 @@ pub struct LineTable {
 }
 
 /// Whether a line begins at an index behind the first byte: a line ends with LF, CR LF or CR alone.
-fn begins_line(text: &[u8], index: usize) -> bool {
-    if index == 0 || index > text.len() {
+fn begins_line(text: &[u8], index: usize) -> bool
+    requires { index < length text.now }
+    ensures { result ≡ begins_line text.now index }
+{
+    if index == 0 {
         return false;
     }
-    match text[index - 1] {
-        b'\n' => true,
-        b'\r' => text.get(index) != Some(&b'\n'),
-        _ => false,
-    }
+    let before = text[index - 1];
+    before == b'\n' || (before == b'\r' && text[index] != b'\n')
 }
 
 impl LineTable {
     /// The lines of a text.
-    pub fn new(alloc: Global, text: &[u8]) -> Result<LineTable, NoMemory> {
+    #[tactic(auto, using(crate::proofs::LineTableLemmas::first_begins, crate::proofs::LineTableLemmas::none_begins, crate::proofs::LineTableLemmas::one_begins))]
+    pub fn new(alloc: Global, text: &[u8]) -> Result<LineTable, NoMemory>
+        ensures { IfOk result (IsTableOf text.now) }
+    {
         let mut starts = Vec::new(alloc);
         for (index, _) in text.iter().enumerate() {
-            if begins_line(text, index) {
-                starts.push(index)?;
+            if !begins_line(text, index) {
+                continue;
             }
+            starts.push(index)?;
         }
         Ok(LineTable { starts })
     }
 
     /// The number of the line of an index, from 1.
-    pub fn line(&self, index: usize) -> usize {
+    pub fn line(&self, index: usize) -> usize
+        ensures { (text : List ℕ) → IsTableOf text self.now → index < length text
+            → result ≡ line_of text index }
+    {
         self.starts
             .as_slice()
             .partition_point(|start| *start <= index)

@@ -19,7 +19,8 @@ const AT_ONCE: &str =
 const NESTED: &str = r#"{"version":1,"handlers":[
     {"command":"x.a","budget":9999,"depth":2,"texts":["a","b"],"calls":["type","x.b"],
      "code":"010000300000300001010001300000000000"},
-    {"command":"x.b","budget":5000,"depth":1,"texts":["(","longer than what a short text keeps inside itself"],
+    {"command":"x.b","budget":5000,"depth":1,
+     "texts":["(","longer than what a short text keeps inside itself"],
      "calls":["type"],"code":"010000300000010000010001150000300000000000"}]}"#;
 
 fn handlers(alloc: Global, text: &str) -> Result<Seq<Handler>, NoMemory> {

@@ -1,19 +1,22 @@
 //! A session from its load on, with an event of each kind.
 use crate::host::{Plain, all};
 use kb_base::{Failure, NoMemory};
+use kb_core::Native;
 use kb_files::{ExtensionFiles, Inputs};
 use kb_keys::Platform;
+use kb_registry::Ticket;
 use kb_script::{ScriptFault, run_script};
-use kb_session::Session;
+use kb_session::{Session, SessionFault};
+use kb_trace::Event;
 use std::alloc::Global;
 use std::io::Write;
 use std::{io, str};
 
-const LAYOUT: &str =
-    r#"{"scopes":[{"name":"window","keys":{"ready":true}},{"name":"editor","parent":"window"}],"focus":"editor"}"#;
+const LAYOUT: &str = r#"{"scopes":[{"name":"window","keys":{"ready":true}},
+    {"name":"editor","parent":"window"}],"focus":"editor"}"#;
 
-const DEFAULTS: &str =
-    r#"[{"key":"left","command":"cursorLeft"},{"key":"h","command":"x.hi","when":"ready && name =~ /^a/"}]"#;
+const DEFAULTS: &str = r#"[{"key":"left","command":"cursorLeft"},
+    {"key":"h","command":"x.hi","when":"ready && name =~ /^a/"}]"#;
 
 const USER: &str = r#"[{"key":"ctrl+k ctrl+c x","command":"type","args":"chord"},
     {"key":"r","command":"runCommands","args":{"commands":["x.hi",{"command":"type","args":"!"}]}},
@@ -24,8 +27,10 @@ const PACKAGE: &str = r#"{"publisher":"p","name":"e","contributes":{
     "keybindings":[{"key":"e","command":"x.hi"}]}}"#;
 
 const HANDLERS: &str = r#"{"version":1,"handlers":[
-    {"command":"x.hi","budget":5000,"depth":2,"texts":["hi"],"calls":["type","x.lo"],"code":"010000300000300001000000"},
-    {"command":"x.lo","budget":2000,"depth":1,"texts":["lo"],"calls":["type"],"code":"010000300000000000"}]}"#;
+    {"command":"x.hi","budget":5000,"depth":2,"texts":["hi"],"calls":["type","x.lo"],
+     "code":"010000300000300001000000"},
+    {"command":"x.lo","budget":2000,"depth":1,"texts":["lo"],"calls":["type"],
+     "code":"010000300000000000"}]}"#;
 
 /// One event of each kind, and those whose commands start others.
 const SCRIPT: [&str; 26] = [
@@ -50,12 +55,17 @@ const SCRIPT: [&str; 26] = [
     "key e",
     "enable p.e",
     "update p.e {\"version\":1,\"handlers\":[]}",
-    "update p.e {\"version\":1,\"handlers\":[{\"command\":\"x.hi\",\"budget\":5000,\"depth\":2,\"code\":\"000000\"},{\"command\":\"x.lo\",\"budget\":2000,\"depth\":1,\"code\":\"000000\"}]}",
+    "update p.e {\"version\":1,\"handlers\":[\
+     {\"command\":\"x.hi\",\"budget\":5000,\"depth\":2,\"code\":\"000000\"},\
+     {\"command\":\"x.lo\",\"budget\":2000,\"depth\":1,\"code\":\"000000\"}]}",
     "key e",
     "reload [{\"key\":\"a\",\"command\":\"type\",\"args\":\"new\",\"when\":\"name =~ /(/\"}]",
     "key a",
     "what",
 ];
+
+/// The calls of a session, but for `register`.
+const CALLS: [&str; 5] = ["handle", "run", "dispose", "reload", "update"];
 
 /// Takes all bytes and keeps none.
 #[derive(Drop)]
@@ -87,7 +97,8 @@ fn answer<'a>(
     }
 }
 
-/// The answer to each line, with the number of trace lines behind it, and then the trace.
+/// The answer to each line, with the number of trace lines behind it, the trace, and then what calls of the
+/// stopped session answer.
 fn play(
     alloc: Global,
     session: &mut Session<Plain>,
@@ -103,6 +114,65 @@ fn play(
     for line in trace.lines() {
         write!(text, "/ {line} ")?;
     }
+    let behind = calls_behind_stop(alloc, session)?;
+    write!(text, "// {behind}")?;
+    Ok(text)
+}
+
+fn number<'a>(fault: &SessionFault) -> &'a str {
+    match fault {
+        SessionFault::Stopped => "97",
+        SessionFault::NoMemory => "5",
+        SessionFault::Refused(_) => "a fault",
+    }
+}
+
+/// What a call of a session answers.
+fn answer_to<'a>(
+    alloc: Global,
+    session: &mut Session<Plain>,
+    call: &str,
+) -> Result<&'a str, NoMemory> {
+    let fault = match call {
+        "handle" => session.handle(Event::Choose(1)).err(),
+        "run" => {
+            let mut events = Vec::new(alloc);
+            events.push(Event::Choose(1)).map_err(NoMemory::from)?;
+            session.run(events).err()
+        }
+        "dispose" => session.dispose(Ticket(1)).err(),
+        "reload" => session.reload_user(b"[]").err(),
+        _ => session.update_extension("p.e", HANDLERS.as_bytes()).err(),
+    };
+    match fault {
+        Some(fault) => Ok(number(&fault)),
+        None => Ok("ok"),
+    }
+}
+
+/// What `register` answers, and the native command of the closure that comes back.
+fn answer_to_register<'a>(session: &mut Session<Plain>) -> (&'a str, &'a str) {
+    let native = Native::TypeText;
+    let Err((back, fault)) = session.register(Plain { native }) else {
+        return ("ok", "nothing");
+    };
+    let name = back.native.name();
+    (number(&fault), name)
+}
+
+/// Whether the session was stopped, what each call answers behind a stop, the closure that comes back, and
+/// the number of trace lines then.
+fn calls_behind_stop(alloc: Global, session: &mut Session<Plain>) -> Result<String, NoMemory> {
+    let was_stopped = session.is_stopped();
+    session.stop();
+    let (registered, back) = answer_to_register(session);
+    let mut text = format!(in alloc; "{was_stopped} register {registered} {back} ")?;
+    for call in CALLS {
+        let answer = answer_to(alloc, session, call)?;
+        write!(text, "{call} {answer} ")?;
+    }
+    let lines = session.trace().len();
+    write!(text, "lines {lines}")?;
     Ok(text)
 }
 

@@ -119,7 +119,7 @@ impl<C: HostCommand> Session<C> {
     /// - the default rules, and then the user's rules: 1 to 4, 41 each
     /// - more than 100 extensions: 44
     /// - for each extension in load order its manifest: 1 to 4, 40, 41; and its handler file: 1 to 4,
-    ///   40 to 44, 50 to 52
+    ///   40 to 44, 50 to 53
     /// - an extension with the identifier of an earlier one: 91
     /// - an extension that depends on an extension that isn't loaded before it: 90
     /// - two closures for one native command: 70
@@ -302,7 +302,7 @@ impl<C: HostCommand> Session<C> {
     /// palette doesn't have, or without a palette (96); an extension that doesn't exist (92);
     /// enabling it while it depends on one that isn't enabled (93), or while a native command that its
     /// handlers call has no registered closure (74); disabling it while an enabled one depends on it (94); an
-    /// update by a file with a fault (1 to 4, 40 to 44, 50 to 52), with other commands than before (95), or
+    /// update by a file with a fault (1 to 4, 40 to 44, 50 to 53), with other commands than before (95), or
     /// with a handler that isn't accepted (60 to 69).
     ///
     /// Errors: `Stopped` if the session was already stopped; `NoMemory` if memory was refused. Then the

@@ -4,7 +4,8 @@ use Rattle.std.specs.Prelude.{IfSome, option_map}
 use Rattle.kb_core.specs.declared.arg.Arg.{Arg}
 use Rattle.kb_core.specs.Core.{Core}
 use Rattle.kb_core.specs.Signature.{fits}
-use Rattle.kb_code.specs.Commands.{Callee, Table, declared_by}
+use Rattle.kb_code.specs.Commands.{Callee, Coded, Table, declared_by}
+use Rattle.kb_code.specs.Handler.{HandlerData}
 use Rattle.kb_vm.specs.declared.machine.End.{End}
 use Rattle.kb_vm.specs.declared.machine.End.TheVariants as end
 use Rattle.kb_vm.specs.declared.machine.Outcome.{Outcome}
@@ -33,3 +34,11 @@ pub starts_without_trap : (table : Table) → AllVerified table → (name : List
     (o : Outcome) → Fits table name args → Gives (start_of table name args core) core o → IsNoTrap o.finish
 starts_without_trap table all name args core o f gives =
     gives_free table all name args core o (table name) refl f gives
+
+-- and so does that of a live handler
+pub coded_without_trap : (table : Table) → AllVerified table → (name : List ℕ) (h : HandlerData) (args : List Arg)
+    (core : Core) (o : Outcome) → table name ≡ Some (Coded h) → fits h.signature.params args ≡ true
+    → Gives (start_of table name args core) core o → IsNoTrap o.finish
+coded_without_trap table all name h args core o live fit gives =
+    starts_without_trap table all name args core o
+    (subst (λ k. IfSome k (λ callee. fits (declared_by callee).params args ≡ true)) (sym live) fit) gives

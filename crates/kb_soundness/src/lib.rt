@@ -4,4 +4,4 @@
 pub mod laws;
 pub mod starting;
 
-pub use starting::start;
+pub use starting::{start, start_coded};

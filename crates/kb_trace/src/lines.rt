@@ -11,6 +11,10 @@ use kb_core::Buffer;
 use kb_keys::{Keystroke, write_strokes};
 use kb_stream::Lines;
 
+/// The length in bytes up to which a look at each byte costs less than the writer of JSON, which passes over
+/// many bytes at once.
+const SHORT: usize = 32;
+
 /// `key KEYS`, the beginning of the line for a key press: the keystrokes pressed so far, and the new one.
 #[tactic(auto, using(crate::proofs::LineTexts::key_texts))]
 pub fn key_text(
@@ -308,14 +312,13 @@ fn done_text(text: String, buffer: &Buffer) -> Result<String, NoMemory>
 fn with_json(text: String, value: &str) -> Result<String, NoMemory>
     ensures { IfOk result (λ made. string_bytes made ≡ string_bytes text ++ line.json_string value.now) }
 {
-    if is_plain(value.as_bytes()) {
+    if value.len() <= SHORT && is_plain(value.as_bytes()) {
         return quoted(text, value);
     }
     escaped(text, value)
 }
 
-/// Whether JSON escapes no byte of a text. There is no end before that of the text, so that the loop is
-/// compiled to instructions that look at many bytes at once.
+/// Whether JSON escapes no byte of a text.
 fn is_plain(text: &[u8]) -> bool
     ensures { result ≡ list_all has_itself text.now }
 {

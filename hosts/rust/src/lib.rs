@@ -1,4 +1,4 @@
-//! Pafjirn for Rust: a keybinding and command engine over its C library, without unsafe code in a host.
+//! Pafjirn for Rust: a keybinding and command engine. It calls the C library; a host needs no unsafe code.
 //!
 //! ```no_run
 //! use pafjirn::{Engine, File};
@@ -7,22 +7,26 @@
 //!     let mut engine = Engine::new()?;
 //!     engine.file(File::User, br#"[{ "key": "ctrl+h", "command": "type", "args": "hello" }]"#)?;
 //!     engine.load()?;
-//!     engine.press("ctrl+h")?;
-//!     print!("{}", engine.trace());
+//!     print!("{}", engine.press("ctrl+h")?.trace());
 //!     Ok(())
 //! }
 //! ```
 //!
-//! Build it with rustc alone, behind `tools/build-library`:
+//! With Cargo it needs nothing but the library of `tools/build-library`, which it links statically;
+//! `build.rs` says where it is searched for. With rustc alone:
 //!
 //! ```sh
-//! rustc --edition 2021 --crate-type rlib --crate-name pafjirn -L PREFIX/lib hosts/rust/src/lib.rs
-//! rustc --edition 2021 --extern pafjirn=libpafjirn.rlib -L PREFIX/lib host.rs
+//! PREFIX=$(tools/build-library)
+//! rustc --edition 2021 --crate-type rlib --crate-name pafjirn -L "$PREFIX/lib" hosts/rust/src/lib.rs
+//! rustc --edition 2021 --extern pafjirn=libpafjirn.rlib -L "$PREFIX/lib" \
+//!     -C link-arg="-Wl,-rpath,$PREFIX/lib" host.rs
 //! ```
 #![deny(missing_docs)]
+#![deny(unsafe_code)]
 
 use std::fmt;
 
+#[allow(unsafe_code)]
 mod sys;
 
 /// A file that an engine is loaded from.
@@ -36,10 +40,10 @@ pub enum File {
     User = 2,
 }
 
-/// The platform that the keys of extensions are chosen for.
+/// The platform for which the keys of extensions are chosen.
 #[derive(Clone, Copy, Debug, PartialEq, Eq)]
 pub enum Platform {
-    /// Linux, as long as no platform is named.
+    /// Linux, the default.
     Linux = 0,
     /// macOS.
     Mac = 1,
@@ -47,7 +51,7 @@ pub enum Platform {
     Windows = 2,
 }
 
-/// A value of a context key.
+/// A value of a context key. A list and an object are set by a line: `set SCOPE KEY JSON`.
 #[derive(Clone, Copy, Debug, PartialEq, Eq)]
 pub enum Value<'a> {
     /// `true` or `false`.
@@ -58,33 +62,35 @@ pub enum Value<'a> {
     Text(&'a str),
 }
 
-/// How an event ended that the session took.
+/// How an event that the session accepted ended.
 #[derive(Clone, Copy, Debug, PartialEq, Eq)]
 pub enum Ending {
-    /// It did what was asked.
+    /// The event was done.
     Done,
     /// The event was refused. The trace says why.
     Refused,
-    /// The command is none of the engine's. The host runs it: its name and arguments are in the [`Record`].
+    /// The engine doesn't have the command. The host runs it: the [`Record`] has its name and arguments.
     NotFound,
-    /// The arguments don't fit the command.
+    /// The arguments don't fit the command, which didn't run.
     BadArguments,
 }
 
 /// Why a call did nothing, or stopped the session.
 #[derive(Clone, Debug, PartialEq, Eq)]
+#[non_exhaustive]
 pub enum Error {
-    /// Files come before the load, and events behind it.
+    /// Files come before the load, and events after it.
     OutOfOrder,
-    /// The load was refused, with the line that says why. Other files can be handed in.
+    /// The load was refused, with the line that says why. Files can be replaced and loaded again. An
+    /// extension can't be removed: make a new engine.
     Refused(String),
     /// A key's text is no key.
     NoKey,
-    /// Memory was refused. A session is stopped then.
+    /// Memory was refused. This stops a session.
     NoMemory,
-    /// The session was stopped before.
+    /// An earlier event stopped the session.
     Stopped,
-    /// A handler couldn't go on, which stopped the session.
+    /// A handler couldn't go on, which stopped the session. No verified handler does this.
     Trapped,
     /// The library gave an answer that this crate doesn't know.
     Unknown(u32),
@@ -93,12 +99,19 @@ pub enum Error {
 impl fmt::Display for Error {
     fn fmt(&self, f: &mut fmt::Formatter<'_>) -> fmt::Result {
         match self {
-            Error::OutOfOrder => f.write_str("files come before the load, and events behind it"),
+            Error::OutOfOrder => f.write_str("files come before the load, and events after it"),
             Error::Refused(why) => f.write_str(why.trim_end()),
-            Error::NoKey => f.write_str("the text is no key"),
-            Error::NoMemory | Error::Stopped => f.write_str("stopped: out of memory"),
+            Error::NoKey => {
+                f.write_str("the text is no key: docs/FORMATS.md lists them, such as ctrl+s")
+            }
+            Error::NoMemory => f.write_str("stopped: out of memory"),
+            Error::Stopped => {
+                f.write_str("stopped: an event before stopped the session; make a new engine")
+            }
             Error::Trapped => f.write_str("trapped"),
-            Error::Unknown(answer) => write!(f, "answer {answer}"),
+            Error::Unknown(answer) => {
+                write!(f, "the answer {answer}, which include/pafjirn.h explains")
+            }
         }
     }
 }
@@ -110,49 +123,67 @@ impl std::error::Error for Error {}
 pub enum Kind {
     /// No command started.
     Nothing,
-    /// A chord is open.
-    Chord,
+    /// The press opened or continued a chord.
+    Chording,
     /// The command of a rule or of an entry started. The empty command starts nothing.
     Started,
 }
 
-/// What an event did.
+/// What an event did. Only key presses and choices start commands. The trace has everything else.
 #[derive(Clone, Debug, PartialEq, Eq)]
+#[non_exhaustive]
 pub struct Record {
     /// How the event ended.
     pub ending: Ending,
     /// What it did about commands.
     pub kind: Kind,
-    /// The keystrokes of a key press behind those of the open chord.
-    pub chord: String,
+    /// The keystrokes of the open chord and of the key press.
+    pub chord: Option<String>,
     /// The command that started.
-    pub command: String,
-    /// The arguments of the rule, as JSON, or nothing.
-    pub arguments: String,
+    pub command: Option<String>,
+    /// The arguments of the rule, as JSON.
+    pub arguments: Option<String>,
+    /// The rule that was taken.
+    pub rule: Option<Place>,
+    /// The lines that the event added to the trace, each with its line feed.
+    pub trace: String,
+}
+
+/// Where a rule is.
+#[derive(Clone, Debug, PartialEq, Eq)]
+pub struct Place {
     /// The file of the rule: `defaults`, `user`, or the identifier of an extension.
     pub source: String,
-    /// The place of the rule: the number of elements above it in its file.
-    pub place: usize,
-    /// The lines that the event added to the trace, each with a line feed behind it.
-    pub trace: String,
+    /// The number of elements above it in its file.
+    pub above: usize,
 }
 
 /// An entry of the palette.
 #[derive(Clone, Debug, PartialEq, Eq)]
 pub struct Entry {
-    /// The text to be shown.
+    /// The text that the palette shows.
     pub label: String,
     /// The identifier of the command.
     pub command: String,
 }
 
-/// An engine. It stays on the thread that made it.
+/// An engine. Only the thread that made it can use it.
 pub struct Engine {
     handle: sys::Handle,
 }
 
+impl fmt::Debug for Engine {
+    fn fmt(&self, f: &mut fmt::Formatter<'_>) -> fmt::Result {
+        f.debug_struct("Engine").finish_non_exhaustive()
+    }
+}
+
 impl Engine {
     /// Makes an engine without files.
+    ///
+    /// # Errors
+    ///
+    /// [`Error::NoMemory`].
     pub fn new() -> Result<Engine, Error> {
         let mut engine = Engine {
             handle: sys::Handle::new(),
@@ -162,94 +193,142 @@ impl Engine {
         Ok(engine)
     }
 
-    /// Names the platform, before the load.
+    /// Sets the platform, before the load.
+    ///
+    /// # Errors
+    ///
+    /// [`Error::OutOfOrder`] after the load.
     pub fn platform(&mut self, platform: Platform) -> Result<(), Error> {
         let answer = self.handle.platform(platform as u32);
         self.only_done(answer)
     }
 
-    /// Hands in the bytes of a file, before the load.
+    /// Passes the bytes of a file, before the load. They replace those of an earlier call.
+    ///
+    /// # Errors
+    ///
+    /// [`Error::OutOfOrder`] after the load, and [`Error::NoMemory`].
     pub fn file(&mut self, file: File, bytes: &[u8]) -> Result<(), Error> {
         let answer = self.handle.file(file as u32, bytes);
         self.only_done(answer)
     }
 
-    /// Hands in the bytes of an extension's `package.json` and, if it has one, its `handlers.json`.
+    /// Passes the bytes of an extension's `package.json` and, if it has one, its `handlers.json`. The
+    /// extension can't be removed again.
+    ///
+    /// # Errors
+    ///
+    /// [`Error::OutOfOrder`] after the load, and [`Error::NoMemory`].
     pub fn extension(&mut self, manifest: &[u8], handlers: Option<&[u8]>) -> Result<(), Error> {
         let answer = self.handle.extension(manifest, handlers);
         self.only_done(answer)
     }
 
-    /// Loads a session of the files, and returns its warnings, each with a line feed behind it.
+    /// Loads a session from the files, and returns its warnings, each with its line feed.
+    ///
+    /// # Errors
+    ///
+    /// [`Error::Refused`] with the line that says why, [`Error::OutOfOrder`] after a load, and
+    /// [`Error::NoMemory`].
     pub fn load(&mut self) -> Result<String, Error> {
         let answer = self.handle.load();
         self.only_done(answer)?;
         Ok(self.handle.text(sys::NOTICE))
     }
 
-    /// Has the session do what a line of a script says.
-    pub fn line(&mut self, line: &[u8]) -> Result<Ending, Error> {
+    /// Executes a line of a script. Here a refused event ends as [`Ending::Done`] too: only the trace says
+    /// that it was refused. A line that is no event is traced as an unread line.
+    ///
+    /// # Errors
+    ///
+    /// Those of all events: [`Error::OutOfOrder`] before the load, [`Error::NoMemory`], [`Error::Stopped`]
+    /// and [`Error::Trapped`].
+    pub fn line(&mut self, line: &[u8]) -> Result<Told<'_>, Error> {
         let answer = self.handle.line(line);
-        self.ended(answer)
+        self.told(answer)
     }
 
-    /// Presses a key, by its text: `ctrl+s`.
-    pub fn press(&mut self, key: &str) -> Result<Ending, Error> {
+    /// Presses the key with this text, such as `ctrl+s`.
+    ///
+    /// # Errors
+    ///
+    /// [`Error::NoKey`] for a text that is no key, and those of all events ([`Engine::line`]).
+    pub fn press(&mut self, key: &str) -> Result<Told<'_>, Error> {
         let answer = self.handle.key(key.as_bytes());
-        self.ended(answer)
+        self.told(answer)
     }
 
     /// Gives the focus to a scope.
-    pub fn focus(&mut self, scope: &str) -> Result<Ending, Error> {
+    ///
+    /// # Errors
+    ///
+    /// Those of all events ([`Engine::line`]).
+    pub fn focus(&mut self, scope: &str) -> Result<Told<'_>, Error> {
         let answer = self.handle.focus(scope.as_bytes());
-        self.ended(answer)
+        self.told(answer)
     }
 
     /// Sets a context key of a scope.
-    pub fn set(&mut self, scope: &str, key: &str, value: Value<'_>) -> Result<Ending, Error> {
+    ///
+    /// # Errors
+    ///
+    /// Those of all events ([`Engine::line`]).
+    pub fn set(&mut self, scope: &str, key: &str, value: Value<'_>) -> Result<Told<'_>, Error> {
         let (scope, key) = (scope.as_bytes(), key.as_bytes());
         let answer = match value {
             Value::Truth(truth) => self.handle.set_truth(scope, key, truth),
             Value::Number(number) => self.handle.set_number(scope, key, number),
             Value::Text(text) => self.handle.set_text(scope, key, text.as_bytes()),
         };
-        self.ended(answer)
+        self.told(answer)
     }
 
     /// Removes a context key from a scope.
-    pub fn unset(&mut self, scope: &str, key: &str) -> Result<Ending, Error> {
+    ///
+    /// # Errors
+    ///
+    /// Those of all events ([`Engine::line`]).
+    pub fn unset(&mut self, scope: &str, key: &str) -> Result<Told<'_>, Error> {
         let answer = self.handle.unset(scope.as_bytes(), key.as_bytes());
-        self.ended(answer)
+        self.told(answer)
     }
 
-    /// Lists the commands of the palette that a query finds, and returns their entries.
-    pub fn palette(&mut self, query: &str) -> Result<Vec<Entry>, Error> {
+    /// Lists the entries of the palette that a query finds. [`Engine::entries`] returns them.
+    ///
+    /// # Errors
+    ///
+    /// Those of all events ([`Engine::line`]).
+    pub fn palette(&mut self, query: &str) -> Result<Told<'_>, Error> {
         let answer = self.handle.palette(query.as_bytes());
-        self.ended(answer)?;
-        Ok(self.entries().collect())
+        self.told(answer)
     }
 
-    /// The entries of the last palette, until one of them is chosen.
+    /// The entries of the last palette. There are none after one of them is chosen.
     pub fn entries(&mut self) -> impl Iterator<Item = Entry> + '_ {
         let count = self.handle.entries();
-        (1..=count as u32).map(|number| Entry {
+        (1..=u32::MAX).take(count).map(|number| Entry {
             label: self.handle.entry(number, sys::LABEL),
             command: self.handle.entry(number, sys::ENTRY_COMMAND),
         })
     }
 
     /// Chooses the entry with this number, counted from 1, of the last palette.
-    pub fn choose(&mut self, number: u32) -> Result<Ending, Error> {
+    ///
+    /// # Errors
+    ///
+    /// Those of all events ([`Engine::line`]).
+    pub fn choose(&mut self, number: u32) -> Result<Told<'_>, Error> {
         let answer = self.handle.choose(number);
-        self.ended(answer)
+        self.told(answer)
     }
 
-    /// Tells lines of a script one by one, and returns an iterator over the records of what they did. It ends
-    /// behind an error.
-    pub fn records<'e, L: IntoIterator<Item = &'e [u8]>>(
-        &'e mut self,
-        lines: L,
-    ) -> Records<'e, L::IntoIter> {
+    /// Executes lines of a script one by one, as the returned iterator over their records advances. The
+    /// iterator ends after an error.
+    pub fn records<L>(&mut self, lines: L) -> Records<'_, L::IntoIter>
+    where
+        L: IntoIterator,
+        L::Item: AsRef<[u8]>,
+    {
         Records {
             engine: self,
             lines: lines.into_iter(),
@@ -257,39 +336,12 @@ impl Engine {
         }
     }
 
-    /// What the last event did, which ended in this way.
-    pub fn record(&mut self, ending: Ending) -> Record {
-        Record {
-            ending,
-            kind: match self.handle.taken() {
-                sys::CHORDING => Kind::Chord,
-                sys::STARTED => Kind::Started,
-                _ => Kind::Nothing,
-            },
-            chord: self.handle.text(sys::CHORD),
-            command: self.handle.text(sys::COMMAND),
-            arguments: self.handle.text(sys::ARGUMENTS),
-            source: self.handle.text(sys::SOURCE),
-            place: self.handle.place(),
-            trace: self.trace(),
-        }
-    }
-
-    /// The lines that the last event added to the trace, each with a line feed behind it.
-    pub fn trace(&mut self) -> String {
-        self.handle.text(sys::TRACE)
-    }
-
-    /// Reads those lines into a text of the host's, which needs no memory once the text is large enough.
-    pub fn read_trace(&mut self, text: &mut Vec<u8>) {
-        self.handle.read_into(sys::TRACE, text);
-    }
-
-    /// The text before the caret, and the text behind it.
+    /// The text before the caret, and the text after it.
     pub fn text(&mut self) -> (String, String) {
         (self.handle.text(sys::BEFORE), self.handle.text(sys::AFTER))
     }
 
+    /// The result of a call before the session, from its answer.
     fn only_done(&mut self, answer: u32) -> Result<(), Error> {
         match answer {
             sys::DONE => Ok(()),
@@ -298,18 +350,23 @@ impl Engine {
         }
     }
 
-    fn ended(&mut self, answer: u32) -> Result<Ending, Error> {
-        match answer {
-            sys::DONE => Ok(Ending::Done),
-            sys::REFUSED => Ok(Ending::Refused),
-            sys::NOT_FOUND => Ok(Ending::NotFound),
-            sys::BAD_ARGUMENTS => Ok(Ending::BadArguments),
-            answer => Err(error_of(answer)),
-        }
+    /// The result of an event, from its answer.
+    fn told(&mut self, answer: u32) -> Result<Told<'_>, Error> {
+        let ending = match answer {
+            sys::DONE => Ending::Done,
+            sys::REFUSED => Ending::Refused,
+            sys::NOT_FOUND => Ending::NotFound,
+            sys::BAD_ARGUMENTS => Ending::BadArguments,
+            answer => return Err(error_of(answer)),
+        };
+        Ok(Told {
+            engine: self,
+            ending,
+        })
     }
 }
 
-/// The error of an answer that is neither done nor refused.
+/// The error for an answer that is neither done nor refused.
 fn error_of(answer: u32) -> Error {
     match answer {
         sys::OUT_OF_ORDER => Error::OutOfOrder,
@@ -321,14 +378,71 @@ fn error_of(answer: u32) -> Error {
     }
 }
 
+/// An event that the session accepted: how it ended and what it did. It is valid until the next event.
+#[derive(Debug)]
+pub struct Told<'e> {
+    engine: &'e mut Engine,
+    ending: Ending,
+}
+
+impl Told<'_> {
+    /// How the event ended.
+    #[must_use]
+    pub fn ending(&self) -> Ending {
+        self.ending
+    }
+
+    /// What the event did.
+    #[must_use]
+    pub fn record(self) -> Record {
+        let kind = match self.engine.handle.taken() {
+            sys::CHORDING => Kind::Chording,
+            sys::STARTED => Kind::Started,
+            _ => Kind::Nothing,
+        };
+        let handle = &mut self.engine.handle;
+        let source = given(handle.text(sys::SOURCE));
+        Record {
+            ending: self.ending,
+            kind,
+            chord: given(handle.text(sys::CHORD)),
+            command: (kind == Kind::Started).then(|| handle.text(sys::COMMAND)),
+            arguments: given(handle.text(sys::ARGUMENTS)),
+            rule: source.map(|source| Place {
+                source,
+                above: handle.place(),
+            }),
+            trace: handle.text(sys::TRACE),
+        }
+    }
+
+    /// The lines that the event added to the trace, each with its line feed.
+    #[must_use]
+    pub fn trace(self) -> String {
+        self.engine.handle.text(sys::TRACE)
+    }
+
+    /// Reads those lines into a buffer of the host, and replaces its content. This allocates only if the
+    /// capacity of the buffer is too small.
+    pub fn read_trace(self, text: &mut Vec<u8>) {
+        self.engine.handle.read_into(sys::TRACE, text);
+    }
+}
+
+/// A text that isn't empty.
+fn given(text: String) -> Option<String> {
+    (!text.is_empty()).then_some(text)
+}
+
 /// The records of what lines of a script did.
+#[derive(Debug)]
 pub struct Records<'e, L> {
     engine: &'e mut Engine,
     lines: L,
     is_over: bool,
 }
 
-impl<'e, L: Iterator<Item = &'e [u8]>> Iterator for Records<'e, L> {
+impl<L: Iterator<Item: AsRef<[u8]>>> Iterator for Records<'_, L> {
     type Item = Result<Record, Error>;
 
     fn next(&mut self) -> Option<Result<Record, Error>> {
@@ -336,8 +450,8 @@ impl<'e, L: Iterator<Item = &'e [u8]>> Iterator for Records<'e, L> {
             return None;
         }
         let line = self.lines.next()?;
-        let told = self.engine.line(line);
+        let told = self.engine.line(line.as_ref()).map(Told::record);
         self.is_over = told.is_err();
-        Some(told.map(|ending| self.engine.record(ending)))
+        Some(told)
     }
 }

@@ -1,6 +1,8 @@
-//! The C library (`include/pafjirn.h`), and the one place with unsafe code. Each call below keeps the duties
-//! of its caller: a slice's pointer is never null, and a handle stays in its engine, which gives it to one call
-//! at a time and is neither `Send` nor `Sync`, by the pointer in the handle.
+//! The C library (`include/pafjirn.h`), and the only module with unsafe code.
+//!
+//! Each call meets the conditions of the header: a [`Raw`] begins as zeros, is private to this file, and is
+//! never copied. Each call borrows it mutably, on the thread that made it, since its pointer makes it neither
+//! `Send` nor `Sync`. The pointer of a slice is never null.
 use std::ptr;
 
 pub const DONE: u32 = 0;
@@ -28,32 +30,35 @@ pub const STARTED: u32 = 2;
 pub const LABEL: u32 = 0;
 pub const ENTRY_COMMAND: u32 = 1;
 
+/// `pafjirn_handle`.
 #[repr(C)]
 struct Raw {
     at: *mut u8,
     live: bool,
 }
 
+// SAFETY: these are the declarations of the header (tools/check-header compares them). A function without a
+// pointer to bytes is safe for each `Raw` of this file.
 #[link(name = "pafjirn")]
-extern "C" {
-    fn pafjirn_new(engine: *mut Raw) -> u32;
-    fn pafjirn_free(engine: *mut Raw);
-    fn pafjirn_platform(engine: *mut Raw, platform: u32) -> u32;
-    fn pafjirn_file(engine: *mut Raw, file: u32, bytes: *const u8, length: usize) -> u32;
+unsafe extern "C" {
+    safe fn pafjirn_new(engine: &mut Raw) -> u32;
+    safe fn pafjirn_free(engine: &mut Raw);
+    safe fn pafjirn_platform(engine: &mut Raw, platform: u32) -> u32;
+    fn pafjirn_file(engine: &mut Raw, file: u32, bytes: *const u8, length: usize) -> u32;
     fn pafjirn_extension(
-        engine: *mut Raw,
+        engine: &mut Raw,
         manifest: *const u8,
         manifest_length: usize,
         has_handlers: bool,
         handlers: *const u8,
         handlers_length: usize,
     ) -> u32;
-    fn pafjirn_load(engine: *mut Raw) -> u32;
-    fn pafjirn_line(engine: *mut Raw, line: *const u8, length: usize) -> u32;
-    fn pafjirn_key(engine: *mut Raw, key: *const u8, length: usize) -> u32;
-    fn pafjirn_focus(engine: *mut Raw, scope: *const u8, length: usize) -> u32;
+    safe fn pafjirn_load(engine: &mut Raw) -> u32;
+    fn pafjirn_line(engine: &mut Raw, line: *const u8, length: usize) -> u32;
+    fn pafjirn_key(engine: &mut Raw, key: *const u8, length: usize) -> u32;
+    fn pafjirn_focus(engine: &mut Raw, scope: *const u8, length: usize) -> u32;
     fn pafjirn_set_truth(
-        engine: *mut Raw,
+        engine: &mut Raw,
         scope: *const u8,
         scope_length: usize,
         key: *const u8,
@@ -61,7 +66,7 @@ extern "C" {
         truth: bool,
     ) -> u32;
     fn pafjirn_set_number(
-        engine: *mut Raw,
+        engine: &mut Raw,
         scope: *const u8,
         scope_length: usize,
         key: *const u8,
@@ -69,7 +74,7 @@ extern "C" {
         number: i64,
     ) -> u32;
     fn pafjirn_set_text(
-        engine: *mut Raw,
+        engine: &mut Raw,
         scope: *const u8,
         scope_length: usize,
         key: *const u8,
@@ -78,20 +83,20 @@ extern "C" {
         text_length: usize,
     ) -> u32;
     fn pafjirn_unset(
-        engine: *mut Raw,
+        engine: &mut Raw,
         scope: *const u8,
         scope_length: usize,
         key: *const u8,
         key_length: usize,
     ) -> u32;
-    fn pafjirn_palette(engine: *mut Raw, query: *const u8, length: usize) -> u32;
-    fn pafjirn_choose(engine: *mut Raw, number: u32) -> u32;
-    fn pafjirn_read(engine: *mut Raw, part: u32, from: usize, into: *mut u8, room: usize) -> usize;
-    fn pafjirn_taken(engine: *mut Raw) -> u32;
-    fn pafjirn_place(engine: *mut Raw) -> usize;
-    fn pafjirn_entries(engine: *mut Raw) -> usize;
+    fn pafjirn_palette(engine: &mut Raw, query: *const u8, length: usize) -> u32;
+    safe fn pafjirn_choose(engine: &mut Raw, number: u32) -> u32;
+    fn pafjirn_read(engine: &mut Raw, part: u32, from: usize, into: *mut u8, room: usize) -> usize;
+    safe fn pafjirn_taken(engine: &mut Raw) -> u32;
+    safe fn pafjirn_place(engine: &mut Raw) -> usize;
+    safe fn pafjirn_entries(engine: &mut Raw) -> usize;
     fn pafjirn_entry(
-        engine: *mut Raw,
+        engine: &mut Raw,
         number: u32,
         part: u32,
         from: usize,
@@ -100,7 +105,7 @@ extern "C" {
     ) -> usize;
 }
 
-/// The handle of an engine, or of none. It ends its engine when it is dropped.
+/// The handle of an engine, or an empty handle. It ends its engine when it is dropped.
 pub struct Handle(Raw);
 
 impl Handle {
@@ -112,19 +117,21 @@ impl Handle {
     }
 
     pub fn make(&mut self) -> u32 {
-        unsafe { pafjirn_new(&mut self.0) }
+        pafjirn_new(&mut self.0)
     }
 
     pub fn platform(&mut self, platform: u32) -> u32 {
-        unsafe { pafjirn_platform(&mut self.0, platform) }
+        pafjirn_platform(&mut self.0, platform)
     }
 
     pub fn file(&mut self, file: u32, bytes: &[u8]) -> u32 {
+        // SAFETY: the pointer is valid for the given length, and the call only reads.
         unsafe { pafjirn_file(&mut self.0, file, bytes.as_ptr(), bytes.len()) }
     }
 
     pub fn extension(&mut self, manifest: &[u8], handlers: Option<&[u8]>) -> u32 {
         let more = handlers.unwrap_or(&[]);
+        // SAFETY: each pointer is valid for the given length, and the call only reads.
         unsafe {
             pafjirn_extension(
                 &mut self.0,
@@ -138,43 +145,39 @@ impl Handle {
     }
 
     pub fn load(&mut self) -> u32 {
-        unsafe { pafjirn_load(&mut self.0) }
+        pafjirn_load(&mut self.0)
     }
 
     pub fn line(&mut self, line: &[u8]) -> u32 {
+        // SAFETY: the pointer is valid for the given length, and the call only reads.
         unsafe { pafjirn_line(&mut self.0, line.as_ptr(), line.len()) }
     }
 
     pub fn key(&mut self, key: &[u8]) -> u32 {
+        // SAFETY: the pointer is valid for the given length, and the call only reads.
         unsafe { pafjirn_key(&mut self.0, key.as_ptr(), key.len()) }
     }
 
     pub fn focus(&mut self, scope: &[u8]) -> u32 {
+        // SAFETY: the pointer is valid for the given length, and the call only reads.
         unsafe { pafjirn_focus(&mut self.0, scope.as_ptr(), scope.len()) }
     }
 
     pub fn set_truth(&mut self, scope: &[u8], key: &[u8], truth: bool) -> u32 {
-        let raw = &mut self.0;
-        unsafe {
-            pafjirn_set_truth(
-                raw,
-                scope.as_ptr(),
-                scope.len(),
-                key.as_ptr(),
-                key.len(),
-                truth,
-            )
-        }
+        let (scope_at, key_at) = (scope.as_ptr(), key.as_ptr());
+        // SAFETY: each pointer is valid for the given length, and the call only reads.
+        unsafe { pafjirn_set_truth(&mut self.0, scope_at, scope.len(), key_at, key.len(), truth) }
     }
 
     pub fn set_number(&mut self, scope: &[u8], key: &[u8], number: i64) -> u32 {
-        let raw = &mut self.0;
+        let (scope_at, key_at) = (scope.as_ptr(), key.as_ptr());
+        // SAFETY: each pointer is valid for the given length, and the call only reads.
         unsafe {
             pafjirn_set_number(
-                raw,
-                scope.as_ptr(),
+                &mut self.0,
+                scope_at,
                 scope.len(),
-                key.as_ptr(),
+                key_at,
                 key.len(),
                 number,
             )
@@ -182,6 +185,7 @@ impl Handle {
     }
 
     pub fn set_text(&mut self, scope: &[u8], key: &[u8], text: &[u8]) -> u32 {
+        // SAFETY: each pointer is valid for the given length, and the call only reads.
         unsafe {
             pafjirn_set_text(
                 &mut self.0,
@@ -196,6 +200,7 @@ impl Handle {
     }
 
     pub fn unset(&mut self, scope: &[u8], key: &[u8]) -> u32 {
+        // SAFETY: each pointer is valid for the given length, and the call only reads.
         unsafe {
             pafjirn_unset(
                 &mut self.0,
@@ -208,61 +213,76 @@ impl Handle {
     }
 
     pub fn palette(&mut self, query: &[u8]) -> u32 {
+        // SAFETY: the pointer is valid for the given length, and the call only reads.
         unsafe { pafjirn_palette(&mut self.0, query.as_ptr(), query.len()) }
     }
 
     pub fn choose(&mut self, number: u32) -> u32 {
-        unsafe { pafjirn_choose(&mut self.0, number) }
+        pafjirn_choose(&mut self.0, number)
     }
 
     pub fn taken(&mut self) -> u32 {
-        unsafe { pafjirn_taken(&mut self.0) }
+        pafjirn_taken(&mut self.0)
     }
 
     pub fn place(&mut self) -> usize {
-        unsafe { pafjirn_place(&mut self.0) }
+        pafjirn_place(&mut self.0)
     }
 
     pub fn entries(&mut self) -> usize {
-        unsafe { pafjirn_entries(&mut self.0) }
+        pafjirn_entries(&mut self.0)
     }
 
     pub fn entry(&mut self, number: u32, part: u32) -> String {
-        let mut bytes = vec![0; 64];
-        read_whole(&mut bytes, |room| unsafe {
-            pafjirn_entry(&mut self.0, number, part, 0, room.as_mut_ptr(), room.len())
-        });
+        let mut bytes = Vec::with_capacity(64);
+        // SAFETY: `read_whole` passes the capacity of this vector, and the call returns the length of the
+        // whole text.
+        unsafe {
+            read_whole(&mut bytes, |into, room| {
+                pafjirn_entry(&mut self.0, number, part, 0, into, room)
+            });
+        }
         text_of(bytes)
     }
 
     pub fn text(&mut self, part: u32) -> String {
-        let mut bytes = vec![0; 64];
+        let mut bytes = Vec::with_capacity(64);
         self.read_into(part, &mut bytes);
         text_of(bytes)
     }
 
     pub fn read_into(&mut self, part: u32, bytes: &mut Vec<u8>) {
-        read_whole(bytes, |room| unsafe {
-            pafjirn_read(&mut self.0, part, 0, room.as_mut_ptr(), room.len())
-        });
+        // SAFETY: `read_whole` passes the capacity of the vector, and the call returns the length of the
+        // whole text.
+        unsafe {
+            read_whole(bytes, |into, room| {
+                pafjirn_read(&mut self.0, part, 0, into, room)
+            });
+        }
     }
 }
 
 impl Drop for Handle {
     fn drop(&mut self) {
-        unsafe { pafjirn_free(&mut self.0) }
+        pafjirn_free(&mut self.0);
     }
 }
 
-/// Reads a whole text, whose length a read returns, into bytes that grow to it.
-fn read_whole<F: FnMut(&mut [u8]) -> usize>(bytes: &mut Vec<u8>, mut read: F) {
-    bytes.resize(bytes.capacity(), 0);
-    let mut length = read(bytes);
-    if length > bytes.len() {
-        bytes.resize(length, 0);
-        length = read(bytes);
+/// Replaces the bytes by a whole text, and reserves the capacity for it.
+///
+/// # Safety
+///
+/// `read` copies a text into a buffer of the given size, as far as it fits, and returns the length of the
+/// whole text, which is the same in each call. It writes only to the buffer.
+unsafe fn read_whole(bytes: &mut Vec<u8>, mut read: impl FnMut(*mut u8, usize) -> usize) {
+    bytes.clear();
+    let mut length = read(bytes.as_mut_ptr(), bytes.capacity());
+    if length > bytes.capacity() {
+        bytes.reserve(length);
+        length = read(bytes.as_mut_ptr(), bytes.capacity());
     }
-    bytes.truncate(length);
+    // SAFETY: `read` has written the first `length` bytes, which the capacity holds.
+    unsafe { bytes.set_len(length.min(bytes.capacity())) }
 }
 
 /// The text of bytes that the library wrote, which are always UTF-8.

@@ -1,7 +1,7 @@
 //! The events that a host tells most, by bytes and numbers of its own.
-ghost use Rattle.std.specs.Prelude.{◌≡◌, ◌≢◌, Some, IfOk, IfSome};
+ghost use Rattle.std.specs.Prelude.{◌≡◌, Some, IfOk};
 ghost use Rattle.kb_context.specs.declared.value.ContextValue.TheVariants as value;
-ghost use Rattle.kb_embed.specs.Engine.{TakesIn, Tells, TellsIf, key_told, when_text};
+ghost use Rattle.kb_embed.specs.Engine.{Tells, TellsIf, key_told, when_text};
 ghost use Rattle.kb_embed.specs.declared.outcome.Outcome.TheVariants as outcome;
 ghost use Rattle.kb_trace.specs.declared.event.Event.TheVariants as event;
 
@@ -17,9 +17,7 @@ impl Engine {
     /// Presses a key, by its text as in `key` lines of a script. The outcomes are those of `tell`, and
     /// `NoKey` for a text that is no key.
     pub fn press(&mut self, key: &[u8]) -> Outcome
-        ensures told { TellsIf outcome.NoKey (key_told key.now) self.old result self.new }
-        ensures taken { IfSome (key_told key.now)
-            (λ e. result ≢ outcome.NoMemory → TakesIn e self.old.running self.new.taken) }
+        ensures { TellsIf outcome.NoKey (key_told key.now) self.old result self.new }
     {
         match key_told(key) {
             Some(event) => self.tell(event),
@@ -139,9 +137,7 @@ impl Engine {
     /// Chooses the entry with this number, counted from 1, of the last palette. The outcomes are those of
     /// `tell`.
     pub fn choose(&mut self, number: u32) -> Outcome
-        ensures told { Tells (event.Choose number) self.old result self.new }
-        ensures taken { result ≢ outcome.NoMemory
-            → TakesIn (event.Choose number) self.old.running self.new.taken }
+        ensures { Tells (event.Choose number) self.old result self.new }
     {
         self.tell(Event::Choose(number))
     }

@@ -13,6 +13,7 @@ loop-lint-preserved c =
     record {
       warnings = added.warnings ∙ kept.warnings;
       wanted = λ before. added.wanted (kept.wanted before);
+      placed = λ files before. added.placed files (kept.placed files before);
       left = λ enablement rules all.
           others_sound enablement rules c.in-Some.lint rest
           (subst (AreSound enablement rules) steps (kept.left enablement rules all));

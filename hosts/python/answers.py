@@ -1,0 +1,142 @@
+"""Checks what the module returns and raises: for numbers out of range, for texts that a line can't contain,
+for calls from another thread, and after an engine is closed. It prints each difference from what the module
+documents. The status is 0 if there is none. tools/check-hosts runs it."""
+
+from __future__ import annotations
+
+import gc
+import sys
+import threading
+from collections.abc import Callable, Iterator
+from typing import Any
+
+from pafjirn import Ending, Engine, EngineError, Entry, File, Kind, LibraryNotFound, LoadRefused
+from pafjirn import OutOfRange, Platform, WrongThread
+
+LAYOUT = b'{"scopes": [{"name": "window"}, {"name": "editor", "parent": "window"}]}'
+RULES = b"""[
+    { "key": "x", "command": "type", "args": "t", "when": "truth" },
+    { "key": "x", "command": "type", "args": "n", "when": "number == -9223372036854775808" },
+    { "key": "x", "command": "type", "args": "l", "when": "'b' in list" },
+    { "key": "y", "command": "my.own", "args": null },
+    { "key": "z z", "command": "my.own" },
+]"""
+MANIFEST = """{
+    "name": "e", "publisher": "p",
+    "contributes": { "commands": [{ "command": "buffer.top", "title": "Größe" }] }
+}""".encode()
+
+
+def raises(kind: type[Exception], call: Callable[[], object]) -> bool:
+    """Whether a call raises an exception of exactly this class."""
+    try:
+        call()
+    except Exception as raised:  # (an exception of another class is reported as wrong)
+        return type(raised) is kind
+    return False
+
+
+def loaded() -> Engine:
+    engine = Engine()
+    engine.platform(Platform.MAC)
+    engine.file(File.LAYOUT, LAYOUT)
+    engine.file(File.USER, RULES)
+    engine.extension(MANIFEST)
+    engine.load()
+    return engine
+
+
+def numbers(engine: Engine) -> Iterator[tuple[str, bool]]:
+    """Numbers that fit, and numbers that don't."""
+    yield "a number that fits", engine.set("window", "number", -(2**63)).ending == Ending.DONE
+    yield "its rule", engine.press("x").arguments == "n"
+    yield "a number below", raises(OutOfRange, lambda: engine.set("window", "number", -(2**63) - 1))
+    yield "a number above", raises(OutOfRange, lambda: engine.set("window", "number", 2**70 + 5))
+    yield "the number after both", engine.press("x").arguments == "n"
+    yield "a choice below", raises(OutOfRange, lambda: engine.choose(-1))
+    yield "a choice above", raises(OutOfRange, lambda: engine.choose(2**32 + 1))
+    no_file: Any = 2**32
+    yield "no file", raises(ValueError, lambda: engine.file(no_file, b""))
+    no_platform: Any = 3
+    yield "no platform", raises(ValueError, lambda: engine.platform(no_platform))
+
+
+def values(engine: Engine) -> Iterator[tuple[str, bool]]:
+    """Values of context keys, and what isn't such a value."""
+    yield "a truth value", engine.set("editor", "truth", True).trace == "set editor truth\n"
+    yield "a list", engine.set("window", "list", ["ä", "b"]).ending == Ending.DONE
+    yield "an object", engine.set("window", "object", {"b": 1.5}).trace == "set window object\n"
+    yield "a list of no scope", engine.set("nowhere", "list", ["b"]).ending == Ending.REFUSED
+    yield "the ending after it", engine.record().ending == Ending.REFUSED
+    yield "a text", engine.set("window", "a b", "c\nd").ending == Ending.DONE
+    yield "a list under two words", raises(ValueError, lambda: engine.set("window", "a b", ["c"]))
+    yield "a list on two lines", raises(ValueError, lambda: engine.set("window", "a\nkey x", ["c"]))
+    yield "a list of no name", raises(ValueError, lambda: engine.set("window", "", {"c": 1}))
+    numbers_in_list: Any = [1]
+    yield "a list of numbers", raises(ValueError, lambda: engine.set("window", "a", numbers_in_list))
+    fraction: Any = 1.5
+    yield "a fraction", raises(ValueError, lambda: engine.set("window", "a", fraction))
+    yield "no UTF-8", raises(UnicodeEncodeError, lambda: engine.set("window", "a", "\ud800"))
+    yield "an unset", engine.unset("window", "list").ending == Ending.DONE
+
+
+def records(engine: Engine) -> Iterator[tuple[str, bool]]:
+    """The records of events."""
+    own = engine.press("y")
+    yield "a command of the host's own", (own.ending, own.command) == (Ending.NOT_FOUND, "my.own")
+    yield "its rule", (own.source, own.place) == ("user", 3)
+    yield "its arguments", own.arguments is None and own.arguments_json in {None, "null"}
+    yield "a chord", engine.press("z").kind == Kind.CHORDING
+    yield "no arguments", engine.press("z").arguments_json is None
+    yield "no key", raises(EngineError, lambda: engine.press("nokey"))
+    focused = engine.focus("editor")
+    yield "a focus", (focused.ending, focused.source, focused.place) == (Ending.DONE, None, None)
+    yield "a palette", engine.palette("grösse") == [Entry("Größe", "buffer.top")]
+    yield "a choice", engine.choose(1).command == "buffer.top" and not engine.entries()
+    traces = [it.trace for it in engine.records(["focus window", b"focus nowhere", b"\xff"])]
+    yield "lines", traces[:2] == ["focus window\n", "refused 20 UnknownScope\n"] and "unread" in traces[2]
+
+
+def threads(engine: Engine) -> Iterator[tuple[str, bool]]:
+    """Calls from another thread, and an engine that another thread releases."""
+    found: list[bool] = []
+    calls = [lambda: engine.press("x"), engine.trace, engine.entries, engine.close, engine.record]
+    other = threading.Thread(target=lambda: found.extend(raises(WrongThread, it) for it in calls))
+    other.start()
+    other.join()
+    yield "calls from another thread", found == [True] * len(calls)
+    left = [loaded()]
+    other = threading.Thread(target=lambda: left.clear() or gc.collect())
+    other.start()
+    other.join()
+    loaded().close()
+    yield "the engine after all of that", engine.press("x").kind == Kind.STARTED
+
+
+def ends() -> Iterator[tuple[str, bool]]:
+    """Loads that are refused, engines that are closed, and a library that doesn't exist."""
+    with Engine() as engine:
+        yield "an event before the load", raises(EngineError, lambda: engine.press("x"))
+        engine.file(File.USER, b"{")
+        yield "a load that is refused", raises(LoadRefused, engine.load)
+        engine.file(File.USER, b"[]")
+        yield "another load", engine.load() == ""
+    engine.close()
+    yield "an event after the end", raises(EngineError, lambda: engine.press("x"))
+    yield "a read after the end", engine.trace() == ""
+    yield "no library", raises(LibraryNotFound, lambda: Engine("/nowhere.so"))
+
+
+def main() -> int:
+    wrong = []
+    with loaded() as engine:
+        for test in [numbers, values, records, threads]:
+            wrong += [name for name, is_right in test(engine) if not is_right]
+    wrong += [name for name, is_right in ends() if not is_right]
+    for name in wrong:
+        print(f"{name}: not as hosts/python/pafjirn.py documents")
+    return 1 if wrong else 0
+
+
+if __name__ == "__main__":
+    sys.exit(main())

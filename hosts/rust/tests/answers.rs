@@ -1,0 +1,119 @@
+//! What the crate answers: to events in and out of order, to refusals, and to what records have.
+use pafjirn::{Ending, Engine, Error, File, Kind, Place, Platform, Value};
+
+const LAYOUT: &[u8] = br#"{"scopes":[{"name":"window"},{"name":"editor","parent":"window"}]}"#;
+const RULES: &[u8] = br#"[
+    {"key":"x","command":"type","args":"t","when":"truth"},
+    {"key":"x","command":"type","args":"n","when":"number == -7"},
+    {"key":"x","command":"type","args":"w","when":"word == b"},
+    {"key":"a b","command":"my.own"},
+    {"key":"e","command":""}
+]"#;
+const MANIFEST: &str = r#"{"name":"e","publisher":"p","contributes":{"commands":[
+    {"command":"buffer.top","title":"Größe"}]}}"#;
+
+fn loaded() -> Result<Engine, Error> {
+    let mut engine = Engine::new()?;
+    engine.platform(Platform::Mac)?;
+    engine.file(File::Layout, LAYOUT)?;
+    engine.file(File::User, RULES)?;
+    engine.extension(MANIFEST.as_bytes(), None)?;
+    assert_eq!(engine.load()?, "");
+    Ok(engine)
+}
+
+#[test]
+fn calls_out_of_order_are_errors() -> Result<(), Error> {
+    let mut engine = Engine::new()?;
+    assert_eq!(engine.press("x").err(), Some(Error::OutOfOrder));
+    engine.file(File::User, b"{")?;
+    let refused = Error::Refused("load refused: user 4 Syntax\n".into());
+    assert_eq!(engine.load(), Err(refused));
+    engine.file(File::User, b"[]")?;
+    engine.load()?;
+    assert_eq!(engine.file(File::User, b"[]"), Err(Error::OutOfOrder));
+    assert_eq!(engine.press("ctrl+").err(), Some(Error::NoKey));
+    Ok(())
+}
+
+#[test]
+fn context_keys_are_set_and_removed() -> Result<(), Error> {
+    let mut engine = loaded()?;
+    assert_eq!(engine.focus("editor")?.trace(), "focus editor\n");
+    engine.set("window", "truth", Value::Truth(true))?;
+    engine.press("x")?;
+    engine.set("editor", "number", Value::Number(-7))?;
+    engine.press("x")?;
+    engine.set("editor", "word", Value::Text("b"))?;
+    engine.press("x")?;
+    engine.unset("editor", "word")?;
+    engine.press("x")?;
+    assert_eq!(engine.text(), ("tnwn".into(), String::new()));
+    let refused = engine.set("nowhere", "truth", Value::Truth(true))?;
+    assert_eq!(refused.ending(), Ending::Refused);
+    assert_eq!(refused.trace(), "refused 20 UnknownScope\n");
+    assert_eq!(engine.line(b"focus nowhere")?.ending(), Ending::Done);
+    Ok(())
+}
+
+#[test]
+fn records_have_what_an_event_took() -> Result<(), Error> {
+    let mut engine = loaded()?;
+    let chord = engine.press("a")?.record();
+    assert_eq!((chord.kind, chord.rule), (Kind::Chording, None));
+    let own = engine.press("b")?.record();
+    assert_eq!((own.ending, own.kind), (Ending::NotFound, Kind::Started));
+    assert_eq!(own.chord.as_deref(), Some("a b"));
+    assert_eq!(own.command.as_deref(), Some("my.own"));
+    assert_eq!(own.arguments, None);
+    let place = Place {
+        source: "user".into(),
+        above: 3,
+    };
+    assert_eq!(own.rule, Some(place));
+    assert_eq!(own.trace, "key a b: start my.own\nnot found my.own\n");
+    let empty = engine.press("e")?.record();
+    assert_eq!(empty.command.as_deref(), Some(""));
+    let unbound = engine.press("q")?.record();
+    assert_eq!((unbound.kind, unbound.command), (Kind::Nothing, None));
+    Ok(())
+}
+
+#[test]
+fn lines_and_palettes_are_told() -> Result<(), Error> {
+    let mut engine = loaded()?;
+    let told: Result<Vec<_>, _> = engine.records(["key q", "focus editor"]).collect();
+    let traces: Vec<_> = told?.into_iter().map(|record| record.trace).collect();
+    assert_eq!(traces, ["key q: unbound\n", "focus editor\n"]);
+    engine.palette("grösse")?;
+    let entries: Vec<_> = engine.entries().collect();
+    assert_eq!(entries.len(), 1);
+    assert_eq!(
+        (&*entries[0].label, &*entries[0].command),
+        ("Größe", "buffer.top")
+    );
+    assert_eq!(engine.choose(2)?.ending(), Ending::Refused);
+    assert_eq!(
+        engine.choose(1)?.record().command.as_deref(),
+        Some("buffer.top")
+    );
+    assert_eq!(engine.entries().count(), 0);
+    Ok(())
+}
+
+#[test]
+fn a_long_trace_is_read_whole() -> Result<(), Error> {
+    let mut engine = loaded()?;
+    let name = "n".repeat(10_000);
+    let line = format!("disable {name}");
+    assert_eq!(
+        engine.line(line.as_bytes())?.trace(),
+        "refused 92 UnknownExtension\n"
+    );
+    let mut text = b"of the host".to_vec();
+    engine
+        .set("window", &name, Value::Truth(true))?
+        .read_trace(&mut text);
+    assert_eq!(text, format!("set window {name}\n").into_bytes());
+    Ok(())
+}
