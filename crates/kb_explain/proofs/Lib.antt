@@ -1,2 +1,3 @@
+pub mod PaletteLemmas
 pub mod PressLemmas
 pub mod RemovedLemmas

@@ -5,15 +5,14 @@ use Rattle.std.specs.Prelude.{◌&&◌, is_none, option_map, filter, reverse, if
 use Rattle.std.proofs.lemmas.List.{reverse-append, map-append}
 use Rattle.kb_context.specs.Scopes.{Keys}
 use Rattle.kb_causes.specs.Cause.{Fails, IsCauseOf, cause_data}
-use Rattle.kb_explain.specs.Press.{before_first, passed_over, IsFirstObstacle, IsObstacle}
+use Rattle.kb_explain.specs.Press.{before_first, passed_over, IsFirstObstacle}
 use Rattle.kb_causes.specs.declared.cause.Cause.{Cause}
-use Rattle.kb_explain.specs.declared.press.Obstacle.{Obstacle}
 use Rattle.kb_explain.specs.declared.press.Passed.{Passed}
 use Rattle.kb_explain.specs.declared.press.Obstacle.TheVariants.{Clause, Enablement}
 use Rattle.kb_keys.specs.Chord.{begins_with}
 use Rattle.kb_keys.specs.declared.keystroke.Keystroke.{Keystroke}
 use Rattle.kb_resolve.specs.Enablements.{Enabling}
-use Rattle.kb_resolve.specs.Resolver.{may_start, matches}
+use Rattle.kb_resolve.specs.Resolver.{may_start}
 use Rattle.kb_rules.specs.declared.rule.Rule.{Rule}
 use Rattle.kb_when.specs.Marks.{MarkedClause, when_holds}
 

@@ -1,2 +1,3 @@
 pub mod Press
 pub mod Removed
+pub mod Palette

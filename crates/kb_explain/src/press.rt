@@ -45,7 +45,7 @@ pub struct Explained<'s> {
 }
 
 /// The clause of an enablement.
-fn clause_of<'s>(enablement: Option<&'s SharedClause>) -> Option<&'s Clause>
+pub(crate) fn clause_of<'s>(enablement: Option<&'s SharedClause>) -> Option<&'s Clause>
     ensures { option_map (λ clause. clause.now) result ≡ option_map (λ clause. clause.now) enablement.entry }
 {
     match enablement {

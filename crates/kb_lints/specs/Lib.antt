@@ -3,3 +3,4 @@ pub mod Shadow
 pub mod CutOff
 pub mod Extended
 pub mod Taken
+pub mod Near

@@ -1,4 +1,5 @@
 pub mod LineLemmas
+mod ChildrenLemmas
 mod DepthLemmas
 mod LineTableLemmas
 mod OpenLemmas

@@ -1,6 +1,8 @@
 //! Where values of a JSON text end. The text is taken to be JSON: of any other text the answers are some
 //! index.
-ghost use Rattle.std.specs.Prelude.{◌≤◌};
+ghost use Rattle.std.specs.Prelude.{◌≡◌, ◌≤◌, ◌<◌, false, length, slice_index};
+ghost use Rattle.kb_places.specs.Children as words;
+ghost use Rattle.kb_places.specs.Children.{is_closing, is_separator, IsGap};
 
 use kb_base::is_blank;
 
@@ -20,12 +22,18 @@ pub(crate) fn string_end(text: &[u8], from: usize) -> usize
 }
 
 /// Whether a byte ends a number or a word.
-fn ends_word(byte: u8) -> bool {
+fn ends_word(byte: u8) -> bool
+    ensures { result ≡ words.ends_word byte }
+{
     is_blank(byte) || matches!(byte, b',' | b':' | b']' | b'}' | b'[' | b'{' | b'"')
 }
 
 /// The index behind the number or the word that begins at `from`.
-fn word_end(text: &[u8], from: usize) -> usize {
+fn word_end(text: &[u8], from: usize) -> usize
+    ensures least { from ≤ result }
+    ensures further { from < length text.now → words.ends_word (slice_index text.now from) ≡ false
+        → from < result }
+{
     let mut at = from;
     while at < text.len() && !ends_word(text[at]) {
         at += 1;
@@ -34,7 +42,9 @@ fn word_end(text: &[u8], from: usize) -> usize {
 }
 
 /// The index behind the list or the object that begins at `from`.
-fn bracket_end(text: &[u8], from: usize) -> usize {
+fn bracket_end(text: &[u8], from: usize) -> usize
+    ensures { from < length text.now → from < result }
+{
     let mut depth = 0usize;
     let mut at = from;
     while at < text.len() {
@@ -58,7 +68,11 @@ fn bracket_end(text: &[u8], from: usize) -> usize {
 }
 
 /// The index behind the value that begins at `from`.
-pub(crate) fn value_end(text: &[u8], from: usize) -> usize {
+pub(crate) fn value_end(text: &[u8], from: usize) -> usize
+    ensures further { from < length text.now → is_separator 44 (slice_index text.now from) ≡ false
+        → is_closing (slice_index text.now from) ≡ false → from < result }
+    ensures least { result < from → result ≡ length text.now }
+{
     if from >= text.len() {
         return text.len();
     }
@@ -71,7 +85,8 @@ pub(crate) fn value_end(text: &[u8], from: usize) -> usize {
 
 /// The index of the first byte from `from` on that is neither blank nor this sign.
 pub(crate) fn skip(text: &[u8], from: usize, sign: u8) -> usize
-    ensures { from ≤ result }
+    ensures gap { IsGap text.now sign from result }
+    ensures end { result < length text.now → is_separator sign (slice_index text.now result) ≡ false }
 {
     let mut at = from;
     while at < text.len() && (is_blank(text[at]) || text[at] == sign) {

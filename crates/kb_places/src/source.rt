@@ -4,6 +4,7 @@ ghost use Rattle.kb_base.specs.Blank.{is_blank as blank};
 ghost use Rattle.serde_json.specs.Data.{depth as nesting};
 ghost use Rattle.serde_json.specs.Read.{max_depth, read as read_text};
 ghost use Rattle.serde_json.specs.View.{view};
+ghost use Rattle.kb_places.specs.Children.{IsWhole};
 ghost use Rattle.kb_places.specs.Place.{StandsAt};
 
 use crate::path::{Step, value_at};
@@ -46,7 +47,9 @@ impl<'a> Source<'a> {
     }
 
     /// Where the value of the file is.
-    pub fn whole(&self) -> Span {
+    pub fn whole(&self) -> Span
+        ensures { IsWhole (string_bytes self.now.plain) result }
+    {
         let text = self.plain.as_bytes();
         let begin = skip(text, 0, b' ');
         Span {
