@@ -19,7 +19,7 @@ pub use failure::Failure;
 pub use hashed_map::HashedMap;
 pub use hashed_text::HashedText;
 pub use memory::NoMemory;
-pub use note::{Origin, Part, UnreadPattern, Warning};
+pub use note::{EntryPattern, Origin, Part, UnreadPattern, Warning};
 pub use refusal::{Refusal, fault_name};
 pub use seq::Seq;
 pub use text::Text;

@@ -56,18 +56,38 @@ pub struct Warning {
     pub place: usize,
 }
 
-/// A pattern in the clause of an entry that `regex` rejects. Such a comparison is always false (our
-/// decision).
+/// A pattern of a clause that `regex` rejects. Such a comparison is always false (our decision).
 #[derive(Debug, Drop)]
 pub struct UnreadPattern {
+    /// Its number among the patterns of the clause, in the order of the text, from 0.
+    pub number: usize,
+    /// The pattern, without its flags.
+    pub pattern: Text,
+}
+
+impl UnreadPattern {
+    ghost use Rattle.std.specs.Prelude.{◌≡◌, IfOk};
+
+    /// A copy. Error: `NoMemory`.
+    pub fn copied(&self) -> Result<UnreadPattern, NoMemory>
+        ensures { IfOk result (λ made. made ≡ self.now) }
+    {
+        Ok(UnreadPattern {
+            number: self.number,
+            pattern: self.pattern.copied()?,
+        })
+    }
+}
+
+/// An unread pattern, with the entry whose clause has it.
+#[derive(Debug, Drop)]
+pub struct EntryPattern {
     /// The file of the entry.
     pub origin: Origin,
     /// The part of the file that holds the entry.
     pub part: Part,
     /// The place of the entry in its part: the number of entries above it, including dropped ones.
     pub place: usize,
-    /// The number of the pattern among those of the clause, in the order of the text, from 0.
-    pub number: usize,
-    /// The pattern, without its flags.
-    pub pattern: Text,
+    /// The pattern.
+    pub unread: UnreadPattern,
 }

@@ -20,7 +20,7 @@ use Rattle.kb_keys.specs.declared.platform.Platform.{Platform}
 use Rattle.kb_rules.specs.RuleList.{Listed, AreRightlyMarked}
 use Rattle.kb_base.specs.declared.note.Origin.{Origin}
 use Rattle.kb_base.specs.declared.note.Origin.TheVariants as origin
-use Rattle.kb_base.specs.declared.note.UnreadPattern.{UnreadPattern}
+use Rattle.kb_base.specs.declared.note.EntryPattern.{EntryPattern}
 use Rattle.kb_bindings.specs.Sources.{Sources}
 use Rattle.kb_bindings.specs.Unread.{unread_of}
 use Rattle.kb_bindings.specs.declared.load.Loaded.{Loaded}
@@ -80,7 +80,7 @@ held_by files =
     >>= λ scopes. rules_held files >>= λ rules. Ok (record { scopes = scopes; rules = rules })
 
 -- what binds keys in them, where these patterns aren't read
-abbrev pub sources_by : List UnreadPattern → Platform → HeldRules → Sources
+abbrev pub sources_by : List EntryPattern → Platform → HeldRules → Sources
 sources_by unread platform held = record {
   defaults = rules_by unread origin.Defaults held.lists.defaults;
   extensions = extensions_by unread platform 0 (outlines_of held.extensions);
@@ -88,7 +88,7 @@ sources_by unread platform held = record {
 }
 
 -- what files give where these patterns aren't read, or the first file's fault; handlers have no patterns
-abbrev pub loaded : List UnreadPattern → Files → Result Loaded LoadFault
+abbrev pub loaded : List EntryPattern → Files → Result Loaded LoadFault
 loaded unread files = seen (λ held. record {
   scopes = held.scopes;
   bindings = sources_by unread files.platform held.rules;

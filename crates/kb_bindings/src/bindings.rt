@@ -16,7 +16,7 @@ ghost use Rattle.kb_palette_commands.specs.Palette.{palette_commands};
 
 use crate::unread::all_unread;
 use crate::warning::all_warnings;
-use kb_base::{NoMemory, Seq, Text, UnreadPattern, Warning};
+use kb_base::{EntryPattern, NoMemory, Seq, Text, Warning};
 use kb_context::Scopes;
 use kb_files::Extension;
 use kb_keys::Keystroke;
@@ -48,7 +48,7 @@ impl Model for Bindings {
     ghost use Rattle.kb_resolve.specs.Enablements.{enablement_in};
     ghost use Rattle.kb_rules.specs.contracts.removal.Removal as removal;
     ghost use Rattle.kb_rules.specs.contracts.rule.Rule as rule;
-    ghost use Rattle.kb_base.specs.contracts.note.UnreadPattern as marks;
+    ghost use Rattle.kb_base.specs.contracts.note.EntryPattern as marks;
     ghost use Rattle.kb_base.specs.contracts.note.Warning as warning;
     ghost use Rattle.kb_bindings.specs.Bindings.{IsSearched};
     ghost use Rattle.kb_bindings.specs.Sources.{Sources};
@@ -200,7 +200,7 @@ impl Bindings {
     }
 
     /// The unread patterns of the entries of all files, in the order of the files.
-    pub fn unread(&self, alloc: Global) -> Result<Seq<UnreadPattern>, NoMemory>
+    pub fn unread(&self, alloc: Global) -> Result<Seq<EntryPattern>, NoMemory>
         ensures { IfOk result (λ all. all ≡ unread.unread_of self.now) }
     {
         all_unread(

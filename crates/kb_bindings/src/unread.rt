@@ -4,7 +4,7 @@ ghost use Rattle.std.specs.List.{flat_map};
 ghost use Rattle.kb_files.specs.Extension.{unread_in};
 ghost use Rattle.kb_bindings.specs.Unread.{unread_of};
 
-use kb_base::{NoMemory, Seq, UnreadPattern};
+use kb_base::{EntryPattern, NoMemory, Seq};
 use kb_files::Extension;
 use kb_rules::RuleList;
 use std::alloc::Global;
@@ -15,7 +15,7 @@ pub(crate) fn all_unread(
     defaults: &RuleList,
     extensions: &[Extension],
     user: &RuleList,
-) -> Result<Seq<UnreadPattern>, NoMemory>
+) -> Result<Seq<EntryPattern>, NoMemory>
     ensures { IfOk result (λ all. all ≡ unread_of (record {
       defaults = defaults.now;
       extensions = extensions.now;
@@ -30,7 +30,7 @@ pub(crate) fn all_unread(
 }
 
 /// A copy of the unread patterns of a list of rules.
-pub fn unread_rules(alloc: Global, list: &RuleList) -> Result<Seq<UnreadPattern>, NoMemory>
+pub fn unread_rules(alloc: Global, list: &RuleList) -> Result<Seq<EntryPattern>, NoMemory>
     ensures { IfOk result (λ all. all ≡ list.now.unread) }
 {
     let mut all = Seq::new(alloc);
@@ -39,7 +39,7 @@ pub fn unread_rules(alloc: Global, list: &RuleList) -> Result<Seq<UnreadPattern>
 }
 
 /// Adds those of extensions.
-fn add_of_extensions(all: &mut Seq<UnreadPattern>, extensions: &[Extension]) -> Result<(), NoMemory>
+fn add_of_extensions(all: &mut Seq<EntryPattern>, extensions: &[Extension]) -> Result<(), NoMemory>
     ensures { OnOk result (all.new ≡ all.old ++ flat_map unread_in extensions.now) }
 {
     for extension in extensions {
@@ -49,7 +49,7 @@ fn add_of_extensions(all: &mut Seq<UnreadPattern>, extensions: &[Extension]) -> 
 }
 
 /// Adds those of an extension: of its commands, its rules and its items of the palette.
-fn add_of_extension(all: &mut Seq<UnreadPattern>, extension: &Extension) -> Result<(), NoMemory>
+fn add_of_extension(all: &mut Seq<EntryPattern>, extension: &Extension) -> Result<(), NoMemory>
     ensures { OnOk result (all.new ≡ all.old ++ unread_in extension.now) }
 {
     add(all, extension.manifest.command_notes.unread.as_slice())?;
@@ -58,16 +58,15 @@ fn add_of_extension(all: &mut Seq<UnreadPattern>, extension: &Extension) -> Resu
 }
 
 /// Adds copies of these.
-fn add(all: &mut Seq<UnreadPattern>, unread: &[UnreadPattern]) -> Result<(), NoMemory>
+fn add(all: &mut Seq<EntryPattern>, unread: &[EntryPattern]) -> Result<(), NoMemory>
     ensures { OnOk result (all.new ≡ all.old ++ unread.now) }
 {
     for one in unread {
-        all.push(UnreadPattern {
+        all.push(EntryPattern {
             origin: one.origin,
             part: one.part,
             place: one.place,
-            number: one.number,
-            pattern: one.pattern.copied()?,
+            unread: one.unread.copied()?,
         })?;
     }
     Ok(())

@@ -6,7 +6,7 @@ use crate::cause::Lint;
 use crate::faulty::clause_member;
 use crate::opened::OpenedFiles;
 use crate::problem::{Problem, linted, push_other};
-use kb_base::{NoMemory, Origin, Part, UnreadPattern};
+use kb_base::{EntryPattern, NoMemory, Origin, Part};
 use kb_places::Span;
 use std::alloc::Global;
 
@@ -49,7 +49,7 @@ struct ClausePlace {
 }
 
 /// Whether a pattern is in a clause.
-fn is_in(unread: &UnreadPattern, clause: ClausePlace) -> bool {
+fn is_in(unread: &EntryPattern, clause: ClausePlace) -> bool {
     unread.origin == clause.origin && unread.part == clause.part && unread.place == clause.place
 }
 
@@ -57,7 +57,7 @@ fn is_in(unread: &UnreadPattern, clause: ClausePlace) -> bool {
 fn clause_of(
     alloc: Global,
     files: &OpenedFiles<'_>,
-    unread: &UnreadPattern,
+    unread: &EntryPattern,
 ) -> Result<ClausePlace, NoMemory> {
     let span = match files.of(unread.origin) {
         Some(opened) => {
@@ -77,7 +77,7 @@ fn clause_of(
 pub(crate) fn add_unread_patterns(
     alloc: Global,
     files: &OpenedFiles<'_>,
-    unread: &[UnreadPattern],
+    unread: &[EntryPattern],
     problems: &mut Vec<Problem>,
 ) -> Result<(), NoMemory>
     ensures { OnOk result (never_said problems.new.items ≡ never_said problems.old.items) }
@@ -98,7 +98,7 @@ pub(crate) fn add_unread_patterns(
 fn add_pattern(
     alloc: Global,
     files: &OpenedFiles<'_>,
-    unread: &UnreadPattern,
+    unread: &EntryPattern,
     clause: Option<Span>,
     problems: &mut Vec<Problem>,
 ) -> Result<(), NoMemory>
@@ -107,7 +107,7 @@ fn add_pattern(
     let Some(opened) = files.of(unread.origin) else {
         return Ok(());
     };
-    let pattern = unread.pattern.as_str();
+    let pattern = unread.unread.pattern.as_str();
     let reason = reason_of(pattern);
     let sentence = format!(in alloc; "the pattern /{pattern}/ never matches: {reason}")?;
     push_other(

@@ -2,7 +2,7 @@
 use Rattle.std.specs.Prelude.{◌≡◌, ℕ, ◌+◌, ◌-◌, ◌^◌, true, false, List, [], map, option_map, option_to_list}
 use Rattle.std.specs.Prelude.{nat_lt, if◌then◌else◌}
 use Rattle.std.specs.List.Sorted.{IsPermutation}
-use Rattle.kb_base.specs.declared.note.UnreadPattern.{UnreadPattern}
+use Rattle.kb_base.specs.declared.note.EntryPattern.{EntryPattern}
 use Rattle.kb_embed.specs.Values.{RunningData}
 use Rattle.kb_embed.specs.declared.outcome.Outcome.{Outcome}
 use Rattle.kb_embed.specs.declared.outcome.Outcome.TheVariants as outcome
@@ -73,11 +73,11 @@ abbrev pub stand_of : RunningData → Traced Stand
 stand_of r = beside r.session r.shelf
 
 -- the marks of the patterns of the user's rules, which a line that reloads them tells
-abbrev pub marks_of : RunningData → List UnreadPattern
+abbrev pub marks_of : RunningData → List EntryPattern
 marks_of r = r.session.state.sources.user.unread
 
 -- what the line of this number makes of a session and its shelf
-abbrev pub after_line : List UnreadPattern → ℕ → List ℕ → Traced Stand → Traced Stand
+abbrev pub after_line : List EntryPattern → ℕ → List ℕ → Traced Stand → Traced Stand
 after_line marks number line =
     after_all move (option_to_list (option_map (marked marks) (line_said number line)))
 

@@ -38,7 +38,7 @@ impl Model for Engine {
     ghost use Rattle.kb_files.specs.contracts.extension_file.Extension as extension;
     ghost use Rattle.kb_rules.specs.contracts.removal.Removal as removal;
     ghost use Rattle.kb_rules.specs.contracts.rule.Rule as rule;
-    ghost use Rattle.kb_base.specs.contracts.note.UnreadPattern as marks;
+    ghost use Rattle.kb_base.specs.contracts.note.EntryPattern as marks;
     ghost use Rattle.kb_base.specs.contracts.note.Warning as warning;
     ghost use Rattle.kb_embed.specs.Values.{EngineData};
 

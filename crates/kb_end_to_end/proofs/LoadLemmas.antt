@@ -19,7 +19,7 @@ use Rattle.kb_load_commands.specs.Natives.{natives_held}
 use Rattle.kb_registry.specs.Live.{Live, with_code}
 use Rattle.kb_session.specs.Session.{IsOf, Seen, loaded_raw, loaded_session, marks_by}
 use Rattle.kb_verify.specs.Accepted.{CheckedHandler}
-use Rattle.kb_base.specs.declared.note.UnreadPattern.{UnreadPattern}
+use Rattle.kb_base.specs.declared.note.EntryPattern.{EntryPattern}
 
 -- (a name for `Ok` whose type of faults can be given)
 abbrev good : {A E : Type 0} → A → Result A E
@@ -74,7 +74,7 @@ pub loads_alike : LoadsAlike
 loads_alike files natives one other marks p q =
     let loaded : p.loaded ≡ q.loaded =
     same_ok p.loaded q.loaded
-    (sym p.held ∙ ap (λ (m : List UnreadPattern). load.loaded m files) marks ∙ q.held) in
+    (sym p.held ∙ ap (λ (m : List EntryPattern). load.loaded m files) marks ∙ q.held) in
     let live : one.state.live ≡ other.state.live =
     live_alike natives p.loaded.bindings.extensions p.loaded.handlers one.state.live other.state.live p.live
     (subst (λ (l : Loaded). LiveChecked natives l.bindings.extensions l.handlers (Ok other.state.live))
@@ -86,4 +86,4 @@ loads_alike files natives one other marks p q =
 
 pub raw_loads_alike : RawLoadsAlike
 raw_loads_alike files natives one other marks p q =
-    same_ok one other (sym p ∙ ap (λ (m : List UnreadPattern). loaded_raw m files natives) marks ∙ q)
+    same_ok one other (sym p ∙ ap (λ (m : List EntryPattern). loaded_raw m files natives) marks ∙ q)

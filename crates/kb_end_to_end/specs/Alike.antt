@@ -1,7 +1,7 @@
 -- Sessions that differ only in their closures, of which definitions know the native commands alone.
 use Rattle.std.specs.Prelude.{◌≡◌, ◌⊎◌, ℕ, List, Option, Ok}
 use Rattle.kb_core.specs.declared.native.Native.{Native}
-use Rattle.kb_base.specs.declared.note.UnreadPattern.{UnreadPattern}
+use Rattle.kb_base.specs.declared.note.EntryPattern.{EntryPattern}
 use Rattle.kb_bindings.specs.Load.{Files}
 use Rattle.kb_script.specs.Shelf.{Said, Stand, Halts, move}
 use Rattle.kb_session.specs.Session.{IsOf, Seen, loaded_raw, marks_by}
@@ -14,7 +14,7 @@ abbrev pub OneBegins : List (List ℕ) → List (List ℕ) → Type 0
 OneBegins one other = Begins one other ⊎ Begins other one
 
 -- the patterns of the user's rules that a session reports as unread
-abbrev pub unread_rules : Seen → List UnreadPattern
+abbrev pub unread_rules : Seen → List EntryPattern
 unread_rules s = s.state.sources.user.unread
 
 -- loads of the same files with closures for the same native commands give the same session, if they report

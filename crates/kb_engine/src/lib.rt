@@ -30,4 +30,4 @@ pub use kb_script::{SCRIPT_LIMIT, ScriptFault, run_script, stream_script};
 pub use kb_base::{Failure, NoMemory, Refusal, Seq, Text, fault_name};
 
 // Warnings and unread patterns of entries.
-pub use kb_base::{Origin, Part, UnreadPattern, Warning};
+pub use kb_base::{EntryPattern, Origin, Part, UnreadPattern, Warning};

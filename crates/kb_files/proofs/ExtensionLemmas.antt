@@ -5,7 +5,7 @@ use Rattle.kb_base.specs.declared.note.Origin.{Origin}
 use Rattle.kb_base.specs.declared.note.Origin.TheVariants as origin
 use Rattle.kb_base.specs.declared.note.Part.{Part}
 use Rattle.kb_base.specs.declared.note.Part.TheVariants.{Commands, Keybindings, Palette}
-use Rattle.kb_base.specs.declared.note.UnreadPattern.{UnreadPattern}
+use Rattle.kb_base.specs.declared.note.EntryPattern.{EntryPattern}
 use Rattle.kb_base.specs.Failure.{Fails}
 use Rattle.kb_base.specs.Reading.{◌>>=◌, seen}
 use Rattle.kb_base.specs.Refusal.{numbered}
@@ -27,7 +27,7 @@ use Rattle.kb_rules.specs.RuleList.{Listed, listed}
 use Rattle.kb_when.proofs.PlacedLemmas.{AllOf, AllFrom, marks_at-append, marks_at-other_part, from_of}
 use Rattle.kb_when.proofs.PlacedLemmas.{all_from-append}
 use Rattle.kb_when.specs.Placed.{marks_at}
-use Rattle.kb_when.specs.declared.unread.ClausePattern.{ClausePattern}
+use Rattle.kb_base.specs.declared.note.UnreadPattern.{UnreadPattern}
 use Rattle.kb_files.specs.declared.extension_file.Extension.{Extension}
 use Rattle.kb_files.specs.Extension.{outline_in, package_in, unread_in, extension_of, extension_by, extension_in}
 use Rattle.kb_files.specs.Marked.{FailsForAll}
@@ -36,12 +36,12 @@ use Rattle.kb_files.specs.Value.{data_of, numbered_failure}
 -- ---- the unread patterns of three parts
 
 -- each list is of its own part
-pub record Parts (o : Origin) (commands rules palette : List UnreadPattern) : Type 0 where
+pub record Parts (o : Origin) (commands rules palette : List EntryPattern) : Type 0 where
   pub commands_are : AllOf o Commands commands
   pub rules_are : AllOf o Keybindings rules
   pub palette_are : AllOf o Palette palette
 
-module _ (o : Origin) (xs ys zs : List UnreadPattern) (parts : Parts o xs ys zs) where
+module _ (o : Origin) (xs ys zs : List EntryPattern) (parts : Parts o xs ys zs) where
   three : (part : Part) (place : ℕ)
       → marks_at o part (xs ++ (ys ++ zs)) place
       ≡ marks_at o part xs place ++ (marks_at o part ys place ++ marks_at o part zs place)
@@ -77,7 +77,7 @@ module _ (o : Origin) (xs ys zs : List UnreadPattern) (parts : Parts o xs ys zs)
 abbrev pub HasParts : Origin → Manifest → Listed → Type 0
 HasParts o m rules = Parts o m.command_notes.unread rules.unread m.palette_notes.unread
 
-parts_made : (told : Told) (outline : Outline) (unread : List UnreadPattern) (number : ℕ) (platform : Platform)
+parts_made : (told : Told) (outline : Outline) (unread : List EntryPattern) (number : ℕ) (platform : Platform)
     → HasParts (origin.Extension number) (contributed (origin.Extension number) told outline).manifest
     (listed unread (origin.Extension number) (Some platform) outline.points.keybindings)
 parts_made told outline unread number platform = record {
@@ -88,7 +88,7 @@ parts_made told outline unread number platform = record {
 }
 
 -- an extension's own patterns are all of its file
-pub all_from_extension : (unread : List UnreadPattern) (number : ℕ) (platform : Platform) (outline : Outline)
+pub all_from_extension : (unread : List EntryPattern) (number : ℕ) (platform : Platform) (outline : Outline)
     → AllFrom (origin.Extension number) (unread_in (extension_by unread number platform outline))
 all_from_extension unread number platform outline =
     let o = origin.Extension number in
@@ -101,7 +101,7 @@ all_from_extension unread number platform outline =
     (from_of o Palette e.manifest.palette_notes.unread parts.palette_are))
 
 -- an extension depends on the patterns of its own entries alone
-pub extension_by-same : (one other : List UnreadPattern) (number : ℕ) (platform : Platform) (outline : Outline)
+pub extension_by-same : (one other : List EntryPattern) (number : ℕ) (platform : Platform) (outline : Outline)
     → ((part : Part) (place : ℕ)
     → marks_at (origin.Extension number) part one place ≡ marks_at (origin.Extension number) part other place)
     → extension_by one number platform outline ≡ extension_by other number platform outline

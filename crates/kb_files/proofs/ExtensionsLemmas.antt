@@ -10,7 +10,7 @@ use Rattle.std.specs.Prelude.{Result, Ok, Err, Option, Bool, IfOk, MatchResult, 
 use Rattle.kb_base.specs.declared.note.Origin.{Origin}
 use Rattle.kb_base.specs.declared.note.Origin.TheVariants as origin
 use Rattle.kb_base.specs.declared.note.Part.{Part}
-use Rattle.kb_base.specs.declared.note.UnreadPattern.{UnreadPattern}
+use Rattle.kb_base.specs.declared.note.EntryPattern.{EntryPattern}
 use Rattle.kb_code.specs.Handler.{HandlerData}
 use Rattle.kb_base.specs.Failure.{Fails, Gives}
 use Rattle.kb_base.specs.Reading.{◌>>=◌}
@@ -335,7 +335,7 @@ none_later platform k number part place (o ∷ outlines) (e ∷ es) before are =
     ++ none_later platform k (number + 1) part place outlines es later are.1 i)
 
 -- where a list has the patterns of all these extensions, they are the extensions for this list
-pub for_all : (unread : List UnreadPattern) (platform : Platform) (number : ℕ) (outlines : List Outline)
+pub for_all : (unread : List EntryPattern) (platform : Platform) (number : ℕ) (outlines : List Outline)
     (es : List Extension) → AreExtensions number platform outlines es
     → ((k : ℕ) → number ≤ k → (part : Part) (place : ℕ) → marks_at (origin.Extension k) part unread place
     ≡ marks_at (origin.Extension k) part (flat_map unread_in es) place)

@@ -3,7 +3,7 @@
 use Rattle.std.specs.Prelude.{ℕ, true, List, ◌++◌, Some, Result}
 use Rattle.kb_base.specs.declared.note.Origin.{Origin}
 use Rattle.kb_base.specs.declared.note.Origin.TheVariants as origin
-use Rattle.kb_base.specs.declared.note.UnreadPattern.{UnreadPattern}
+use Rattle.kb_base.specs.declared.note.EntryPattern.{EntryPattern}
 use Rattle.kb_base.specs.declared.refusal.Refusal.{Refusal}
 use Rattle.kb_base.specs.Reading.{◌>>=◌, seen}
 use Rattle.kb_base.specs.Refusal.{numbered}
@@ -23,11 +23,11 @@ abbrev pub package_in : Origin → Told → List ℕ → Result Stated Refusal
 package_in origin told bytes = seen (contributed origin told) (outline_in bytes)
 
 -- the unread patterns of an extension: of its commands, its rules and its items of the palette
-abbrev pub unread_in : Extension → List UnreadPattern
+abbrev pub unread_in : Extension → List EntryPattern
 unread_in e = e.manifest.command_notes.unread ++ (e.rules.unread ++ e.manifest.palette_notes.unread)
 
 -- the extension of a number with this package, enabled; its keys are those of a platform
-abbrev pub extension_of : List UnreadPattern → ℕ → Platform → Stated → Extension
+abbrev pub extension_of : List EntryPattern → ℕ → Platform → Stated → Extension
 extension_of unread number platform stated = record {
   number = number;
   enabled = true;
@@ -36,12 +36,12 @@ extension_of unread number platform stated = record {
 }
 
 -- the extension of an outline, where these patterns aren't read
-abbrev pub extension_by : List UnreadPattern → ℕ → Platform → Outline → Extension
+abbrev pub extension_by : List EntryPattern → ℕ → Platform → Outline → Extension
 extension_by unread number platform o =
     extension_of unread number platform
     (contributed (origin.Extension number) (told_in (origin.Extension number) unread) o)
 
-unfoldable pub extension_in : List UnreadPattern → ℕ → Platform → List ℕ → Result Extension Refusal
+unfoldable pub extension_in : List EntryPattern → ℕ → Platform → List ℕ → Result Extension Refusal
 extension_in unread number platform bytes = seen (extension_by unread number platform) (outline_in bytes)
 
 -- all patterns of an extension are listed as unread exactly where `regex` rejects them

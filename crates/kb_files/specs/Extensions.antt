@@ -4,7 +4,7 @@ use Rattle.std.specs.Prelude.{⊤, ◌≡◌, ℕ, ◌+◌, nat_lt, List, [], �
 use Rattle.std.specs.Prelude.{Option, Some, None, option_map, Result, Ok, Err, if◌then◌else◌}
 use Rattle.kb_base.specs.Reading.{◌>>=◌}
 use Rattle.kb_base.specs.Refusal.{refused_for}
-use Rattle.kb_base.specs.declared.note.UnreadPattern.{UnreadPattern}
+use Rattle.kb_base.specs.declared.note.EntryPattern.{EntryPattern}
 use Rattle.kb_base.specs.declared.refusal.Refusal.{Refusal}
 use Rattle.kb_code.specs.Handler.{HandlerData}
 use Rattle.kb_keys.specs.declared.platform.Platform.{Platform}
@@ -89,7 +89,7 @@ extensions_held extensions =
 -- ---- the extensions, by the patterns that aren't read
 
 -- the extensions of these outlines, numbered from a number
-abbrev pub extensions_by : List UnreadPattern → Platform → ℕ → List Outline → List Extension
+abbrev pub extensions_by : List EntryPattern → Platform → ℕ → List Outline → List Extension
 extensions_by unread platform number [] = []
 extensions_by unread platform number (outline ∷ outlines) =
     extension_by unread number platform outline ∷ extensions_by unread platform (number + 1) outlines

@@ -5,7 +5,7 @@ use Rattle.kb_base.specs.declared.failure.Failure.{Failure}
 use Rattle.kb_base.specs.declared.failure.Failure.TheVariants.{NoMemory, Fault}
 use Rattle.kb_base.specs.declared.refusal.Refusal.{Refusal}
 use Rattle.kb_rules.specs.RuleList.{Listed}
-use Rattle.kb_base.specs.declared.note.UnreadPattern.{UnreadPattern}
+use Rattle.kb_base.specs.declared.note.EntryPattern.{EntryPattern}
 
 module _ {M X F : Type 0} where
   -- a call failed as what is meant does for all marks, or was refused memory
@@ -19,7 +19,7 @@ module _ {M X F : Type 0} where
   GivesByMarks marks_of meant (Err failure) = FailsForAll failure meant
 
 -- the same of a list of rules
-abbrev pub ReadsBy : (List UnreadPattern → Result Listed Refusal) → Result Listed (Failure Refusal) → Type 0
+abbrev pub ReadsBy : (List EntryPattern → Result Listed Refusal) → Result Listed (Failure Refusal) → Type 0
 ReadsBy meant result = GivesByMarks (λ list. list.unread) meant result
 
 -- a call answered something that is made of what is meant, or failed as that does, or was refused memory

@@ -10,7 +10,7 @@ use Rattle.kb_json.specs.FileFault.{number_of}
 use Rattle.kb_json.specs.Parts.{elements_of}
 use Rattle.kb_rules.specs.RuleList.{Listed, listed}
 use Rattle.kb_base.specs.declared.note.Origin.{Origin}
-use Rattle.kb_base.specs.declared.note.UnreadPattern.{UnreadPattern}
+use Rattle.kb_base.specs.declared.note.EntryPattern.{EntryPattern}
 use Rattle.kb_files.specs.Value.{data_of}
 
 -- the elements of a file, which has to be an array
@@ -21,8 +21,8 @@ abbrev pub elements_held : List ℕ → Result (List Data) Refusal
 elements_held bytes = data_of bytes >>= elements_in
 
 -- what these elements give, for these marks; a rule of a file has one key for all platforms
-abbrev pub rules_by : List UnreadPattern → Origin → List Data → Listed
+abbrev pub rules_by : List EntryPattern → Origin → List Data → Listed
 rules_by marks origin ds = listed marks origin None ds
 
-unfoldable pub rules_in : List UnreadPattern → Origin → List ℕ → Result Listed Refusal
+unfoldable pub rules_in : List EntryPattern → Origin → List ℕ → Result Listed Refusal
 rules_in marks origin bytes = seen (rules_by marks origin) (elements_held bytes)

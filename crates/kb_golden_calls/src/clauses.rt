@@ -1,8 +1,8 @@
 //! Clauses: their faults, their trees, and whether they hold.
-use kb_base::{Failure, NoMemory};
+use kb_base::{Failure, NoMemory, UnreadPattern};
 use kb_context::Scopes;
 use kb_golden_text::fault_text;
-use kb_when::{Clause, ClausePattern, WhenFault};
+use kb_when::{Clause, WhenFault};
 use std::alloc::{AllocError, Global};
 
 fn when_fault(alloc: Global, wrong: Failure<WhenFault>) -> Result<String, NoMemory> {
@@ -76,7 +76,7 @@ fn add_fault_of(alloc: Global, text: &str, output: &mut String) -> Result<(), No
     }
 }
 
-fn listed(alloc: Global, unread: &[ClausePattern]) -> Result<String, NoMemory> {
+fn listed(alloc: Global, unread: &[UnreadPattern]) -> Result<String, NoMemory> {
     if unread.is_empty() {
         return String::from_str(alloc, "none");
     }

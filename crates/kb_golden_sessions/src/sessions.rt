@@ -8,7 +8,7 @@ use crate::inputs::{
     Files, all_handlers, commands_in, extensions_of, files_in, is_of_file, manifests_in,
 };
 use crate::streams::{FailingReader, LimitedWriter};
-use kb_base::{Failure, NoMemory, UnreadPattern, fault_name};
+use kb_base::{EntryPattern, Failure, NoMemory, fault_name};
 use kb_core::Native;
 use kb_disk::lent;
 use kb_exit::{Stop, WarningLine, script_stop};
@@ -52,7 +52,7 @@ fn add_warnings(session: &Session<Command>, actual: &mut String) -> Result<(), N
 fn add_unread_list(
     session: &Session<Command>,
     list: usize,
-    unread: &[UnreadPattern],
+    unread: &[EntryPattern],
     actual: &mut String,
 ) -> Result<(), NoMemory> {
     for one in unread {
@@ -60,8 +60,8 @@ fn add_unread_list(
         let part = one.part.name();
         write!(actual, "> {list}: {source} {part} ")?;
         let place = one.place;
-        let number = one.number;
-        let pattern = one.pattern.as_str();
+        let number = one.unread.number;
+        let pattern = one.unread.pattern.as_str();
         write!(actual, "{place} {number} {pattern}\n")?;
     }
     Ok(())

@@ -5,7 +5,7 @@ use Rattle.std.specs.Borrow.{Bor}
 use Rattle.std.specs.Prelude.{Option, Some, None, Result, Ok, Err, option_map, unwrap_or, if◌then◌else◌}
 use Rattle.std.specs.Option.{option_or}
 use Rattle.kb_base.specs.Reading.{seen}
-use Rattle.kb_base.specs.declared.note.UnreadPattern.{UnreadPattern}
+use Rattle.kb_base.specs.declared.note.EntryPattern.{EntryPattern}
 use Rattle.kb_base.specs.declared.refusal.Refusal.{Refusal}
 use Rattle.kb_code.specs.Handler.{HandlerData}
 use Rattle.kb_disk.proofs.FilesLemmas.{had_if_there, had_read}
@@ -24,7 +24,7 @@ use Rattle.kb_handler_report.specs.Files.{HandlersIn, HasExtension, HasExtension
 use Rattle.kb_handler_report.specs.declared.extension.ExtensionCode.{ExtensionCode}
 
 -- the names of an extension that a manifest gives are those of its outline
-by_outline : (bytes : List ℕ) (unread : List UnreadPattern) (number : ℕ) (platform : Platform) (e : Extension)
+by_outline : (bytes : List ℕ) (unread : List EntryPattern) (number : ℕ) (platform : Platform) (e : Extension)
     (id : List ℕ) (dependencies : List (List ℕ)) (r : Result Outline Refusal) → outline_in bytes ≡ r
     → seen (extension_by unread number platform) r ≡ Ok e → id ≡ e.manifest.id
     → dependencies ≡ e.manifest.dependencies
@@ -46,7 +46,7 @@ by_outline bytes unread number platform e id dependencies (Ok o) at is named nee
 by_outline bytes unread number platform e id dependencies (Err f) at is named needed =
     absurd (let no : Bool = true in cc)
 
-pub has_names_in : (bytes : List ℕ) (unread : List UnreadPattern) (number : ℕ) (platform : Platform) (e : Extension)
+pub has_names_in : (bytes : List ℕ) (unread : List EntryPattern) (number : ℕ) (platform : Platform) (e : Extension)
     (id : List ℕ) (dependencies : List (List ℕ)) → extension_in unread number platform bytes ≡ Ok e
     → id ≡ e.manifest.id → dependencies ≡ e.manifest.dependencies → NamesIn bytes id dependencies
 unfolding extension_in

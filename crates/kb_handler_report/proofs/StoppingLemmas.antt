@@ -7,7 +7,7 @@ use Rattle.kb_base.specs.Failure.{Gives}
 use Rattle.kb_base.specs.Reading.{seen}
 use Rattle.kb_base.specs.declared.failure.Failure.{Failure}
 use Rattle.kb_base.specs.declared.failure.Failure.TheVariants as failure
-use Rattle.kb_base.specs.declared.note.UnreadPattern.{UnreadPattern}
+use Rattle.kb_base.specs.declared.note.EntryPattern.{EntryPattern}
 use Rattle.kb_base.specs.declared.refusal.Refusal.{Refusal}
 use Rattle.kb_code.specs.Handler.{HandlerData}
 use Rattle.kb_disk.proofs.FilesLemmas.{had_read}
@@ -47,7 +47,7 @@ fault_seen view (Err other) fault is = ap (λ r. Err (fault_of other r)) is
     fault_of other (Ok y) = other
     fault_of other (Err f) = f
 
-outline_fault : (bytes : List ℕ) (unread : List UnreadPattern) (number : ℕ) (platform : Platform)
+outline_fault : (bytes : List ℕ) (unread : List EntryPattern) (number : ℕ) (platform : Platform)
     (refusal : Refusal) → extension_in unread number platform bytes ≡ Err refusal
     → outline_in bytes ≡ Err refusal
 unfolding extension_in

@@ -5,9 +5,9 @@ use Rattle.std.proofs.lemmas.List.{append-nil, append_assoc}
 use Rattle.serde_json.specs.Data.{Data}
 use Rattle.kb_base.specs.declared.note.Origin.{Origin}
 use Rattle.kb_base.specs.declared.note.Part.{Part}
-use Rattle.kb_base.specs.declared.note.UnreadPattern.{UnreadPattern}
+use Rattle.kb_base.specs.declared.note.EntryPattern.{EntryPattern}
 use Rattle.kb_when.specs.Placed.{marks_at, placed}
-use Rattle.kb_when.specs.declared.unread.ClausePattern.{ClausePattern}
+use Rattle.kb_base.specs.declared.note.UnreadPattern.{UnreadPattern}
 use Rattle.kb_when.proofs.PlacedLemmas.{marks_at-append, marks_at-placed, marks_at-elsewhere, AllOf}
 use Rattle.kb_when.proofs.PlacedLemmas.{all_of-append, all_of-placed}
 use Rattle.kb_manifest.specs.declared.judged.Judged.{Judged}
@@ -16,8 +16,8 @@ use Rattle.kb_manifest.specs.Judged.{kept_in, kept_from, warnings_from, unread_f
 use Rattle.kb_manifest.specs.Notes.{with_warning, with_unread, warning_in}
 
 -- the unread patterns of notes are of their part
-pub of_notes : {X : Type 0} (judged_at : List ClausePattern → ℕ → Data → Judged X)
-    (told : ℕ → List ClausePattern) (origin : Origin) (part : Part) (place : ℕ) (ds : List Data)
+pub of_notes : {X : Type 0} (judged_at : List UnreadPattern → ℕ → Data → Judged X)
+    (told : ℕ → List UnreadPattern) (origin : Origin) (part : Part) (place : ℕ) (ds : List Data)
     → AllOf origin part (unread_from judged_at told origin part place ds)
 of_notes judged_at told origin part place [] = tt
 of_notes judged_at told origin part place (d ∷ ds) =
@@ -30,14 +30,14 @@ of_notes judged_at told origin part place (d ∷ ds) =
 
 module _ (origin : Origin) (part : Part) where
   -- those of the entry at a place are found at its place alone
-  at_its_place : (unread : List UnreadPattern) (place : ℕ) (ps : List ClausePattern)
+  at_its_place : (unread : List EntryPattern) (place : ℕ) (ps : List UnreadPattern)
       → marks_at origin part unread place ≡ []
       → marks_at origin part (unread ++ placed origin part place ps) place ≡ ps
   at_its_place unread place ps none =
       marks_at-append origin part unread (placed origin part place ps) place
       ∙ (λ i. none i ++ marks_at-placed origin part place ps i)
 
-  elsewhere : (unread : List UnreadPattern) (place q : ℕ) (ps : List ClausePattern) → (place ≡ q → ⊥)
+  elsewhere : (unread : List EntryPattern) (place q : ℕ) (ps : List UnreadPattern) → (place ≡ q → ⊥)
       → marks_at origin part (unread ++ placed origin part place ps) q ≡ marks_at origin part unread q
   elsewhere unread place q ps other =
       marks_at-append origin part unread (placed origin part place ps) q
@@ -45,31 +45,31 @@ module _ (origin : Origin) (part : Part) where
       ∙ append-nil (marks_at origin part unread q)
 
   -- of the places so far it is what was found
-  abbrev pub IsFound : (ℕ → List ClausePattern) → ℕ → List UnreadPattern → Type 0
+  abbrev pub IsFound : (ℕ → List UnreadPattern) → ℕ → List EntryPattern → Type 0
   IsFound told place unread = (p : ℕ) → p < place → told p ≡ marks_at origin part unread p
 
-  abbrev pub NoneFrom : ℕ → List UnreadPattern → Type 0
+  abbrev pub NoneFrom : ℕ → List EntryPattern → Type 0
   NoneFrom place unread = (p : ℕ) → place ≤ p → marks_at origin part unread p ≡ []
 
-  found_here : (told : ℕ → List ClausePattern) (place : ℕ) (unread : List UnreadPattern)
-      (ps : List ClausePattern) → NoneFrom place unread
+  found_here : (told : ℕ → List UnreadPattern) (place : ℕ) (unread : List EntryPattern)
+      (ps : List UnreadPattern) → NoneFrom place unread
       → IsFound told (place + 1) (unread ++ placed origin part place ps) → told place ≡ ps
   found_here told place unread ps none found =
       found place (omega arith) ∙ at_its_place unread place ps (none place (omega arith))
 
-  found_above : (told : ℕ → List ClausePattern) (place : ℕ) (unread : List UnreadPattern)
-      (ps : List ClausePattern) → IsFound told (place + 1) (unread ++ placed origin part place ps)
+  found_above : (told : ℕ → List UnreadPattern) (place : ℕ) (unread : List EntryPattern)
+      (ps : List UnreadPattern) → IsFound told (place + 1) (unread ++ placed origin part place ps)
       → IsFound told place unread
   found_above told place unread ps found =
       λ p h. found p (omega arith) ∙ elsewhere unread place p ps (λ e. omega (arith))
 
 -- ---- the entries in turn
 
-module _ {X : Type 0} (judged_at : List ClausePattern → ℕ → Data → Judged X)
-    (Right : List ClausePattern → Data → Type 0) (origin : Origin) (part : Part) (all : List Data) where
+module _ {X : Type 0} (judged_at : List UnreadPattern → ℕ → Data → Judged X)
+    (Right : List UnreadPattern → Data → Type 0) (origin : Origin) (part : Part) (all : List Data) where
   -- what there is, and then what the entries that are left give, is what all give. Where the patterns of
   -- those that are left are right, all are
-  pub record Gives (told : ℕ → List ClausePattern) (place : ℕ) (left : List Data) (kept : List X)
+  pub record Gives (told : ℕ → List UnreadPattern) (place : ℕ) (left : List Data) (kept : List X)
       (notes : Notes) : Type 0 where
     pub kept_are : kept ++ kept_from judged_at told place left ≡ kept_from judged_at told 0 all
     pub warnings_are : notes.warnings ++ warnings_from judged_at told origin part place left
@@ -81,7 +81,7 @@ module _ {X : Type 0} (judged_at : List ClausePattern → ℕ → Data → Judge
   -- this holds for any patterns of the entries that are left
   pub record Goes (place : ℕ) (left : List Data) (kept : List X) (notes : Notes) : Type 0 where
     pub none : NoneFrom origin part place notes.unread
-    pub gives : (told : ℕ → List ClausePattern) → IsFound origin part told place notes.unread
+    pub gives : (told : ℕ → List UnreadPattern) → IsFound origin part told place notes.unread
         → Gives told place left kept notes
 
   -- the notes of one entry more
@@ -89,7 +89,7 @@ module _ {X : Type 0} (judged_at : List ClausePattern → ℕ → Data → Judge
   noted place j notes =
       with_unread origin part place j.unread (with_warning origin part place j.number notes)
 
-  gives_on : (told : ℕ → List ClausePattern) (place : ℕ) (d : Data) (ds : List Data) (kept : List X)
+  gives_on : (told : ℕ → List UnreadPattern) (place : ℕ) (d : Data) (ds : List Data) (kept : List X)
       (notes : Notes) (j : Judged X) → judged_at (told place) place d ≡ j → Right (told place) d
       → Gives told place (d ∷ ds) kept notes
       → Gives told (place + 1) ds (kept ++ kept_in j.kept) (noted place j notes)

@@ -10,7 +10,7 @@ use Rattle.kb_manifest.specs.declared.judged.Judged.{Judged}
 use Rattle.kb_manifest.specs.declared.notes.Notes.{Notes}
 use Rattle.kb_base.specs.declared.note.Origin.{Origin}
 use Rattle.kb_base.specs.declared.note.Part.TheVariants.{Commands}
-use Rattle.kb_when.specs.declared.unread.ClausePattern.{ClausePattern}
+use Rattle.kb_base.specs.declared.note.UnreadPattern.{UnreadPattern}
 use Rattle.kb_manifest.specs.declared.command_table.Named.{Named}
 use Rattle.kb_manifest.specs.declared.command.Texts.{Texts}
 use Rattle.kb_json.specs.Member.{required_text, optional_text}
@@ -38,7 +38,7 @@ unfoldable pub texts_of : Data → Result Texts FileFault
 texts_of d = or_fault WrongShape (as_object d) >>= texts_in
 
 -- the command of these texts, with the warning of its clause
-abbrev pub command_of : List ClausePattern → ℕ → Texts → Judged Named
+abbrev pub command_of : List UnreadPattern → ℕ → Texts → Judged Named
 command_of told place texts = record {
   kept = Some (record {
     name = texts.name;
@@ -53,26 +53,26 @@ command_of told place texts = record {
   unread = (optional_condition told texts.enablement).unread;
 }
 
-abbrev pub judged_by : List ClausePattern → ℕ → Result Texts FileFault → Judged Named
+abbrev pub judged_by : List UnreadPattern → ℕ → Result Texts FileFault → Judged Named
 judged_by told place (Ok texts) = command_of told place texts
 judged_by told place (Err fault) = record { kept = None; number = Some (number_of fault); unread = [] }
 
 -- the entry at a place, read
-abbrev pub judged_at : List ClausePattern → ℕ → Data → Judged Named
+abbrev pub judged_at : List UnreadPattern → ℕ → Data → Judged Named
 judged_at told place d = judged_by told place (texts_of d)
 
 -- the first entries of their identifiers; a dropped entry counts for nothing
-abbrev pub commands_of : (ℕ → List ClausePattern) → List Data → List Named
+abbrev pub commands_of : (ℕ → List UnreadPattern) → List Data → List Named
 commands_of told entries = firsts_behind [] (kept_from judged_at told 0 entries)
 
 -- the commands of entries, and the notes of the entries
-abbrev pub commands_by : Origin → (ℕ → List ClausePattern) → List Data → List Named × Notes
+abbrev pub commands_by : Origin → (ℕ → List UnreadPattern) → List Data → List Named × Notes
 commands_by origin told entries = (commands_of told entries, notes_of judged_at told origin Commands entries)
 
 -- the unread patterns of an entry are right
-abbrev pub IsRightBy : List ClausePattern → Result Texts FileFault → Type 0
+abbrev pub IsRightBy : List UnreadPattern → Result Texts FileFault → Type 0
 IsRightBy told (Ok texts) = IsOptionalRight told texts.enablement
 IsRightBy told (Err fault) = Unit {0}
 
-abbrev pub IsRightAt : List ClausePattern → Data → Type 0
+abbrev pub IsRightAt : List UnreadPattern → Data → Type 0
 IsRightAt told d = IsRightBy told (texts_of d)

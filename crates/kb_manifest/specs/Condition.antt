@@ -7,11 +7,11 @@ use Rattle.kb_pattern.specs.Pattern.{AreRight}
 use Rattle.kb_when.specs.Unread.{unread_of, marked_by}
 use Rattle.kb_when.specs.WhenFault.{number_of}
 use Rattle.kb_when.specs.declared.fault.WhenFault.{WhenFault}
-use Rattle.kb_when.specs.declared.unread.ClausePattern.{ClausePattern}
+use Rattle.kb_base.specs.declared.note.UnreadPattern.{UnreadPattern}
 use Rattle.kb_manifest.specs.declared.condition.Condition.{Condition}
 
 -- a clause with a pattern that isn't read has the warning 34, once
-abbrev pub number_by : List ClausePattern → Option ℕ
+abbrev pub number_by : List UnreadPattern → Option ℕ
 number_by [] = None
 number_by (u ∷ us) = Some 34
 
@@ -25,27 +25,27 @@ never_holds fault = record {
   unread = [];
 }
 
-abbrev pub condition_by : List ClausePattern → Result Clause WhenFault → Condition
+abbrev pub condition_by : List UnreadPattern → Result Clause WhenFault → Condition
 condition_by told (Ok tree) = marked_condition (marked_by told tree)
 condition_by told (Err fault) = never_holds fault
 
 -- the clause of a text, the number of its warning, and its unread patterns
-unfoldable pub condition_of : List ClausePattern → List ℕ → Condition
+unfoldable pub condition_of : List UnreadPattern → List ℕ → Condition
 condition_of told text = condition_by told (clause_in text)
 
 -- the same where there may be no text
-abbrev pub optional_condition : List ClausePattern → Option (List ℕ) → Condition
+abbrev pub optional_condition : List UnreadPattern → Option (List ℕ) → Condition
 optional_condition told None = record { clause = None; number = None; unread = [] }
 optional_condition told (Some text) = condition_of told text
 
 -- the unread patterns of a clause are right: `regex` rejects these, and reads the others
-abbrev pub IsRightBy : List ClausePattern → Result Clause WhenFault → Type 0
+abbrev pub IsRightBy : List UnreadPattern → Result Clause WhenFault → Type 0
 IsRightBy told (Ok tree) = AreRight (patterns_of tree) (marked_by told tree).marks
 IsRightBy told (Err fault) = Unit {0}
 
-unfoldable pub IsRightOf : List ClausePattern → List ℕ → Type 0
+unfoldable pub IsRightOf : List UnreadPattern → List ℕ → Type 0
 IsRightOf told text = IsRightBy told (clause_in text)
 
-abbrev pub IsOptionalRight : List ClausePattern → Option (List ℕ) → Type 0
+abbrev pub IsOptionalRight : List UnreadPattern → Option (List ℕ) → Type 0
 IsOptionalRight told None = Unit {0}
 IsOptionalRight told (Some text) = IsRightOf told text

@@ -4,10 +4,10 @@ use Rattle.std.specs.Prelude.{ℕ, ◌+◌, List, [], ◌∷◌, ◌++◌, Optio
 use Rattle.serde_json.specs.Data.{Data}
 use Rattle.kb_base.specs.declared.note.Origin.{Origin}
 use Rattle.kb_base.specs.declared.note.Part.{Part}
-use Rattle.kb_base.specs.declared.note.UnreadPattern.{UnreadPattern}
+use Rattle.kb_base.specs.declared.note.EntryPattern.{EntryPattern}
 use Rattle.kb_base.specs.declared.note.Warning.{Warning}
 use Rattle.kb_when.specs.Placed.{placed}
-use Rattle.kb_when.specs.declared.unread.ClausePattern.{ClausePattern}
+use Rattle.kb_base.specs.declared.note.UnreadPattern.{UnreadPattern}
 use Rattle.kb_manifest.specs.declared.judged.Judged.{Judged}
 use Rattle.kb_manifest.specs.declared.notes.Notes.{Notes}
 use Rattle.kb_manifest.specs.Notes.{warning_in}
@@ -17,8 +17,8 @@ abbrev pub kept_in : {X : Type 0} → Option X → List X
 kept_in None = []
 kept_in (Some x) = x ∷ []
 
-module _ {X : Type 0} (judged_at : List ClausePattern → ℕ → Data → Judged X)
-    (told : ℕ → List ClausePattern) where
+module _ {X : Type 0} (judged_at : List UnreadPattern → ℕ → Data → Judged X)
+    (told : ℕ → List UnreadPattern) where
   abbrev pub kept_from : ℕ → List Data → List X
   kept_from place [] = []
   kept_from place (d ∷ ds) = kept_in (judged_at (told place) place d).kept ++ kept_from (place + 1) ds
@@ -29,7 +29,7 @@ module _ {X : Type 0} (judged_at : List ClausePattern → ℕ → Data → Judge
       warning_in origin part place (judged_at (told place) place d).number
       ++ warnings_from origin part (place + 1) ds
 
-  abbrev pub unread_from : Origin → Part → ℕ → List Data → List UnreadPattern
+  abbrev pub unread_from : Origin → Part → ℕ → List Data → List EntryPattern
   unread_from origin part place [] = []
   unread_from origin part place (d ∷ ds) =
       placed origin part place (judged_at (told place) place d).unread
@@ -44,6 +44,6 @@ module _ {X : Type 0} (judged_at : List ClausePattern → ℕ → Data → Judge
   each_by origin part ds = (kept_from 0 ds, notes_of origin part ds)
 
 -- the unread patterns of each entry are right
-abbrev pub AllRight : (List ClausePattern → Data → Type 0) → (ℕ → List ClausePattern) → ℕ → List Data → Type 0
+abbrev pub AllRight : (List UnreadPattern → Data → Type 0) → (ℕ → List UnreadPattern) → ℕ → List Data → Type 0
 AllRight Right told place [] = Unit {0}
 AllRight Right told place (d ∷ ds) = Right (told place) d × AllRight Right told (place + 1) ds

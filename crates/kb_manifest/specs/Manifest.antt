@@ -13,9 +13,9 @@ use Rattle.kb_manifest.specs.declared.manifest.Manifest.{Manifest}
 use Rattle.kb_manifest.specs.declared.manifest.Package.{Package}
 use Rattle.kb_base.specs.declared.note.Origin.{Origin}
 use Rattle.kb_base.specs.declared.note.Part.TheVariants.{Commands, Palette}
-use Rattle.kb_base.specs.declared.note.UnreadPattern.{UnreadPattern}
+use Rattle.kb_base.specs.declared.note.EntryPattern.{EntryPattern}
 use Rattle.kb_when.specs.Placed.{marks_at}
-use Rattle.kb_when.specs.declared.unread.ClausePattern.{ClausePattern}
+use Rattle.kb_base.specs.declared.note.UnreadPattern.{UnreadPattern}
 use Rattle.kb_base.specs.declared.failure.Failure.{Failure}
 use Rattle.kb_base.specs.Failure.{Fails}
 use Rattle.kb_manifest.specs.Command as command
@@ -32,8 +32,8 @@ pub record Stated : Type 0 where
 
 -- the unread patterns, by the places of the commands and of the items of the palette
 pub record Told : Type 0 where
-  pub commands : ℕ → List ClausePattern
-  pub palette : ℕ → List ClausePattern
+  pub commands : ℕ → List UnreadPattern
+  pub palette : ℕ → List UnreadPattern
 
 -- a manifest before its entries are read
 pub record Outline : Type 0 where
@@ -93,7 +93,7 @@ abbrev pub seen_package : Package → Stated
 seen_package p = record { manifest = p.manifest; keybindings = listed (items_view p.keybindings.items) }
 
 -- which patterns of a manifest of this origin a list has
-abbrev pub told_in : Origin → List UnreadPattern → Told
+abbrev pub told_in : Origin → List EntryPattern → Told
 told_in origin unread = record {
   commands = marks_at origin Commands unread;
   palette = marks_at origin Palette unread;

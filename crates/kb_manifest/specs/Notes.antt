@@ -4,7 +4,7 @@ use Rattle.kb_base.specs.declared.note.Origin.{Origin}
 use Rattle.kb_base.specs.declared.note.Part.{Part}
 use Rattle.kb_base.specs.declared.note.Warning.{Warning}
 use Rattle.kb_when.specs.Placed.{placed}
-use Rattle.kb_when.specs.declared.unread.ClausePattern.{ClausePattern}
+use Rattle.kb_base.specs.declared.note.UnreadPattern.{UnreadPattern}
 use Rattle.kb_manifest.specs.declared.notes.Notes.{Notes}
 
 abbrev pub no_notes : Notes
@@ -20,6 +20,6 @@ abbrev pub with_warning : Origin → Part → ℕ → Option ℕ → Notes → N
 with_warning origin part place number notes =
     record notes { warnings = notes.warnings ++ warning_in origin part place number }
 
-abbrev pub with_unread : Origin → Part → ℕ → List ClausePattern → Notes → Notes
+abbrev pub with_unread : Origin → Part → ℕ → List UnreadPattern → Notes → Notes
 with_unread origin part place patterns notes =
     record notes { unread = notes.unread ++ placed origin part place patterns }

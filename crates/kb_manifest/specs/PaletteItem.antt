@@ -13,7 +13,7 @@ use Rattle.kb_manifest.specs.declared.notes.Notes.{Notes}
 use Rattle.kb_base.specs.declared.note.Origin.{Origin}
 use Rattle.kb_base.specs.declared.note.Part.TheVariants.{Palette}
 use Rattle.kb_manifest.specs.Judged.{each_by}
-use Rattle.kb_when.specs.declared.unread.ClausePattern.{ClausePattern}
+use Rattle.kb_base.specs.declared.note.UnreadPattern.{UnreadPattern}
 use Rattle.kb_manifest.specs.declared.palette_item.PaletteItem.{PaletteItem}
 use Rattle.kb_manifest.specs.declared.palette_item.ItemTexts.{ItemTexts}
 use Rattle.kb_json.specs.Member.{required_text, optional_text}
@@ -36,7 +36,7 @@ unfoldable pub texts_of : Data → Result ItemTexts FileFault
 texts_of d = or_fault WrongShape (as_object d) >>= texts_in
 
 -- the item of these texts, with the warning of its clause
-abbrev pub item_of : List ClausePattern → ℕ → ItemTexts → Judged PaletteItem
+abbrev pub item_of : List UnreadPattern → ℕ → ItemTexts → Judged PaletteItem
 item_of told place texts = record {
   kept = Some (record {
     command = texts.command;
@@ -47,22 +47,22 @@ item_of told place texts = record {
   unread = (optional_condition told texts.when).unread;
 }
 
-abbrev pub judged_by : List ClausePattern → ℕ → Result ItemTexts FileFault → Judged PaletteItem
+abbrev pub judged_by : List UnreadPattern → ℕ → Result ItemTexts FileFault → Judged PaletteItem
 judged_by told place (Ok texts) = item_of told place texts
 judged_by told place (Err fault) = record { kept = None; number = Some (number_of fault); unread = [] }
 
 -- the entry at a place, read
-abbrev pub judged_at : List ClausePattern → ℕ → Data → Judged PaletteItem
+abbrev pub judged_at : List UnreadPattern → ℕ → Data → Judged PaletteItem
 judged_at told place d = judged_by told place (texts_of d)
 
 -- the items of entries, and the notes of the entries
-abbrev pub items_by : Origin → (ℕ → List ClausePattern) → List Data → List PaletteItem × Notes
+abbrev pub items_by : Origin → (ℕ → List UnreadPattern) → List Data → List PaletteItem × Notes
 items_by origin told entries = each_by judged_at told origin Palette entries
 
 -- the unread patterns of an entry are right
-abbrev pub IsRightBy : List ClausePattern → Result ItemTexts FileFault → Type 0
+abbrev pub IsRightBy : List UnreadPattern → Result ItemTexts FileFault → Type 0
 IsRightBy told (Ok texts) = IsOptionalRight told texts.when
 IsRightBy told (Err fault) = Unit {0}
 
-abbrev pub IsRightAt : List ClausePattern → Data → Type 0
+abbrev pub IsRightAt : List UnreadPattern → Data → Type 0
 IsRightAt told d = IsRightBy told (texts_of d)

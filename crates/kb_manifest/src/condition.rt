@@ -8,8 +8,8 @@ ghost use Rattle.kb_when.specs.Unread.{unread_of, marked_by};
 ghost use Rattle.kb_manifest.specs.Condition.{number_by, never_holds, condition_by, condition_of};
 ghost use Rattle.kb_manifest.specs.Condition.{optional_condition, IsRightBy, IsRightOf, IsOptionalRight};
 
-use kb_base::{Failure, NoMemory, Seq, Text};
-use kb_when::{Clause, ClausePattern, SharedClause, WhenFault};
+use kb_base::{Failure, NoMemory, Seq, Text, UnreadPattern};
+use kb_when::{Clause, SharedClause, WhenFault};
 use std::alloc::{AllocError, Global};
 
 /// A clause of a manifest, the number of its warning, and its unread patterns.
@@ -17,24 +17,22 @@ use std::alloc::{AllocError, Global};
 pub(crate) struct Condition {
     pub(crate) clause: Option<SharedClause>,
     pub(crate) number: Option<u32>,
-    pub(crate) unread: Seq<ClausePattern>,
+    pub(crate) unread: Seq<UnreadPattern>,
 }
 
 /// A copy of patterns.
-fn copied(alloc: Global, patterns: &[ClausePattern]) -> Result<Seq<ClausePattern>, NoMemory>
+fn copied(alloc: Global, patterns: &[UnreadPattern]) -> Result<Seq<UnreadPattern>, NoMemory>
     ensures { IfOk result (λ made. made ≡ patterns.now) }
 {
     let mut made = Seq::new(alloc);
     for unread in patterns {
-        let number = unread.number;
-        let pattern = unread.pattern.copied()?;
-        made.push(ClausePattern { number, pattern })?;
+        made.push(unread.copied()?)?;
     }
     Ok(made)
 }
 
 /// The number of the warning of a clause with these patterns that aren't read, if it has one.
-fn number_by(unread: &[ClausePattern]) -> Option<u32>
+fn number_by(unread: &[UnreadPattern]) -> Option<u32>
     ensures { result ≡ number_by unread.now }
 {
     match unread {
@@ -44,7 +42,7 @@ fn number_by(unread: &[ClausePattern]) -> Option<u32>
 }
 
 /// A copy of a clause's patterns that aren't read.
-fn told_of(alloc: Global, clause: &Clause) -> Result<Seq<ClausePattern>, NoMemory>
+fn told_of(alloc: Global, clause: &Clause) -> Result<Seq<UnreadPattern>, NoMemory>
     ensures told { IfOk result (λ told. told ≡ unread_of clause.now) }
     ensures whole { marked_by (unread_of clause.now) clause.now.tree ≡ clause.now }
     ensures right { AreRight (patterns_of clause.now.tree) clause.now.marks }

@@ -16,14 +16,14 @@ pub(crate) trait Entry: Sized + Drop {
     ghost use Rattle.std.specs.Prelude.{◌≡◌, ℕ, List, IfOk};
     ghost use Rattle.serde_json.specs.Data.{Data};
     ghost use Rattle.serde_json.specs.View.{view};
-    ghost use Rattle.kb_when.specs.declared.unread.ClausePattern.{ClausePattern};
+    ghost use Rattle.kb_base.specs.declared.note.UnreadPattern.{UnreadPattern};
     ghost use Rattle.kb_manifest.specs.declared.judged.Judged.{Judged};
 
     /// The entry at a place, read. The list is of its unread patterns.
-    ghost judged: { List ClausePattern → ℕ → Data → Judged Self };
+    ghost judged: { List UnreadPattern → ℕ → Data → Judged Self };
 
     /// The unread patterns of an entry are right.
-    ghost is_right: { List ClausePattern → Data → Type 0 };
+    ghost is_right: { List UnreadPattern → Data → Type 0 };
 
     /// Reads the entry at a place.
     fn read(alloc: Global, entry: Value, place: usize) -> Result<Judged<Self>, NoMemory>

@@ -2,8 +2,7 @@
 ghost use Rattle.std.specs.Prelude.{◌≡◌, [], ◌++◌, OnOk};
 ghost use Rattle.kb_manifest.specs.Notes.{no_notes, with_warning, with_unread};
 
-use kb_base::{NoMemory, Origin, Part, Seq, UnreadPattern, Warning};
-use kb_when::ClausePattern;
+use kb_base::{EntryPattern, NoMemory, Origin, Part, Seq, UnreadPattern, Warning};
 use std::alloc::Global;
 
 /// What is reported of the entries of a part of a manifest, in their order.
@@ -13,7 +12,7 @@ pub struct Notes {
     pub warnings: Seq<Warning>,
     /// The unsupported patterns, also those of an entry that an earlier one with the same identifier
     /// replaces.
-    pub unread: Seq<UnreadPattern>,
+    pub unread: Seq<EntryPattern>,
 }
 
 impl Notes {
@@ -55,7 +54,7 @@ impl Notes {
         part: Part,
         place: usize,
         number: Option<u32>,
-        patterns: Seq<ClausePattern>,
+        patterns: Seq<UnreadPattern>,
     ) -> Result<(), NoMemory>
         ensures { OnOk result (self.new
             ≡ with_unread origin part place patterns (with_warning origin part place number self.old)) }
@@ -70,18 +69,16 @@ impl Notes {
         origin: Origin,
         part: Part,
         place: usize,
-        patterns: Seq<ClausePattern>,
+        patterns: Seq<UnreadPattern>,
     ) -> Result<(), NoMemory>
         ensures { OnOk result (self.new ≡ with_unread origin part place patterns self.old) }
     {
-        for one in patterns.into_vec() {
-            let ClausePattern { number, pattern } = one;
-            self.unread.push(UnreadPattern {
+        for unread in patterns.into_vec() {
+            self.unread.push(EntryPattern {
                 origin,
                 part,
                 place,
-                number,
-                pattern,
+                unread,
             })?;
         }
         Ok(())

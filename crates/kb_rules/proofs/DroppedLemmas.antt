@@ -23,11 +23,11 @@ use Rattle.kb_when.specs.declared.fault.WhenFault.{WhenFault}
 use Rattle.kb_when.specs.declared.fault.WhenFault.TheVariants.{BadToken, Unexpected, TooDeep, BadNumber}
 use Rattle.kb_when.specs.Clause.{Clause}
 use Rattle.kb_when.specs.ClauseText.{clause_in}
-use Rattle.kb_when.specs.declared.unread.ClausePattern.{ClausePattern}
+use Rattle.kb_base.specs.declared.note.UnreadPattern.{UnreadPattern}
 use Rattle.kb_rules.specs.declared.entry.Entry.{Entry}
 use Rattle.kb_rules.specs.declared.entry.Entry.TheVariants.{Starts, Removes}
 use Rattle.kb_base.specs.declared.note.Origin.{Origin}
-use Rattle.kb_base.specs.declared.note.UnreadPattern.{UnreadPattern}
+use Rattle.kb_base.specs.declared.note.EntryPattern.{EntryPattern}
 use Rattle.kb_base.specs.declared.note.Part.TheVariants.{Keybindings}
 use Rattle.kb_base.specs.declared.note.Warning.{Warning}
 use Rattle.kb_when.specs.Placed.{marks_at}
@@ -144,7 +144,7 @@ entry_other origin platform place d =
     bind (or_fault 41 (as_object d)) _ (or_other 41 (as_object d) refl)
     (λ members. element_other origin place _)
 
-marked_other : (unread : List ClausePattern) (read : Result Entry ℕ) → IsOther read
+marked_other : (unread : List UnreadPattern) (read : Result Entry ℕ) → IsOther read
     → IsOther (seen (marked_entry unread) read)
 marked_other unread (Ok entry) h = tt
 marked_other unread (Err number) h = h
@@ -158,7 +158,7 @@ is_fault warning = not (warning.number == 34)
 abbrev pub count : Listed → ℕ
 count list = length list.rules + length list.removals + length (dropped_in list)
 
-unread_passed : (origin : Origin) (place : ℕ) (unread : List ClausePattern) (warnings : List Warning)
+unread_passed : (origin : Origin) (place : ℕ) (unread : List UnreadPattern) (warnings : List Warning)
     → filter is_fault (cons_option (warning_of_unread origin place unread) warnings)
     ≡ filter is_fault warnings
 unread_passed origin place [] warnings = refl
@@ -184,7 +184,7 @@ counted_step origin place rest (Err number) more o h =
     let list = collected origin more in
     rw (fault_counted origin place number list.warnings o) (omega (arith, h))
 
-pub counted : (unread : List UnreadPattern) (origin : Origin) (platform : Option Platform) (start : ℕ)
+pub counted : (unread : List EntryPattern) (origin : Origin) (platform : Option Platform) (start : ℕ)
     (elements : List Data)
     → count (collected origin (read_of unread origin platform start elements)) ≡ length elements
 counted unread origin platform start [] = refl

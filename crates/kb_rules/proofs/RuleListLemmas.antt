@@ -12,12 +12,12 @@ use Rattle.serde_json.specs.Data.{Data}
 use Rattle.kb_base.specs.Reading.{seen}
 use Rattle.kb_keys.specs.declared.platform.Platform.{Platform}
 use Rattle.kb_when.specs.Marks.{MarkedClause}
-use Rattle.kb_when.specs.declared.unread.ClausePattern.{ClausePattern}
+use Rattle.kb_base.specs.declared.note.UnreadPattern.{UnreadPattern}
 use Rattle.kb_rules.specs.declared.entry.Entry.{Entry}
 use Rattle.kb_rules.specs.declared.entry.Entry.TheVariants.{Starts, Removes}
 use Rattle.kb_base.specs.declared.note.Origin.{Origin}
 use Rattle.kb_base.specs.declared.note.Part.TheVariants.{Keybindings}
-use Rattle.kb_base.specs.declared.note.UnreadPattern.{UnreadPattern}
+use Rattle.kb_base.specs.declared.note.EntryPattern.{EntryPattern}
 use Rattle.kb_rules.specs.Entry.{entry_of}
 use Rattle.kb_rules.specs.RuleList.{Listed, rule_in, removal_in, warning_in, unread_at, collected, read_of}
 use Rattle.kb_rules.specs.RuleList.{listed}
@@ -31,17 +31,17 @@ use Rattle.kb_when.specs.Placed.{is_at, marks_at, placed}
 
 -- ---- the marks of an element among those of a list
 
-abbrev Below : ℕ → List UnreadPattern → Type 0
+abbrev Below : ℕ → List EntryPattern → Type 0
 Below n unread = AllByRecursion (λ at. at.place < n) unread
 
-all_below : (o : Origin) (place : ℕ) (unread : List UnreadPattern) → Below place unread
+all_below : (o : Origin) (place : ℕ) (unread : List EntryPattern) → Below place unread
     → AllByRecursion (λ u. is_at o Keybindings place u ≡ false) unread
 all_below o place [] h = tt
 all_below o place (u ∷ us) h =
     let apart : u.place ≡ place → ⊥ = λ e. omega (arith, e, h.0) in
     (other_place o Keybindings place u apart, all_below o place us h.1)
 
-marks_at-below : (o : Origin) (place : ℕ) (unread : List UnreadPattern) → Below place unread
+marks_at-below : (o : Origin) (place : ℕ) (unread : List EntryPattern) → Below place unread
     → marks_at o Keybindings unread place ≡ []
 marks_at-below o place unread h = marks_at-none o Keybindings place unread (all_below o place unread h)
 
@@ -52,12 +52,12 @@ marks_at-other_read o place other (Err number) h = refl
 
 -- ---- marks in the place of others
 
-marked_when-again : (unread : List ClausePattern) (when : Option MarkedClause)
+marked_when-again : (unread : List UnreadPattern) (when : Option MarkedClause)
     → marked_when unread (marked_when [] when) ≡ marked_when unread when
 marked_when-again unread None = refl
 marked_when-again unread (Some clause) = refl
 
-marked_again : (unread : List ClausePattern) (entry : Entry)
+marked_again : (unread : List UnreadPattern) (entry : Entry)
     → marked_entry unread (marked_entry [] entry) ≡ marked_entry unread entry
 marked_again unread (Starts rule) =
     ap (λ when. Starts (record rule { when = when })) (marked_when-again unread rule.when)
@@ -66,11 +66,11 @@ marked_again unread (Removes removal) =
 
 -- ---- what holds of each
 
-below-more : (n : ℕ) (unread : List UnreadPattern) → Below n unread → Below (n + 1) unread
+below-more : (n : ℕ) (unread : List EntryPattern) → Below n unread → Below (n + 1) unread
 below-more n [] h = tt
 below-more n (u ∷ us) h = (omega (arith, h.0), below-more n us h.1)
 
-below-placed : (o : Origin) (n : ℕ) (unread : List ClausePattern) → Below (n + 1) (placed o Keybindings n unread)
+below-placed : (o : Origin) (n : ℕ) (unread : List UnreadPattern) → Below (n + 1) (placed o Keybindings n unread)
 below-placed o n [] = tt
 below-placed o n (u ∷ us) = (omega arith, below-placed o n us)
 
@@ -115,11 +115,11 @@ collected-append origin read place more = λ i. record {
 
 module _ (origin : Origin) (platform : Option Platform) where
   -- what an element is, with its place
-  abbrev element : List UnreadPattern → ℕ → Data → ℕ × Result Entry ℕ
+  abbrev element : List EntryPattern → ℕ → Data → ℕ × Result Entry ℕ
   element unread place d =
       (place, seen (marked_entry (marks_at origin Keybindings unread place)) (entry_of origin platform place d))
 
-  read_of-append : (unread : List UnreadPattern) (start place : ℕ) (done : List Data) (d : Data)
+  read_of-append : (unread : List EntryPattern) (start place : ℕ) (done : List Data) (d : Data)
       → start + length done ≡ place
       → read_of unread origin platform start (done ++ d ∷ [])
       ≡ read_of unread origin platform start done ++ element unread place d ∷ []
@@ -131,7 +131,7 @@ module _ (origin : Origin) (platform : Option Platform) where
       ap (λ read. element unread start x ∷ read) (read_of-append unread (start + 1) place done d n)
 
   -- only the marks of the elements themselves count
-  read_of-same : (one other : List UnreadPattern) (n start : ℕ) (done : List Data) → start + length done ≤ n
+  read_of-same : (one other : List EntryPattern) (n start : ℕ) (done : List Data) → start + length done ≤ n
       → ((place : ℕ) → place < n
       → marks_at origin Keybindings one place ≡ marks_at origin Keybindings other place)
       → read_of one origin platform start done ≡ read_of other origin platform start done
@@ -150,7 +150,7 @@ module _ (origin : Origin) (platform : Option Platform) where
     pub right : AreRightlyMarked list
 
   -- the marks of what was read are among those of the list
-  own_marks : (unread : List UnreadPattern) (place : ℕ) (d : Data) (read : Result Entry ℕ)
+  own_marks : (unread : List EntryPattern) (place : ℕ) (d : Data) (read : Result Entry ℕ)
       → marks_at origin Keybindings unread place ≡ []
       → entry_of origin platform place d ≡ seen (marked_entry []) read → IsWhole read
       → element (unread ++ unread_at origin place read) place d ≡ (place, read)
@@ -187,7 +187,7 @@ module _ (origin : Origin) (platform : Option Platform) where
             ∙ sym (ap (collected origin) all
             ∙ collected-append origin (read_of list.unread origin platform 0 done) place read);
         places = length-append done (d ∷ []) ∙ ap (λ n. n + 1) len;
-        below = all-append (λ (at : UnreadPattern). at.place < place + 1) list.unread
+        below = all-append (λ (at : EntryPattern). at.place < place + 1) list.unread
             (unread_at origin place read)
             (below-more place list.unread r.below) (below-read origin place read);
         right = (
@@ -202,7 +202,7 @@ module _ (origin : Origin) (platform : Option Platform) where
   reads_none = record { list_is = refl; places = refl; below = tt; right = (tt, tt) }
 
   -- what a list is depends on the marks of its own elements alone
-  pub listed-same : (one other : List UnreadPattern) (elements : List Data)
+  pub listed-same : (one other : List EntryPattern) (elements : List Data)
       → ((place : ℕ) → marks_at origin Keybindings one place ≡ marks_at origin Keybindings other place)
       → listed one origin platform elements ≡ listed other origin platform elements
   listed-same one other elements same =
@@ -222,7 +222,7 @@ of_all o (r ∷ rs) =
     all_of-append o Keybindings (unread_at o r.0 r.1) (flat_map (λ r. unread_at o r.0 r.1) rs)
     (of_read o r.0 r.1) (of_all o rs)
 
-pub of_list : (unread : List UnreadPattern) (o : Origin) (platform : Option Platform) (elements : List Data)
+pub of_list : (unread : List EntryPattern) (o : Origin) (platform : Option Platform) (elements : List Data)
     → AllOf o Keybindings (listed unread o platform elements).unread
 of_list unread o platform elements = of_all o (read_of unread o platform 0 elements)
 

@@ -10,11 +10,11 @@ use Rattle.kb_base.specs.declared.failure.Failure.{Failure}
 use Rattle.kb_base.specs.declared.failure.Failure.TheVariants.{NoMemory, Fault}
 use Rattle.kb_base.specs.declared.note.Origin.{Origin}
 use Rattle.kb_base.specs.declared.note.Part.TheVariants.{Keybindings}
-use Rattle.kb_base.specs.declared.note.UnreadPattern.{UnreadPattern}
+use Rattle.kb_base.specs.declared.note.EntryPattern.{EntryPattern}
 use Rattle.kb_base.specs.declared.note.Warning.{Warning}
 use Rattle.kb_keys.specs.declared.platform.Platform.{Platform}
 use Rattle.kb_when.specs.Placed.{marks_at, placed}
-use Rattle.kb_when.specs.declared.unread.ClausePattern.{ClausePattern}
+use Rattle.kb_base.specs.declared.note.UnreadPattern.{UnreadPattern}
 use Rattle.kb_rules.specs.declared.entry.Entry.{Entry}
 use Rattle.kb_rules.specs.declared.entry.Entry.TheVariants.{Starts, Removes}
 use Rattle.kb_rules.specs.declared.removal.Removal.{Removal}
@@ -28,7 +28,7 @@ pub record Listed : Type 0 where
   pub rules : List Rule
   pub removals : List Removal
   pub warnings : List Warning
-  pub unread : List UnreadPattern
+  pub unread : List EntryPattern
 
 abbrev pub no_elements : Listed
 no_elements = record { rules = []; removals = []; warnings = []; unread = [] }
@@ -51,7 +51,7 @@ warning_at origin place number =
     record { origin = origin; part = Keybindings; number = number; place = place }
 
 -- the warning about a rule or a removal with these unread patterns
-abbrev pub warning_of_unread : Origin → ℕ → List ClausePattern → Option Warning
+abbrev pub warning_of_unread : Origin → ℕ → List UnreadPattern → Option Warning
 warning_of_unread origin place [] = None
 warning_of_unread origin place (pattern ∷ unread) = Some (warning_at origin place 34)
 
@@ -60,7 +60,7 @@ abbrev pub warning_in : Origin → ℕ → Result Entry ℕ → Option Warning
 warning_in origin place (Ok entry) = warning_of_unread origin place (unread_in entry)
 warning_in origin place (Err number) = Some (warning_at origin place number)
 
-abbrev pub unread_at : Origin → ℕ → Result Entry ℕ → List UnreadPattern
+abbrev pub unread_at : Origin → ℕ → Result Entry ℕ → List EntryPattern
 unread_at origin place (Ok entry) = placed origin Keybindings place (unread_in entry)
 unread_at origin place (Err number) = []
 
@@ -74,14 +74,14 @@ collected origin read = record {
 }
 
 -- what each of the elements is, with its place, counted from a number, and with its marks among these
-abbrev pub read_of : List UnreadPattern → Origin → Option Platform → ℕ → List Data → List (ℕ × Result Entry ℕ)
+abbrev pub read_of : List EntryPattern → Origin → Option Platform → ℕ → List Data → List (ℕ × Result Entry ℕ)
 read_of unread origin platform place [] = []
 read_of unread origin platform place (d ∷ ds) =
     (place, seen (marked_entry (marks_at origin Keybindings unread place)) (entry_of origin platform place d))
     ∷ read_of unread origin platform (place + 1) ds
 
 -- the list of the elements by these marks; keystrokes are those of a platform, if one is given
-abbrev pub listed : List UnreadPattern → Origin → Option Platform → List Data → Listed
+abbrev pub listed : List EntryPattern → Origin → Option Platform → List Data → Listed
 listed unread origin platform elements = collected origin (read_of unread origin platform 0 elements)
 
 -- the warnings of elements that were dropped
@@ -115,7 +115,7 @@ abbrev pub with_warning : Warning → Listed → Listed
 with_warning warning list = record list { warnings = list.warnings ++ warning ∷ [] }
 
 -- the list with the unread patterns of a condition alone
-abbrev pub with_unread : Origin → ℕ → List ClausePattern → Listed → Listed
+abbrev pub with_unread : Origin → ℕ → List UnreadPattern → Listed → Listed
 with_unread origin place unread list = record list {
   warnings = list.warnings ++ option_to_list (warning_of_unread origin place unread);
   unread = list.unread ++ placed origin Keybindings place unread;

@@ -13,9 +13,9 @@ ghost use Rattle.kb_rules.specs.Unread.{marked_when, marked_entry, unread_when, 
 use crate::entry::{Entry, read_entry};
 use crate::removal::Removal;
 use crate::rule::Rule;
-use kb_base::{Failure, NoMemory, Origin, Part, Seq, UnreadPattern, Warning};
+use kb_base::{EntryPattern, Failure, NoMemory, Origin, Part, Seq, UnreadPattern, Warning};
 use kb_keys::Platform;
-use kb_when::{Clause, ClausePattern};
+use kb_when::Clause;
 use serde_json::Value;
 use std::alloc::{AllocError, Global};
 use std::marker::Model;
@@ -32,7 +32,7 @@ pub struct RuleList {
     rules: Seq<Rc<Rule>>,
     removals: Seq<Rc<Removal>>,
     warnings: Seq<Warning>,
-    unread: Seq<UnreadPattern>,
+    unread: Seq<EntryPattern>,
 }
 
 impl Model for RuleList {
@@ -41,7 +41,7 @@ impl Model for RuleList {
     ghost use Rattle.kb_rules.specs.RuleList.{Listed};
     ghost use Rattle.kb_rules.specs.contracts.removal.Removal as removal;
     ghost use Rattle.kb_rules.specs.contracts.rule.Rule as rule;
-    ghost use Rattle.kb_base.specs.contracts.note.UnreadPattern as mark;
+    ghost use Rattle.kb_base.specs.contracts.note.EntryPattern as mark;
     ghost use Rattle.kb_base.specs.contracts.note.Warning as warning;
 
     ghost Value = { Listed };
@@ -92,7 +92,7 @@ impl RuleList {
     }
 
     /// The unread patterns of rules and removals, in the order of the elements and of their texts.
-    pub fn unread(&self) -> &[UnreadPattern]
+    pub fn unread(&self) -> &[EntryPattern]
         ensures { result.now ≡ self.now.unread }
     {
         self.unread.as_slice()
@@ -215,22 +215,19 @@ impl RuleList {
 
 /// Adds unread patterns of the element at a place.
 fn push_unread(
-    patterns: &[ClausePattern],
+    patterns: &[UnreadPattern],
     origin: Origin,
     place: usize,
-    unread: &mut Seq<UnreadPattern>,
+    unread: &mut Seq<EntryPattern>,
 ) -> Result<(), NoMemory>
     ensures { OnOk result (unread.new ≡ unread.old ++ placed origin Keybindings place patterns.now) }
 {
     for pattern in patterns {
-        let number = pattern.number;
-        let pattern = pattern.pattern.copied()?;
-        unread.push(UnreadPattern {
+        unread.push(EntryPattern {
             origin,
             part: Part::Keybindings,
             place,
-            number,
-            pattern,
+            unread: pattern.copied()?,
         })?;
     }
     Ok(())

@@ -3,7 +3,7 @@ use Rattle.std.proofs.Common.{◌≡◌, ℕ, ◌+◌, Bool, true, false, List, 
 use Rattle.std.specs.Prelude.{Option, Some, None, option_map, option_to_list, ◌==◌, codes}
 use Rattle.std.specs.Str.{bytes_eq, is_utf8}
 use Rattle.std.proofs.lemmas.List.{map-append}
-use Rattle.kb_base.specs.declared.note.UnreadPattern.{UnreadPattern}
+use Rattle.kb_base.specs.declared.note.EntryPattern.{EntryPattern}
 use Rattle.kb_core.specs.declared.native.Native.{Native}
 use Rattle.kb_core.specs.Native.{named}
 use Rattle.kb_script.specs.Script.{bare, bare_told, word_said, words_said, text_said, or_unread, line_said}
@@ -96,18 +96,18 @@ bare_from number (line ∷ lines) =
     ∙ ap (λ (xs : List Said). xs ++ map bare (said_from (number + 1) lines)) (bare_line number line)
     ∙ ap (λ (xs : List Said). here ++ xs) (bare_from (number + 1) lines)
 
-marked_told_bare : (marks : List UnreadPattern) (told : Told) → bare_told (marked_told marks told) ≡ bare_told told
+marked_told_bare : (marks : List EntryPattern) (told : Told) → bare_told (marked_told marks told) ≡ bare_told told
 marked_told_bare marks (happens e) = refl
 marked_told_bare marks (reload bytes none) = refl
 marked_told_bare marks (register native) = refl
 marked_told_bare marks (dispose number) = refl
 
-marked_bare : (marks : List UnreadPattern) (said : Said) → bare (marked marks said) ≡ bare said
+marked_bare : (marks : List EntryPattern) (said : Said) → bare (marked marks said) ≡ bare said
 marked_bare marks (tells told) = ap tells (marked_told_bare marks told)
 marked_bare marks (takes native) = refl
 
 -- marks that are added are removed again
-pub bare_marked : (marks : List UnreadPattern) (said : Option Said)
+pub bare_marked : (marks : List EntryPattern) (said : Option Said)
     → map bare (option_to_list (option_map (marked marks) said)) ≡ map bare (option_to_list said)
 bare_marked marks None = refl
 bare_marked marks (Some said) = ap (λ (one : Said). one ∷ []) (marked_bare marks said)

@@ -7,7 +7,7 @@ use Rattle.std.specs.Prelude.{Option, Some, None, option_map, option_to_list, Is
 use Rattle.std.specs.Io.KnownBytes.{Appends, Keeps}
 use Rattle.kb_base.specs.declared.failure.Failure.{Failure}
 use Rattle.kb_base.specs.declared.failure.Failure.TheVariants.{NoMemory, Fault}
-use Rattle.kb_base.specs.declared.note.UnreadPattern.{UnreadPattern}
+use Rattle.kb_base.specs.declared.note.EntryPattern.{EntryPattern}
 use Rattle.kb_core.specs.declared.native.Native.{Native}
 use Rattle.kb_script.specs.Script.{line_said, said_from, said_of, bare}
 use Rattle.kb_script.specs.ScriptRun.{RunsSaid, BreaksOff, BreaksSaid, MemoryRefused, marked, script_limit}
@@ -121,11 +121,11 @@ new_lines said old new n session before =
     rw (before, session) (drop-append_seam old.trace (fold move said old.state).lines)
 
 -- the meaning of a line, with the marks that the session found
-abbrev said_at : List UnreadPattern → ℕ → List ℕ → List Said
+abbrev said_at : List EntryPattern → ℕ → List ℕ → List Said
 said_at marks number line = option_to_list (option_map (marked marks) (line_said number line))
 
 -- a line ran, and its trace lines are written
-pub line_on : (marks : List UnreadPattern) (number : ℕ) (line : List ℕ) (old new : Traced Stand)
+pub line_on : (marks : List EntryPattern) (number : ℕ) (line : List ℕ) (old new : Traced Stand)
     (a b : Option (List ℕ)) (n : ℕ) → new ≡ after_all move (said_at marks number line) old
     → n ≡ length old.trace → Appends a b (text_of_lines (drop n new.trace))
     → RunsSaid (option_to_list (line_said number line)) old new a b
@@ -158,7 +158,7 @@ lacks (Some said) old new a b n session before part =
     (new_lines (said ∷ []) old new n session before ∙ ap (λ o. o.lines) (fold-one move said old.state)) part)
 
 -- a line ran, and its trace lines are not all written
-pub line_lacks : (marks : List UnreadPattern) (number : ℕ) (line : List ℕ) (old new : Traced Stand)
+pub line_lacks : (marks : List EntryPattern) (number : ℕ) (line : List ℕ) (old new : Traced Stand)
     (a b : Option (List ℕ)) (n : ℕ) (refused : WriteRefused)
     → new ≡ after_all move (said_at marks number line) old
     → n ≡ length old.trace → AppendsPart a b (text_of_lines (drop n new.trace))

@@ -5,7 +5,7 @@ use Rattle.std.specs.Prelude.{◌≡◌, ◌⊎◌, ℕ, true, false, List, map,
 use Rattle.std.specs.Io.KnownBytes.{Keeps}
 use Rattle.kb_base.specs.declared.failure.Failure.{Failure}
 use Rattle.kb_base.specs.declared.failure.Failure.TheVariants.{NoMemory, Fault}
-use Rattle.kb_base.specs.declared.note.UnreadPattern.{UnreadPattern}
+use Rattle.kb_base.specs.declared.note.EntryPattern.{EntryPattern}
 use Rattle.kb_script.specs.declared.fault.ScriptFault.{ScriptFault}
 use Rattle.kb_script.specs.declared.fault.ScriptFault.TheVariants.{Stopped, TooLong, ReadFailed, WriteFailed}
 use Rattle.kb_script.specs.declared.fault.ScriptFault.TheVariants.{Trapped}
@@ -122,11 +122,11 @@ Answers (Err failure) had left old new before after = Fails failure had left old
 -- ---- for private functions
 
 -- the input with these marks, if it is a reload
-abbrev pub marked_told : List UnreadPattern → Told → Told
+abbrev pub marked_told : List EntryPattern → Told → Told
 marked_told marks (reload bytes none) = reload bytes marks
 marked_told marks told = told
 
-abbrev pub marked : List UnreadPattern → Said → Said
+abbrev pub marked : List EntryPattern → Said → Said
 marked marks (tells told) = tells (marked_told marks told)
 marked marks (takes native) = takes native
 

@@ -6,7 +6,7 @@ use Rattle.std.proofs.lemmas.Bool.{ltb-false}
 use Rattle.kb_files.specs.Fault.{refused_by, refused_file}
 use Rattle.kb_bindings.specs.Load as load
 use Rattle.kb_bindings.specs.Load.{Files, Held, HeldRules}
-use Rattle.kb_base.specs.declared.note.UnreadPattern.{UnreadPattern}
+use Rattle.kb_base.specs.declared.note.EntryPattern.{EntryPattern}
 use Rattle.kb_files.specs.Extensions.{ExtensionBytes, HeldExtension}
 use Rattle.kb_bindings.specs.Load.{held_by}
 use Rattle.kb_files.specs.Extensions.{extension_held, extensions_from, extensions_held, handlers_of}
@@ -72,7 +72,7 @@ seen_few : (view : Held → Loaded) (r : Result Held LoadFault)
 seen_few view (Ok held) is h = subst (λ hs. length hs ≤ 100) (sym (is held)) h
 seen_few view (Err fault) is h = tt
 
-pub few_handlers : (marks : List UnreadPattern) (files : Files) (l : Loaded)
+pub few_handlers : (marks : List EntryPattern) (files : Files) (l : Loaded)
     → load.loaded marks files ≡ Ok l → length l.handlers ≤ 100
 few_handlers marks files l is =
     subst (λ (r : Result Loaded LoadFault). IfOk r (λ l. length l.handlers ≤ 100)) is

@@ -3,7 +3,7 @@ use Rattle.std.proofs.Common.{◌≡◌, List, refl, ap, ◌∙◌, subst, sym, 
 use Rattle.std.specs.Prelude.{Result, Ok, Err, IfOk, IfErr}
 use Rattle.kb_bindings.specs.Load as load
 use Rattle.kb_bindings.specs.Load.{Files, Held, held_by, sources_by}
-use Rattle.kb_base.specs.declared.note.UnreadPattern.{UnreadPattern}
+use Rattle.kb_base.specs.declared.note.EntryPattern.{EntryPattern}
 use Rattle.kb_files.specs.Extensions.{handlers_of}
 use Rattle.kb_bindings.specs.Unread.{unread_of}
 use Rattle.kb_files.specs.declared.fault.LoadFault.{LoadFault}
@@ -89,14 +89,14 @@ raw_files_fail files natives (failure.Fault fault) fails =
     ap (λ (r : Result Held LoadFault). r >>= live_behind natives) fails
 
 -- the loaded files are the held ones, with marks
-abbrev with_marks : List UnreadPattern → Platform → Held → Loaded
+abbrev with_marks : List EntryPattern → Platform → Held → Loaded
 with_marks marks platform held = record {
   scopes = held.scopes;
   bindings = sources_by marks platform held.rules;
   handlers = handlers_of held.rules.extensions;
 }
 
-fails_behind : (held : Result Held LoadFault) (marks : List UnreadPattern) (platform : Platform) (l : Loaded)
+fails_behind : (held : Result Held LoadFault) (marks : List EntryPattern) (platform : Platform) (l : Loaded)
     (natives : List Native) (failure : Failure LoadFault) → seen (with_marks marks platform) held ≡ Ok l
     → Fails failure (raw_held natives l.handlers) → Fails failure (held >>= live_behind natives)
 fails_behind (Ok held) marks platform l natives failure h fails =

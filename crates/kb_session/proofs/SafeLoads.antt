@@ -5,7 +5,7 @@ use Rattle.std.specs.List.{All}
 use Rattle.std.proofs.lemmas.List.Elements.{All-cons, All-nil}
 use Rattle.kb_base.specs.Reading.{seen}
 use Rattle.kb_base.specs.declared.failure.Failure.{Failure}
-use Rattle.kb_base.specs.declared.note.UnreadPattern.{UnreadPattern}
+use Rattle.kb_base.specs.declared.note.EntryPattern.{EntryPattern}
 use Rattle.kb_bindings.specs.Load.{Files, Held, held_by, sources_by}
 use Rattle.kb_bindings.specs.declared.load.Loaded.{Loaded}
 use Rattle.kb_core.specs.declared.native.Native.{Native}
@@ -20,7 +20,7 @@ use Rattle.kb_session.specs.State.{IsSafe}
 
 -- ---- the extensions of a load
 
-module _ (unread : List UnreadPattern) (platform : Platform) where
+module _ (unread : List EntryPattern) (platform : Platform) where
   abbrev read : ℕ → List HeldExtension → List Extension
   read number held = extensions_by unread platform number (outlines_of held)
 
@@ -46,7 +46,7 @@ record AreFresh (l : Loaded) : Type 0 where
   all_on : All (λ e. e.enabled ≡ true) l.bindings.extensions
   many : length l.handlers ≡ length l.bindings.extensions
 
-module _ (marks : List UnreadPattern) (platform : Platform) where
+module _ (marks : List EntryPattern) (platform : Platform) where
   abbrev made : Held → Loaded
   made held = record {
     scopes = held.scopes;

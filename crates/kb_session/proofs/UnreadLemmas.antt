@@ -21,7 +21,7 @@ use Rattle.kb_handler_table.specs.Codes.{CodesData}
 use Rattle.kb_lifecycle.specs.Dependencies.{Placed}
 use Rattle.kb_code.specs.Handler.{HandlerData}
 use Rattle.kb_handler_table.specs.Live.{caller_of}
-use Rattle.kb_base.specs.declared.note.UnreadPattern.{UnreadPattern}
+use Rattle.kb_base.specs.declared.note.EntryPattern.{EntryPattern}
 use Rattle.kb_stream.specs.Fold.{fold}
 use Rattle.kb_trace.specs.declared.event.Event.{Event}
 use Rattle.kb_trace.specs.declared.event.Event.TheVariants as event
@@ -60,11 +60,11 @@ event_lists None event.NoClosure s = refl
 event_lists None (event.Unread number) s = refl
 
 -- the old lists, and then more
-pub record Grows (old new : List (List UnreadPattern)) : Type 0 where
-  pub more : List (List UnreadPattern)
+pub record Grows (old new : List (List EntryPattern)) : Type 0 where
+  pub more : List (List EntryPattern)
   pub is : new ≡ old ++ more
 
-same_grows : (old new : List (List UnreadPattern)) → new ≡ old → Grows old new
+same_grows : (old new : List (List EntryPattern)) → new ≡ old → Grows old new
 same_grows old new same = record { more = []; is = same ∙ sym (append-nil old) }
 
 reload_grows : (rules : Result Listed Refusal) (s : State) → Grows s.unread (reloaded rules s).state.unread
@@ -104,10 +104,10 @@ unless_grows false told s = on_grows told s
 pub step_grows : (told : Told) (s : State) → Grows s.unread (step told s).state.unread
 step_grows told s = unless_grows s.stopped told s
 
-grows_on : (a b c : List (List UnreadPattern)) → Grows a b → Grows b c → Grows a c
+grows_on : (a b c : List (List EntryPattern)) → Grows a b → Grows b c → Grows a c
 grows_on a b c p q = record {
   more = p.more ++ q.more;
-  is = q.is ∙ ap (λ (lists : List (List UnreadPattern)). lists ++ q.more) p.is ∙ append_assoc a p.more q.more;
+  is = q.is ∙ ap (λ (lists : List (List EntryPattern)). lists ++ q.more) p.is ∙ append_assoc a p.more q.more;
 }
 
 -- and so does a run

@@ -25,7 +25,7 @@ use Rattle.kb_load_commands.specs.Raw.{raw_held}
 use Rattle.kb_registry.specs.Live.{Live}
 use Rattle.kb_session.specs.declared.fault.SessionFault.{SessionFault}
 use Rattle.kb_session.specs.declared.fault.SessionFault.TheVariants.{Refused, NoMemory, Stopped}
-use Rattle.kb_base.specs.declared.note.UnreadPattern.{UnreadPattern}
+use Rattle.kb_base.specs.declared.note.EntryPattern.{EntryPattern}
 use Rattle.kb_stream.specs.Fold.{Traced, after, after_all, StopsAmong}
 use Rattle.kb_stream.specs.Lines.{Begins}
 use Rattle.kb_trace.specs.declared.event.Answer.{Answer}
@@ -41,12 +41,12 @@ abbrev pub loaded_session : ScopesData → Sources → Live → Seen
 loaded_session scopes sources live = record { state = loaded_state scopes sources live; trace = [] }
 
 -- the first list of unread patterns of a session, that of the load
-abbrev pub first_list : List (List UnreadPattern) → List UnreadPattern
+abbrev pub first_list : List (List EntryPattern) → List EntryPattern
 first_list [] = []
 first_list (told ∷ lists) = told
 
 -- the unread patterns of the load, as the session reports them
-abbrev pub marks_by : Seen → List UnreadPattern
+abbrev pub marks_by : Seen → List EntryPattern
 marks_by session = first_list session.state.unread
 
 -- ---- a load whose handlers are verified
@@ -61,7 +61,7 @@ pub record IsOf (files : Files) (natives : List Native) (session : Seen) : Type 
 
 -- the files are accepted, but registering the commands fails; the fault doesn't depend on the marks
 pub record CommandsFail (files : Files) (natives : List Native) (failure : Failure LoadFault) : Type 0 where
-  pub marks : List UnreadPattern
+  pub marks : List EntryPattern
   pub loaded : Loaded
   pub held : load.loaded marks files ≡ Ok loaded
   pub fail : LiveChecked natives loaded.bindings.extensions loaded.handlers (Err failure)
@@ -76,7 +76,7 @@ Loads files natives (Err failure) = Fails failure (held_by files) ⊎ CommandsFa
 
 -- the result of loading files, with marks for their patterns and closures for these natives: a session,
 -- or the first fault
-abbrev pub loaded_raw : List UnreadPattern → Files → List Native → Result Seen LoadFault
+abbrev pub loaded_raw : List EntryPattern → Files → List Native → Result Seen LoadFault
 loaded_raw marks files natives =
     load.loaded marks files
     >>= λ l. seen (loaded_session l.scopes.seen l.bindings) (raw_held natives l.handlers)

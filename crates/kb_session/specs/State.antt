@@ -30,7 +30,7 @@ use Rattle.kb_registry.specs.Live.{with_exchanged, with_switched}
 use Rattle.kb_registry.specs.declared.fault.RegistryFault.{RegistryFault}
 use Rattle.kb_rules.specs.RuleList.{Listed}
 use Rattle.kb_base.specs.declared.note.Origin.TheVariants.{User}
-use Rattle.kb_base.specs.declared.note.UnreadPattern.{UnreadPattern}
+use Rattle.kb_base.specs.declared.note.EntryPattern.{EntryPattern}
 use Rattle.kb_bindings.specs.Sources.{Sources, with_enabled, with_user_rules, pressed, still_pressed}
 use Rattle.kb_palette.specs.History.{noted}
 use Rattle.kb_palette.specs.Listing.{palette_list}
@@ -55,7 +55,7 @@ pub record State : Type 0 where
   pub live : Live
   pub pressed : List Keystroke
   pub stopped : Bool
-  pub unread : List (List UnreadPattern)
+  pub unread : List (List EntryPattern)
   pub history : List (List ℕ)
   pub listed : Option (List Entry)
 
@@ -63,7 +63,7 @@ pub record State : Type 0 where
 -- unread patterns; a native whose closure is registered; or a ticket to dispose of
 pub data Told : Type 0 where
   happens : Event → Told
-  reload : List ℕ → List UnreadPattern → Told
+  reload : List ℕ → List EntryPattern → Told
   register : Native → Told
   dispose : ℕ → Told
 

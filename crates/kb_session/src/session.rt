@@ -21,7 +21,7 @@ ghost use Rattle.kb_trace.specs.Lines as line;
 use crate::fault::{SessionFault, fault_in};
 use crate::handled::{Handled, started_nothing};
 use crate::press::press_key;
-use kb_base::{Failure, NoMemory, Refusal, Seq, UnreadPattern, Warning};
+use kb_base::{EntryPattern, Failure, NoMemory, Refusal, Seq, Warning};
 use kb_bindings::{Bindings, Loaded, load_files, unread_rules};
 use kb_context::{ContextValue, ScopeFault, Scopes};
 use kb_core::Core;
@@ -61,7 +61,7 @@ pub struct Session<C: HostCommand> {
     registry: Registry<C>,
     chord: ChordState,
     stopped: bool,
-    unread: Seq<Seq<UnreadPattern>>,
+    unread: Seq<Seq<EntryPattern>>,
     history: History,
     listed: Option<Seq<Entry>>,
     trace: Lines,
@@ -74,7 +74,7 @@ impl<C: HostCommand> Model for Session<C> {
     ghost use Rattle.kb_files.specs.contracts.extension_file.Extension as extension;
     ghost use Rattle.kb_rules.specs.contracts.removal.Removal as removal;
     ghost use Rattle.kb_rules.specs.contracts.rule.Rule as rule;
-    ghost use Rattle.kb_base.specs.contracts.note.UnreadPattern as marks;
+    ghost use Rattle.kb_base.specs.contracts.note.EntryPattern as marks;
     ghost use Rattle.kb_base.specs.contracts.note.Warning as warning;
     ghost use Rattle.kb_session.specs.State.{State};
     ghost use Rattle.kb_stream.specs.Fold.{Traced};
@@ -270,7 +270,7 @@ impl<C: HostCommand> Session<C> {
     /// The unread patterns (those that `regex` rejects): one list for the files of the load, and one
     /// for the user's rules of each successful reload. Each list has the order of `warnings`. Together
     /// with the inputs these lists determine what the session does.
-    pub fn unread(&self) -> &[Seq<UnreadPattern>]
+    pub fn unread(&self) -> &[Seq<EntryPattern>]
         ensures { result.now ≡ self.now.state.unread }
     {
         self.unread.as_slice()
@@ -628,7 +628,7 @@ impl<C: HostCommand> Session<C> {
 fn first_lists(
     alloc: Global,
     bindings: &Bindings,
-) -> Result<(Seq<Seq<UnreadPattern>>, History), NoMemory>
+) -> Result<(Seq<Seq<EntryPattern>>, History), NoMemory>
     ensures unread { IfOk result (λ lists. lists.0 ≡ unread_of bindings.now ∷ []) }
     ensures history { IfOk result (λ lists. lists.1 ≡ []) }
 {

@@ -13,7 +13,7 @@ use Rattle.kb_when.specs.declared.tree.Tree.{Tree}
 use Rattle.kb_when.specs.Marks.{MarkedClause, beside}
 use Rattle.kb_pattern.specs.declared.flags.Flags.{Flags}
 use Rattle.kb_when.specs.declared.unread.Noted.{Noted}
-use Rattle.kb_when.specs.declared.unread.ClausePattern.{ClausePattern}
+use Rattle.kb_base.specs.declared.note.UnreadPattern.{UnreadPattern}
 use Rattle.kb_when.specs.Unread.{unread_from, unread_of, marks_from, marked_by, IsKept, note, note_all}
 use Rattle.kb_when.specs.Unread.{HaveRightMarks}
 use Rattle.kb_when.proofs.MarkedLemmas.{plain, patterns_seen}
@@ -102,7 +102,7 @@ later n m (p ∷ ps) (true ∷ marks) lt = rw (not_same m n lt) (later n (suc m)
 later n m (p ∷ ps) (false ∷ marks) lt = later n (suc m) ps marks (omega arith)
 
 -- one of a lower number doesn't count
-passed : (n k : ℕ) (u : ClausePattern) (us : List ClausePattern) → u.number < n
+passed : (n k : ℕ) (u : UnreadPattern) (us : List UnreadPattern) → u.number < n
     → marks_from n k (u ∷ us) ≡ marks_from n k us
 passed n zero u us lt = refl
 passed n (suc k) u us lt =
@@ -117,7 +117,7 @@ whole n [] (b ∷ marks) h = absurd h
 whole n (p ∷ ps) [] h = absurd h
 whole n (p ∷ ps) (true ∷ marks) h =
     let us = unread_from (suc n) ps marks in
-    let u : ClausePattern = record { number = n; pattern = p.0 } in
+    let u : UnreadPattern = record { number = n; pattern = p.0 } in
     let lt : n < suc n = omega arith in
     λ i. (itself n i || list_any (λ v. nat_eq v.number n) us)
     ∷ (passed (suc n) (length ps) u us lt ∙ whole (suc n) ps marks h.1) i
@@ -125,16 +125,16 @@ whole n (p ∷ ps) (false ∷ marks) h =
     let lt : n < suc n = omega arith in
     λ i. later n (suc n) ps marks lt i ∷ whole (suc n) ps marks h.1 i
 
-pub marked_whole : (m : Marked) (us : List ClausePattern) (c : MarkedClause) → IsKept m us → beside m ≡ c
+pub marked_whole : (m : Marked) (us : List UnreadPattern) (c : MarkedClause) → IsKept m us → beside m ≡ c
     → marked_by us c.tree ≡ c
 marked_whole m us c k e =
     let P : MarkedClause → Type 0 = λ x. marked_by us x.tree ≡ x in
     let marks : marks_from 0 (length (patterns_of (tree_of m))) us ≡ marks_of m =
-    ap (λ (x : List ClausePattern). marks_from 0 (length (patterns_of (tree_of m))) x) k.listed
+    ap (λ (x : List UnreadPattern). marks_from 0 (length (patterns_of (tree_of m))) x) k.listed
     ∙ whole 0 (patterns_of (tree_of m)) (marks_of m) k.right in
     subst P e (ap (λ (l : List Bool). record { tree = tree_of m; marks = l }) marks)
 
-pub right_seen : (m : Marked) (us : List ClausePattern) (c : MarkedClause) → IsKept m us → beside m ≡ c
+pub right_seen : (m : Marked) (us : List UnreadPattern) (c : MarkedClause) → IsKept m us → beside m ≡ c
     → AreRight (patterns_of c.tree) c.marks
 right_seen m us c k e =
     let P : MarkedClause → Type 0 = λ x. AreRight (patterns_of x.tree) x.marks in subst P e k.right

@@ -4,8 +4,8 @@ use Rattle.kb_base.specs.declared.note.Origin.{Origin}
 use Rattle.kb_base.specs.declared.note.Origin.TheVariants.{Defaults, Extension, User}
 use Rattle.kb_base.specs.declared.note.Part.{Part}
 use Rattle.kb_base.specs.declared.note.Part.TheVariants.{Commands, Keybindings, Palette}
+use Rattle.kb_base.specs.declared.note.EntryPattern.{EntryPattern}
 use Rattle.kb_base.specs.declared.note.UnreadPattern.{UnreadPattern}
-use Rattle.kb_when.specs.declared.unread.ClausePattern.{ClausePattern}
 
 abbrev pub same_origin : Origin → Origin → Bool
 same_origin Defaults Defaults = true
@@ -30,20 +30,19 @@ same_part Palette Keybindings = false
 same_part Palette Palette = true
 
 -- a pattern is of the entry at a place in a part of a file
-abbrev pub is_at : Origin → Part → ℕ → UnreadPattern → Bool
+abbrev pub is_at : Origin → Part → ℕ → EntryPattern → Bool
 is_at origin part place u = same_origin origin u.origin && (same_part part u.part && nat_eq u.place place)
 
 -- the patterns of an entry in a list of patterns of many entries
-abbrev pub marks_at : Origin → Part → List UnreadPattern → ℕ → List ClausePattern
+abbrev pub marks_at : Origin → Part → List EntryPattern → ℕ → List UnreadPattern
 marks_at origin part unread place =
-    map (λ u. record { number = u.number; pattern = u.pattern }) (filter (is_at origin part place) unread)
+    map (λ u. u.unread) (filter (is_at origin part place) unread)
 
 -- the patterns of a clause, as those of the entry that has it
-abbrev pub placed : Origin → Part → ℕ → List ClausePattern → List UnreadPattern
+abbrev pub placed : Origin → Part → ℕ → List UnreadPattern → List EntryPattern
 placed origin part place patterns = map (λ p. record {
   origin = origin;
   part = part;
   place = place;
-  number = p.number;
-  pattern = p.pattern;
+  unread = p;
 }) patterns

@@ -2,7 +2,7 @@
 use Rattle.std.specs.Prelude.{◌≡◌, ℕ, zero, suc, List, [], ◌∷◌, ◌++◌, Bool, length, nat_eq, if◌then◌else◌}
 use Rattle.std.specs.List.{list_any}
 use Rattle.kb_pattern.specs.declared.flags.Flags.{Flags}
-use Rattle.kb_when.specs.declared.unread.ClausePattern.{ClausePattern}
+use Rattle.kb_base.specs.declared.note.UnreadPattern.{UnreadPattern}
 use Rattle.kb_when.specs.declared.unread.Noted.{Noted}
 use Rattle.kb_when.specs.Clause.{Clause, patterns_of}
 use Rattle.kb_when.specs.Marked.{Marked, tree_of, marks_of}
@@ -10,7 +10,7 @@ use Rattle.kb_when.specs.Marks.{MarkedClause, beside}
 use Rattle.kb_pattern.specs.Pattern.{MarkedPattern, AreRight, HasRightMark}
 
 -- the marked ones of these patterns, numbered from n on
-abbrev pub unread_from : ℕ → List (List ℕ × Flags) → List Bool → List ClausePattern
+abbrev pub unread_from : ℕ → List (List ℕ × Flags) → List Bool → List UnreadPattern
 unread_from n [] marks = []
 unread_from n (p ∷ ps) [] = []
 unread_from n (p ∷ ps) (b ∷ marks) =
@@ -18,21 +18,21 @@ unread_from n (p ∷ ps) (b ∷ marks) =
     else unread_from (suc n) ps marks
 
 -- the marked patterns of a clause, each with its index among all patterns, from 0
-abbrev pub unread_of : MarkedClause → List ClausePattern
+abbrev pub unread_of : MarkedClause → List UnreadPattern
 unread_of c = unread_from 0 (patterns_of c.tree) c.marks
 
 -- the marks of `more` patterns, numbered from n on, of which the listed ones are unread
-abbrev pub marks_from : ℕ → ℕ → List ClausePattern → List Bool
+abbrev pub marks_from : ℕ → ℕ → List UnreadPattern → List Bool
 marks_from n zero unread = []
 marks_from n (suc more) unread =
     list_any (λ u. nat_eq u.number n) unread ∷ marks_from (suc n) more unread
 
 -- the tree, with the marks that the listed patterns give
-abbrev pub marked_by : List ClausePattern → Clause → MarkedClause
+abbrev pub marked_by : List UnreadPattern → Clause → MarkedClause
 marked_by unread t = record { tree = t; marks = marks_from 0 (length (patterns_of t)) unread }
 
 -- the unread patterns that a clause stores: those of its tree, whose marks are correct
-pub record IsKept (m : Marked) (kept : List ClausePattern) : Type 0 where
+pub record IsKept (m : Marked) (kept : List UnreadPattern) : Type 0 where
   pub listed : kept ≡ unread_of (beside m)
   pub right : AreRight (patterns_of (tree_of m)) (marks_of m)
 

@@ -9,8 +9,8 @@ use crate::flat::Flat;
 use crate::parser::parse_tokens;
 use crate::tokenizer::tokenize;
 use crate::tree::Tree;
-use crate::unread::{ClausePattern, unread_patterns};
-use kb_base::{Failure, NoMemory, Seq};
+use crate::unread::unread_patterns;
+use kb_base::{Failure, NoMemory, Seq, UnreadPattern};
 use kb_context::Scopes;
 use std::alloc::Global;
 use std::marker::Model;
@@ -24,7 +24,7 @@ use std::marker::Model;
 pub struct Clause {
     tree: Tree,
     flat: Flat,
-    unread: Seq<ClausePattern>,
+    unread: Seq<UnreadPattern>,
     alloc: Global,
 }
 
@@ -116,7 +116,7 @@ impl Clause {
     }
 
     /// The patterns that `regex` rejects, in the order of the text.
-    pub fn unread(&self) -> &[ClausePattern]
+    pub fn unread(&self) -> &[UnreadPattern]
         ensures listed { result.now ≡ unread_of self.now }
 
         // The tree and these patterns determine the clause with its marks.

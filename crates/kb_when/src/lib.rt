@@ -25,4 +25,3 @@ pub use leaf::Leaf;
 pub use operator::Operator;
 pub use shared::SharedClause;
 pub use tree::Tree;
-pub use unread::ClausePattern;

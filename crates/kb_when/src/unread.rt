@@ -5,24 +5,15 @@ ghost use Rattle.kb_when.specs.Unread.{IsKept};
 
 use crate::leaf::Leaf;
 use crate::tree::Tree;
-use kb_base::{NoMemory, Seq, Text};
+use kb_base::{NoMemory, Seq, UnreadPattern};
 use kb_pattern::Pattern;
 use std::alloc::Global;
-
-/// A pattern of a clause that `regex` rejects. It never matches (our decision).
-#[derive(Debug, Drop)]
-pub struct ClausePattern {
-    /// Its index among the clause's patterns in the order of the text, from 0.
-    pub number: usize,
-    /// The pattern's text, without its flags.
-    pub pattern: Text,
-}
 
 /// The patterns visited so far: the mark of each, and the unread ones.
 #[derive(Drop)]
 pub(crate) struct Noted {
     pub(crate) marks: Seq<bool>,
-    pub(crate) unread: Seq<ClausePattern>,
+    pub(crate) unread: Seq<UnreadPattern>,
 }
 
 impl Noted {
@@ -51,7 +42,7 @@ impl Noted {
         self.marks.push(is_unread)?;
         if is_unread {
             let pattern = pattern.text().copied()?;
-            self.unread.push(ClausePattern { number, pattern })?;
+            self.unread.push(UnreadPattern { number, pattern })?;
         }
         Ok(())
     }
@@ -109,7 +100,7 @@ impl Tree {
 }
 
 /// The patterns of a tree that `regex` rejects. Error: `NoMemory`.
-pub(crate) fn unread_patterns(alloc: Global, tree: &Tree) -> Result<Seq<ClausePattern>, NoMemory>
+pub(crate) fn unread_patterns(alloc: Global, tree: &Tree) -> Result<Seq<UnreadPattern>, NoMemory>
     ensures { IfOk result (IsKept (marked_of tree.now)) }
 {
     let mut noted = Noted::new(alloc);
