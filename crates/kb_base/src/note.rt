@@ -2,6 +2,7 @@
 ghost use Rattle.std.specs.Prelude.{◌≡◌};
 ghost use Rattle.kb_base.specs.Note.{part_name};
 
+use crate::memory::NoMemory;
 use crate::text::Text;
 
 /// The file that an entry is read from.
