@@ -40,3 +40,13 @@ IsFaultAnd (Fault f) P = P f
 abbrev pub MapsFault : {F G : Type 0} → (F → G → Type 0) → Failure F → Failure G → Type 0
 MapsFault maps NoMemory made = made ≡ NoMemory
 MapsFault maps (Fault f) made = IsFaultAnd made (maps f)
+
+-- what a call of a map gave as a failure: its fault, or refused memory
+abbrev pub IsGiven : {G E : Type 0} → (Result G E → Type 0) → Failure G → Type 0
+IsGiven {G} {E} gives NoMemory = (refused : E) × gives (Err refused)
+IsGiven gives (Fault g) = gives (Ok g)
+
+-- the same of a map that may be refused memory
+abbrev pub TriesFault : {F G E : Type 0} → (F → Result G E → Type 0) → Failure F → Failure G → Type 0
+TriesFault maps NoMemory made = made ≡ NoMemory
+TriesFault maps (Fault f) made = IsGiven (maps f) made

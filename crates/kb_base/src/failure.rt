@@ -1,6 +1,7 @@
 //! Why a call returned nothing: a fault, or refused memory.
-ghost use Rattle.kb_base.specs.Failure.{ForFault, MapsFault};
+ghost use Rattle.kb_base.specs.Failure.{ForFault, MapsFault, TriesFault};
 
+use crate::memory::NoMemory;
 use std::alloc::{AllocError, AllocFailed};
 
 /// Why a call returned nothing: its input has a fault, or memory was refused (5). Fault types do not include
@@ -22,6 +23,20 @@ impl<F> Failure<F> {
         match self {
             Failure::NoMemory => Failure::NoMemory,
             Failure::Fault(fault) => Failure::Fault(map(fault)),
+        }
+    }
+
+    /// The same failure, with its fault mapped by a `map` that may be refused memory.
+    pub fn try_map_fault<G, M: FnOnce(F) -> Result<G, NoMemory>>(self, map: M) -> Failure<G>
+        requires { ForFault self (M.pre map) }
+        ensures { TriesFault (M.post map) self result }
+    {
+        match self {
+            Failure::NoMemory => Failure::NoMemory,
+            Failure::Fault(fault) => match map(fault) {
+                Ok(mapped) => Failure::Fault(mapped),
+                Err(_) => Failure::NoMemory,
+            },
         }
     }
 }

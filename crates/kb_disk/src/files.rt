@@ -65,10 +65,7 @@ fn is_not_found(error: &io::Error) -> bool
 fn file_failure<'a>(path: &'a str, failure: Failure<ReadFault>) -> Failure<CannotRead<'a>>
     ensures { result ≡ file_failure path.entry failure }
 {
-    match failure {
-        Failure::NoMemory => Failure::NoMemory,
-        Failure::Fault(_) => Failure::Fault(CannotRead::File(path)),
-    }
+    failure.map_fault(|_| CannotRead::File(path))
 }
 
 /// All bytes of the file at a path.

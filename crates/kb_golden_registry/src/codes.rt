@@ -95,13 +95,7 @@ fn callable(
 }
 
 fn fault_in(alloc: Global, failure: Failure<VerifyFault>) -> Failure<String> {
-    match failure {
-        Failure::NoMemory => Failure::NoMemory,
-        Failure::Fault(fault) => match fault_text(alloc, fault.number()) {
-            Ok(text) => Failure::Fault(text),
-            Err(_) => Failure::NoMemory,
-        },
-    }
+    failure.try_map_fault(|fault| fault_text(alloc, fault.number()))
 }
 
 // The verified handlers, or the text of the first fault.

@@ -81,20 +81,17 @@ fn checked_by(
 fn rejected_by(failure: Failure<Rejection>) -> Failure<Refusal>
     ensures { result ≡ updating.rejected_by failure }
 {
-    match failure {
-        Failure::NoMemory => Failure::NoMemory,
-        Failure::Fault(rejection) => {
-            let Rejection {
-                command,
-                number,
-                ..
-            } = rejection;
-            Failure::Fault(Refusal {
-                number,
-                detail: Some(command),
-            })
+    failure.map_fault(|rejection| {
+        let Rejection {
+            command,
+            number,
+            ..
+        } = rejection;
+        Refusal {
+            number,
+            detail: Some(command),
         }
-    }
+    })
 }
 
 /// Whether the code of an extension was verified.

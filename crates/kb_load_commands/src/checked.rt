@@ -3,6 +3,8 @@ ghost use Rattle.std.specs.Prelude.{◌≡◌, ◌≤◌, ℕ, [], None, IfOk, l
 ghost use Rattle.kb_handler_table.specs.Live.{group_of};
 ghost use Rattle.kb_load_commands.specs.Checked.{IsAdmitted, IsCode, IsRejectionAt, JoinAll, Joins};
 ghost use Rattle.kb_load_commands.specs.Checked.{LiveChecked};
+ghost use Rattle.kb_files.specs.Fault.{refused_file};
+ghost use Rattle.kb_files.specs.declared.inputs.LoadFile.TheVariants.{Handlers};
 ghost use Rattle.kb_load_commands.specs.Checked.{refused_handler};
 
 use crate::callable::callable_of;
@@ -121,16 +123,22 @@ fn admit<C: HostCommand>(
 fn failure_at(alloc: Global, number: u32, failure: Failure<Rejection>) -> Failure<LoadFault>
     ensures { IsRejectionAt number failure result }
 {
-    match failure {
-        Failure::NoMemory => Failure::NoMemory,
-        Failure::Fault(rejection) => match refused_handler(alloc, &rejection) {
-            Ok(refusal) => Failure::Fault(LoadFault {
-                file: LoadFile::Handlers(number as usize),
-                refusal,
-            }),
-            Err(_) => Failure::NoMemory,
-        },
-    }
+    failure.try_map_fault(|rejection| refused_at(alloc, number, &rejection))
+}
+
+/// The fault of a load with a handler, of this extension, that isn't accepted.
+fn refused_at(
+    alloc: Global,
+    number: u32,
+    rejection: &Rejection,
+) -> Result<LoadFault, NoMemory>
+    ensures { IfOk result (λ fault.
+        fault ≡ refused_file (Handlers number) (refused_handler rejection.now)) }
+{
+    Ok(LoadFault {
+        file: LoadFile::Handlers(number as usize),
+        refusal: refused_handler(alloc, rejection)?,
+    })
 }
 
 /// The refusal of a handler that isn't accepted, with its command and place.

@@ -42,13 +42,7 @@ pub fn verify_all(
 fn failure_of(handler: &Handler, failure: Failure<VerifyFault>) -> Failure<Rejection>
     ensures { IsFailureOf handler.now failure result }
 {
-    match failure {
-        Failure::NoMemory => Failure::NoMemory,
-        Failure::Fault(fault) => match rejected(handler, &fault) {
-            Ok(rejection) => Failure::Fault(rejection),
-            Err(_) => Failure::NoMemory,
-        },
-    }
+    failure.try_map_fault(|fault| rejected(handler, &fault))
 }
 
 /// The rejection of a handler for its fault. Its command is copied.

@@ -55,13 +55,10 @@ fn codes_of(alloc: Global, verified: Verified) -> Result<Codes, NoMemory> {
     Ok(Codes::checked(VerifiedList::new(alloc).with(verified)?))
 }
 
-fn not_live(failure: &Failure<RegistryFault>) -> Failure<Finding> {
-    match failure {
-        Failure::NoMemory => Failure::NoMemory,
-        Failure::Fault(fault) => Failure::Fault(Finding::NotLive {
-            number: fault.number(),
-        }),
-    }
+fn not_live(failure: Failure<RegistryFault>) -> Failure<Finding> {
+    failure.map_fault(|fault| Finding::NotLive {
+        number: fault.number(),
+    })
 }
 
 /// Registers a handler as the only one of an extension, in place of the one before.
@@ -78,6 +75,6 @@ pub(crate) fn replace(
     }
     match registry.register_code(extension, codes_of(alloc, verified)?) {
         Ok(()) => Ok(()),
-        Err((_codes, failure)) => Err(not_live(&failure)),
+        Err((_codes, failure)) => Err(not_live(failure)),
     }
 }
