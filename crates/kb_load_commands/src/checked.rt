@@ -4,7 +4,7 @@ ghost use Rattle.kb_handler_table.specs.Live.{group_of};
 ghost use Rattle.kb_load_commands.specs.Checked.{IsAdmitted, IsCode, IsRejectionAt, JoinAll, Joins};
 ghost use Rattle.kb_load_commands.specs.Checked.{LiveChecked};
 ghost use Rattle.kb_files.specs.Fault.{refused_file};
-ghost use Rattle.kb_files.specs.declared.inputs.LoadFile.TheVariants.{Handlers};
+ghost use Rattle.kb_files.specs.declared.fault.LoadFile.TheVariants.{Handlers};
 ghost use Rattle.kb_load_commands.specs.Checked.{refused_handler};
 
 use crate::callable::callable_of;
