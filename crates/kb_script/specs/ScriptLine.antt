@@ -10,6 +10,8 @@ use Rattle.kb_trace.specs.declared.event.Event.TheVariants as event
 
 abbrev pub said_by : ScriptLine → Said
 said_by (line.Event event) = tells (happens event)
+said_by (line.Set name key value) = tells (happens (event.SetKey name.now key.now value))
+said_by (line.Unset name key) = tells (happens (event.UnsetKey name.now key.now))
 said_by (line.Reload text) = tells (reload text.now [])
 said_by (line.Register native) = takes native
 said_by (line.Dispose ticket) = tells (dispose ticket.0)

@@ -22,9 +22,13 @@ use std::str;
 /// A parsed line of a script.
 #[derive(Drop)]
 pub enum ScriptLine<'a> {
-    /// An event: `key KEY`, `focus SCOPE`, `set SCOPE KEY JSON`, `unset SCOPE KEY`, `palette [QUERY]`,
-    /// `choose N`, `enable EXTENSION` or `disable EXTENSION`; or `Unread` for a line that doesn't parse.
+    /// An event: `key KEY`, `focus SCOPE`, `palette [QUERY]`, `choose N`, `enable EXTENSION` or
+    /// `disable EXTENSION`; or `Unread` for a line that doesn't parse.
     Event(Event),
+    /// `set SCOPE KEY JSON`: sets a key in a scope.
+    Set(&'a str, &'a str, ContextValue),
+    /// `unset SCOPE KEY`: removes a key from a scope.
+    Unset(&'a str, &'a str),
     /// `reload BYTES`: a reload of the user's rules from these bytes, which may be empty.
     Reload(&'a str),
     /// `register NATIVE`: registers the first closure for the native command on the shelf.
@@ -37,7 +41,7 @@ pub enum ScriptLine<'a> {
 
 /// Parses one line. `None` for blank lines and comments: an empty line, or one that begins with `#`. A
 /// line that doesn't parse is the event `Unread` with the line's number. `NoMemory` if the texts of an
-/// event can't be allocated; a blank line or a comment allocates nothing.
+/// event or the value of a key can't be allocated; a blank line or a comment allocates nothing.
 pub fn read_line<'a>(
     alloc: Global,
     number: u64,
@@ -152,6 +156,8 @@ fn read_word<'a>(
         "register" => Ok(read_register(rest)),
         "dispose" => Ok(read_dispose(rest)),
         "update" => Ok(read_update(rest)),
+        "set" => read_set(alloc, rest),
+        "unset" => Ok(read_unset(rest)),
         _ => match read_event(alloc, word, rest)? {
             Some(event) => Ok(Some(ScriptLine::Event(event))),
             None => Ok(None),
@@ -166,8 +172,6 @@ fn read_event(alloc: Global, word: &str, rest: &str) -> Result<Option<Event>, No
     match word {
         "key" => Ok(read_key(rest)),
         "focus" => read_focus(alloc, rest),
-        "set" => read_set(alloc, rest),
-        "unset" => read_unset(alloc, rest),
         "enable" => read_enable(alloc, rest),
         "disable" => read_disable(alloc, rest),
         "palette" => Ok(Some(Event::Palette(Text::from_str(alloc, rest)?))),
@@ -320,22 +324,19 @@ fn read_disable(alloc: Global, id: &str) -> Result<Option<Event>, NoMemory>
     Ok(Some(Event::Disable(Text::from_str(alloc, id)?)))
 }
 
-fn read_unset(alloc: Global, rest: &str) -> Result<Option<Event>, NoMemory>
-    ensures { IfOk result (λ event. event ≡ script.unset_event (script.split_word rest.now)) }
+fn read_unset<'a>(rest: &'a str) -> Option<ScriptLine<'a>>
+    ensures { option_map said_by result ≡ script.event_said (script.unset_event (script.split_word rest.now)) }
 {
-    let Some((scope, key)) = split_word(rest) else {
-        return Ok(None);
-    };
+    let (scope, key) = split_word(rest)?;
     if !is_word(scope) || !is_word(key) {
-        return Ok(None);
+        return None;
     }
-    let scope = Text::from_str(alloc, scope)?;
-    let key = Text::from_str(alloc, key)?;
-    Ok(Some(Event::UnsetKey(scope, key)))
+    Some(ScriptLine::Unset(scope, key))
 }
 
-fn read_set(alloc: Global, rest: &str) -> Result<Option<Event>, NoMemory>
-    ensures { IfOk result (λ event. event ≡ script.set_event (script.split_word rest.now)) }
+fn read_set<'a>(alloc: Global, rest: &'a str) -> Result<Option<ScriptLine<'a>>, NoMemory>
+    ensures { IfOk result (λ said.
+        option_map said_by said ≡ script.event_said (script.set_event (script.split_word rest.now))) }
 {
     let Some((scope, rest)) = split_word(rest) else {
         return Ok(None);
@@ -346,19 +347,20 @@ fn read_set(alloc: Global, rest: &str) -> Result<Option<Event>, NoMemory>
     read_assignment(alloc, scope, key, json)
 }
 
-fn read_assignment(
+fn read_assignment<'a>(
     alloc: Global,
-    scope: &str,
-    key: &str,
+    scope: &'a str,
+    key: &'a str,
     json: &str,
-) -> Result<Option<Event>, NoMemory>
-    ensures { IfOk result (λ event. event ≡ script.assignment scope.now key.now json.now) }
+) -> Result<Option<ScriptLine<'a>>, NoMemory>
+    ensures { IfOk result (λ said.
+        option_map said_by said ≡ script.event_said (script.assignment scope.now key.now json.now)) }
 {
     if !is_word(scope) || !is_word(key) || is_blank_text(json) {
         return Ok(None);
     }
     let value = value_read(read_context_text(alloc, json))?;
-    assigned(alloc, scope, key, value)
+    Ok(assigned(scope, key, value))
 }
 
 /// The value that was read, `None` for a text that isn't a context value, or refused memory.
@@ -374,21 +376,17 @@ fn value_read(
     }
 }
 
-/// The event that sets a key to a value, or `None` if there is no value. Without a value it allocates
-/// nothing.
-fn assigned(
-    alloc: Global,
-    scope: &str,
-    key: &str,
+/// The line that sets a key to a value, or `None` if there is no value.
+fn assigned<'a>(
+    scope: &'a str,
+    key: &'a str,
     value: Option<ContextValue>,
-) -> Result<Option<Event>, NoMemory>
-    ensures event { IfOk result (λ made. made ≡ option_map (event.SetKey scope.now key.now) value) }
-    ensures none { value ≡ None → result ≡ Ok None }
+) -> Option<ScriptLine<'a>>
+    ensures { option_map said_by result
+        ≡ script.event_said (option_map (event.SetKey scope.now key.now) value) }
 {
-    let Some(value) = value else {
-        return Ok(None);
-    };
-    let scope = Text::from_str(alloc, scope)?;
-    let key = Text::from_str(alloc, key)?;
-    Ok(Some(Event::SetKey(scope, key, value)))
+    match value {
+        Some(value) => Some(ScriptLine::Set(scope, key, value)),
+        None => None,
+    }
 }

@@ -45,6 +45,16 @@ pub fn obey<C: HostCommand>(
             Ok(handled) => Ok(handled.finish),
             Err(_) => Err(AllocError),
         },
+        Ok(Some(ScriptLine::Set(scope, key, value))) => {
+            match session.set_context(scope, key, value) {
+                Ok(_) => Ok(Finish::Done),
+                Err(_) => Err(AllocError),
+            }
+        }
+        Ok(Some(ScriptLine::Unset(scope, key))) => match session.unset_context(scope, key) {
+            Ok(_) => Ok(Finish::Done),
+            Err(_) => Err(AllocError),
+        },
         Ok(Some(ScriptLine::Reload(text))) => match session.reload_user(text.as_bytes()) {
             Ok(_) => Ok(Finish::Done),
             Err(_) => Err(AllocError),

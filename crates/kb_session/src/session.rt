@@ -41,6 +41,7 @@ use std::marker::Model;
 use std::mem;
 
 mod closures;
+mod context;
 mod extensions;
 mod inspect;
 mod palette;
