@@ -73,12 +73,12 @@ impl Notes {
     ) -> Result<(), NoMemory>
         ensures { OnOk result (self.new ≡ with_unread origin part place patterns self.old) }
     {
-        for unread in patterns.into_vec() {
+        for one in patterns.into_vec() {
             self.unread.push(EntryPattern {
                 origin,
                 part,
                 place,
-                unread,
+                unread: one,
             })?;
         }
         Ok(())
