@@ -4,4 +4,5 @@ pub mod ExtensionLemmas
 pub mod ExtensionsLemmas
 pub mod FileLemmas
 pub mod IdentifiersLemmas
+pub mod PlainValueLemmas
 pub mod Window

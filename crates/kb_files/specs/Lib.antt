@@ -7,5 +7,6 @@ pub mod HandlerFile
 pub mod Identifiers
 pub mod Layout
 pub mod Marked
+pub mod PlainValue
 pub mod RuleFile
 pub mod Value

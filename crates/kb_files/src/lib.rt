@@ -11,6 +11,7 @@ pub mod handler_file;
 pub mod identifiers;
 pub mod inputs;
 pub mod layout_file;
+mod plain_value;
 pub mod rule_file;
 mod value;
 

@@ -14,5 +14,6 @@ mod scan;
 mod text;
 
 pub use fault::JsoncFault;
+pub use pieces::string_len;
 pub use reader::read;
 pub use text::plain;

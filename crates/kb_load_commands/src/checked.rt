@@ -127,11 +127,7 @@ fn failure_at(alloc: Global, number: u32, failure: Failure<Rejection>) -> Failur
 }
 
 /// The fault of a load with a handler, of this extension, that isn't accepted.
-fn refused_at(
-    alloc: Global,
-    number: u32,
-    rejection: &Rejection,
-) -> Result<LoadFault, NoMemory>
+fn refused_at(alloc: Global, number: u32, rejection: &Rejection) -> Result<LoadFault, NoMemory>
     ensures { IfOk result (λ fault.
         fault ≡ refused_file (Handlers number) (refused_handler rejection.now)) }
 {

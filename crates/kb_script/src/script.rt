@@ -377,11 +377,7 @@ fn value_read(
 }
 
 /// The line that sets a key to a value, or `None` if there is no value.
-fn assigned<'a>(
-    scope: &'a str,
-    key: &'a str,
-    value: Option<ContextValue>,
-) -> Option<ScriptLine<'a>>
+fn assigned<'a>(scope: &'a str, key: &'a str, value: Option<ContextValue>) -> Option<ScriptLine<'a>>
     ensures { option_map said_by result
         ≡ script.event_said (option_map (event.SetKey scope.now key.now) value) }
 {
