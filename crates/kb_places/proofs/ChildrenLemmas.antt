@@ -1,5 +1,5 @@
 -- Items and members that stand in turn.
-use Rattle.std.proofs.Common.{◌≡◌, ℕ, ◌<◌, List, [], ◌∷◌, ◌++◌, length, Bool, true, false, refl, sym, ap, ◌∙◌, subst, arith}
+use Rattle.std.proofs.Common.{◌≡◌, ℕ, ◌+◌, ◌<◌, List, [], ◌∷◌, ◌++◌, length, Bool, true, false, refl, sym, ap, ◌∙◌, subst, arith}
 use Rattle.std.specs.Prelude.{Some, if◌then◌else◌, nat_eq, slice_index, ◌&&◌, take, drop, find, reverse}
 use Rattle.std.specs.Prelude.{None, option_and_then}
 use Rattle.std.specs.Str.{bytes_eq, is_utf8, IsUtf8}
@@ -10,7 +10,7 @@ use Rattle.serde_json.specs.Read.{read}
 use Rattle.std.proofs.Math.Bool.{and_assoc, and-false}
 use Rattle.std.proofs.lemmas.Bool.{false_from_ne_true}
 use Rattle.std.proofs.lemmas.List.{reverse-append}
-use Rattle.kb_places.specs.Children.{is_separator, IsGap, AreInTurn}
+use Rattle.kb_places.specs.Children.{is_separator, EndsItem, EndsString, IsGap, AreInTurn}
 use Rattle.kb_places.specs.Children.{begins_name, reads_as, says, AreMembersInTurn}
 use Rattle.kb_places.specs.declared.children.Member.{Member}
 use Rattle.kb_places.specs.declared.span.Span.{Span}
@@ -18,26 +18,32 @@ use Rattle.kb_places.specs.declared.span.Span.{Span}
 -- one more item, with a gap behind it
 pub one_more : (text : List ℕ) (from : ℕ) (items : List Span) (item : Span) (to : ℕ)
     → AreInTurn text from items item.begin → is_separator 44 (slice_index text item.begin) ≡ false
-    → item.begin < item.end → IsGap text 44 item.end to → AreInTurn text from (items ++ item ∷ []) to
-one_more text from [] item to turn begins some behind = ((turn, begins, some), behind)
-one_more text from (first ∷ items) item to turn begins some behind =
-    (turn.0, one_more text first.end items item to turn.1 begins some behind)
+    → item.begin < item.end → EndsItem text item → IsGap text 44 item.end to
+    → AreInTurn text from (items ++ item ∷ []) to
+one_more text from [] item to turn begins some ends behind = ((turn, begins, some, ends), behind)
+one_more text from (first ∷ items) item to turn begins some ends behind =
+    (turn.0, one_more text first.end items item to turn.1 begins some ends behind)
 
 -- one more member, with a gap behind it
 pub one_member_more : (text : List ℕ) (from : ℕ) (members : List Member) (member : Member) (at to : ℕ)
     → AreMembersInTurn text from members at → member.name.begin ≡ at → begins_name text at ≡ true
-    → IsGap text 58 member.name.end member.value.begin → IsGap text 44 member.value.end to
+    → EndsString text (at + 1) member.name.end → IsGap text 58 member.name.end member.value.begin
+    → EndsItem text member.value → IsGap text 44 member.value.end to
     → AreMembersInTurn text from (members ++ member ∷ []) to
-one_member_more text from [] member at to turn e begins between behind = (
+one_member_more text from [] member at to turn e begins ends between value behind = (
   record {
     before = subst (λ i. IsGap text 44 from i) (sym e) turn;
     begins = subst (λ i. begins_name text i ≡ true) (sym e) begins;
+    ends = subst (λ i. EndsString text (i + 1) member.name.end) (sym e) ends;
     between = between;
+    value = value;
   },
   behind,
 )
-one_member_more text from (first ∷ members) member at to turn e begins between behind =
-    (turn.0, one_member_more text first.value.end members member at to turn.1 e begins between behind)
+one_member_more text from (first ∷ members) member at to turn e begins ends between value behind = (
+  turn.0,
+  one_member_more text first.value.end members member at to turn.1 e begins ends between value behind,
+)
 
 -- ---- names
 

@@ -1,5 +1,6 @@
 -- The items of a list and the members of an object: parts of a text that only separators part.
-use Rattle.std.specs.Prelude.{◌≡◌, ◌≤◌, ◌<◌, ℕ, ◌+◌, ◌==◌, List, [], ◌∷◌, length, nat_le, nat_lt, slice_index}
+use Rattle.std.specs.Prelude.{◌≡◌, ◌≤◌, ◌<◌, ℕ, ◌+◌, ◌==◌, List, [], ◌∷◌, length, drop, nat_le, nat_lt}
+use Rattle.std.specs.Prelude.{slice_index}
 use Rattle.std.specs.Prelude.{Bool, true, false, not, ◌&&◌, ◌||◌, ◌++◌, if◌then◌else◌}
 use Rattle.std.specs.Prelude.{Option, Some, None, option_and_then}
 use Rattle.std.specs.List.{list_any}
@@ -7,6 +8,7 @@ use Rattle.std.specs.Str.{bytes_eq, is_utf8}
 use Rattle.serde_json.specs.Find.{as_str}
 use Rattle.serde_json.specs.Read.{read}
 use Rattle.kb_base.specs.Blank.{is_blank}
+use Rattle.kb_jsonc.specs.Pieces.{string_len}
 use Rattle.kb_places.specs.Place.{part_of}
 use Rattle.kb_places.specs.declared.children.Member.{Member}
 use Rattle.kb_places.specs.declared.span.Span.{Span}
@@ -21,17 +23,6 @@ IsGap text sign from to =
     (from ≤ to)
     × ((index : ℕ) → from ≤ index → index < to → is_separator sign (slice_index text index) ≡ true)
 
--- a part that begins with no separator stands behind nothing but separators
-abbrev pub IsNext : List ℕ → ℕ → Span → Type 0
-IsNext text from part =
-    IsGap text 44 from part.begin × (is_separator 44 (slice_index text part.begin) ≡ false)
-    × (part.begin < part.end)
-
--- items in turn, with nothing but blanks and commas before, between and behind them
-abbrev pub AreInTurn : List ℕ → ℕ → List Span → ℕ → Type 0
-AreInTurn text from [] to = IsGap text 44 from to
-AreInTurn text from (item ∷ items) to = IsNext text from item × AreInTurn text item.end items to
-
 -- a closing bracket or a colon
 abbrev pub is_closing : ℕ → Bool
 is_closing byte = byte == 93 || (byte == 125 || byte == 58)
@@ -40,6 +31,31 @@ is_closing byte = byte == 93 || (byte == 125 || byte == 58)
 abbrev pub ends_word : ℕ → Bool
 ends_word byte =
     is_separator 44 byte || (is_closing byte || (byte == 91 || (byte == 123 || byte == 34)))
+
+-- where a string ends, of which the first byte behind the quote is at `from`: behind the first quote that no
+-- backslash escapes, or at the end of the text
+abbrev pub ends_behind : Option ℕ → List ℕ → ℕ → ℕ → Type 0
+ends_behind None text from end = length text ≤ end
+ends_behind (Some count) text from end = end ≡ from + count
+
+abbrev pub EndsString : List ℕ → ℕ → ℕ → Type 0
+EndsString text from end = ends_behind (string_len (drop from text)) text from end
+
+-- a part that is a string ends where the string does
+abbrev pub EndsItem : List ℕ → Span → Type 0
+EndsItem text part =
+    part.begin < length text → slice_index text part.begin ≡ 34 → EndsString text (part.begin + 1) part.end
+
+-- a part that begins with no separator stands behind nothing but separators; a string ends where it should
+abbrev pub IsNext : List ℕ → ℕ → Span → Type 0
+IsNext text from part =
+    IsGap text 44 from part.begin × (is_separator 44 (slice_index text part.begin) ≡ false)
+    × (part.begin < part.end) × EndsItem text part
+
+-- items in turn, with nothing but blanks and commas before, between and behind them
+abbrev pub AreInTurn : List ℕ → ℕ → List Span → ℕ → Type 0
+AreInTurn text from [] to = IsGap text 44 from to
+AreInTurn text from (item ∷ items) to = IsNext text from item × AreInTurn text item.end items to
 
 -- nothing more of a part stands at an index: the part or the text ends there, or a closing bracket does
 abbrev pub is_end_of : List ℕ → Span → ℕ → Bool
@@ -61,7 +77,9 @@ begins_name text index = nat_lt index (length text) && slice_index text index ==
 pub record IsNextMember (text : List ℕ) (from : ℕ) (member : Member) : Type 0 where
   pub before : IsGap text 44 from member.name.begin
   pub begins : begins_name text member.name.begin ≡ true
+  pub ends : EndsString text (member.name.begin + 1) member.name.end
   pub between : IsGap text 58 member.name.end member.value.begin
+  pub value : EndsItem text member.value
 
 -- members in turn, with nothing but blanks and commas before, between and behind them
 abbrev pub AreMembersInTurn : List ℕ → ℕ → List Member → ℕ → Type 0

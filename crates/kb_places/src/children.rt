@@ -5,7 +5,7 @@ ghost use Rattle.std.specs.Str.{bytes_eq};
 ghost use Rattle.serde_json.specs.Find.{as_str};
 ghost use Rattle.serde_json.specs.View.{view};
 ghost use Rattle.kb_places.specs.Children.{begins_name, has_name, is_name, opens, reads_as, says};
-ghost use Rattle.kb_places.specs.Children.{AreItems, AreMembers, IsGap};
+ghost use Rattle.kb_places.specs.Children.{AreItems, AreMembers, EndsItem, EndsString, IsGap};
 
 use crate::scan::{skip, string_end, value_end};
 use crate::span::{Span, part_of};
@@ -91,6 +91,8 @@ fn member_from(text: &[u8], from: usize) -> Member
     ensures name { result.name.begin ≡ from }
     ensures between { IsGap text.now 58 result.name.end result.value.begin }
     ensures further { from < result.value.end }
+    ensures named { EndsString text.now (from + 1) result.name.end }
+    ensures valued { EndsItem text.now result.value }
 {
     let behind = string_end(text, from + 1);
     let begin = skip(text, behind, b':');

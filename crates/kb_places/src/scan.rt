@@ -1,24 +1,25 @@
 //! Where values of a JSON text end. The text is taken to be JSON: of any other text the answers are some
 //! index.
-ghost use Rattle.std.specs.Prelude.{◌≡◌, ◌≤◌, ◌<◌, false, length, slice_index};
+ghost use Rattle.std.specs.Prelude.{◌+◌, ◌≡◌, ◌≤◌, ◌<◌, false, length, slice_index};
 ghost use Rattle.kb_places.specs.Children as words;
-ghost use Rattle.kb_places.specs.Children.{is_closing, is_separator, IsGap};
+ghost use Rattle.kb_places.specs.Children.{is_closing, is_separator, EndsString, IsGap};
 
 use kb_base::is_blank;
+use kb_jsonc::string_len;
 
-/// The index behind the string whose first byte behind the quote is at `from`.
+/// The index behind the string whose first byte behind the quote is at `from`, or the end of the text if the
+/// string isn't closed.
 pub(crate) fn string_end(text: &[u8], from: usize) -> usize
-    ensures { from ≤ result }
+    ensures least { from ≤ result }
+    ensures ends { EndsString text.now from result }
 {
-    let mut at = from;
-    while at < text.len() {
-        match text[at] {
-            b'"' => return at + 1,
-            b'\\' => at = at.saturating_add(2),
-            _ => at += 1,
-        }
+    if from > text.len() {
+        return from;
     }
-    at
+    match string_len(&text[from..]) {
+        Some(count) => from + count,
+        None => text.len(),
+    }
 }
 
 /// Whether a byte ends a number or a word.
@@ -72,6 +73,8 @@ pub(crate) fn value_end(text: &[u8], from: usize) -> usize
     ensures further { from < length text.now → is_separator 44 (slice_index text.now from) ≡ false
         → is_closing (slice_index text.now from) ≡ false → from < result }
     ensures least { result < from → result ≡ length text.now }
+    ensures string { from < length text.now → slice_index text.now from ≡ 34
+        → EndsString text.now (from + 1) result }
 {
     if from >= text.len() {
         return text.len();
