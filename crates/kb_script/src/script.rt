@@ -325,7 +325,8 @@ fn read_disable(alloc: Global, id: &str) -> Result<Option<Event>, NoMemory>
 }
 
 fn read_unset<'a>(rest: &'a str) -> Option<ScriptLine<'a>>
-    ensures { option_map said_by result ≡ script.event_said (script.unset_event (script.split_word rest.now)) }
+    ensures { option_map said_by result
+        ≡ script.event_said (script.unset_event (script.split_word rest.now)) }
 {
     let (scope, key) = split_word(rest)?;
     if !is_word(scope) || !is_word(key) {
