@@ -1,6 +1,7 @@
 //! A session from its load on, with an event of each kind.
 use crate::host::{Plain, all};
 use kb_base::{Failure, NoMemory};
+use kb_context::ContextValue;
 use kb_core::Native;
 use kb_files::{ExtensionFiles, Inputs};
 use kb_keys::Platform;
@@ -65,7 +66,7 @@ const SCRIPT: [&str; 26] = [
 ];
 
 /// The calls of a session, but for `register`.
-const CALLS: [&str; 5] = ["handle", "run", "dispose", "reload", "update"];
+const CALLS: [&str; 7] = ["handle", "run", "dispose", "reload", "set", "unset", "update"];
 
 /// Takes all bytes and keeps none.
 #[derive(Drop)]
@@ -142,6 +143,8 @@ fn answer_to<'a>(
         }
         "dispose" => session.dispose(Ticket(1)).err(),
         "reload" => session.reload_user(b"[]").err(),
+        "set" => session.set_context("window", "k", ContextValue::Truth(true)).err(),
+        "unset" => session.unset_context("window", "k").err(),
         _ => session.update_extension("p.e", HANDLERS.as_bytes()).err(),
     };
     match fault {
