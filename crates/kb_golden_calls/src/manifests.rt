@@ -85,8 +85,8 @@ fn add_unread(output: &mut String, notes: &Notes) -> Result<(), NoMemory> {
     for unread in notes.unread.as_slice() {
         let part = unread.part.name();
         let place = unread.place;
-        let number = unread.number;
-        let pattern = unread.pattern.as_str();
+        let number = unread.unread.number;
+        let pattern = unread.unread.pattern.as_str();
         write!(output, "; unread {part} {place} {number} {pattern}")?;
     }
     Ok(())
