@@ -126,10 +126,7 @@ fn read_words<'a>(alloc: Global, text: &'a str) -> Result<Option<ScriptLine<'a>>
 fn key_line<'a>(key: &str) -> Option<ScriptLine<'a>>
     ensures { option_map said_by result ≡ script.event_said (script.key_event key.now) }
 {
-    match read_key(key) {
-        Some(event) => Some(ScriptLine::Event(event)),
-        None => None,
-    }
+    line_of(read_key(key))
 }
 
 /// Parses any line, as `read_words` does.
@@ -156,26 +153,38 @@ fn read_word<'a>(
         "register" => Ok(read_register(rest)),
         "dispose" => Ok(read_dispose(rest)),
         "update" => Ok(read_update(rest)),
-        "set" => read_set(alloc, rest),
-        "unset" => Ok(read_unset(rest)),
-        _ => match read_event(alloc, word, rest)? {
-            Some(event) => Ok(Some(ScriptLine::Event(event))),
-            None => Ok(None),
-        },
+        _ => read_event(alloc, word, rest),
+    }
+}
+
+/// The line that an event is.
+fn line_of<'a>(event: Option<Event>) -> Option<ScriptLine<'a>>
+    ensures { option_map said_by result ≡ script.event_said event }
+{
+    match event {
+        Some(event) => Some(ScriptLine::Event(event)),
+        None => None,
     }
 }
 
 /// Parses an event, by the first word of its line.
-fn read_event(alloc: Global, word: &str, rest: &str) -> Result<Option<Event>, NoMemory>
-    ensures { IfOk result (λ event. event ≡ script.event_told word.now rest.now) }
+fn read_event<'a>(
+    alloc: Global,
+    word: &str,
+    rest: &'a str,
+) -> Result<Option<ScriptLine<'a>>, NoMemory>
+    ensures { IfOk result (λ said.
+        option_map said_by said ≡ script.event_said (script.event_told word.now rest.now)) }
 {
     match word {
-        "key" => Ok(read_key(rest)),
-        "focus" => read_focus(alloc, rest),
-        "enable" => read_enable(alloc, rest),
-        "disable" => read_disable(alloc, rest),
-        "palette" => Ok(Some(Event::Palette(Text::from_str(alloc, rest)?))),
-        "choose" => Ok(read_choice(rest)),
+        "key" => Ok(key_line(rest)),
+        "focus" => Ok(line_of(read_focus(alloc, rest)?)),
+        "set" => read_set(alloc, rest),
+        "unset" => Ok(read_unset(rest)),
+        "enable" => Ok(line_of(read_enable(alloc, rest)?)),
+        "disable" => Ok(line_of(read_disable(alloc, rest)?)),
+        "palette" => Ok(line_of(Some(Event::Palette(Text::from_str(alloc, rest)?)))),
+        "choose" => Ok(line_of(read_choice(rest))),
         _ => Ok(None),
     }
 }
