@@ -1,2 +1,3 @@
 pub mod PressLemmas
 pub mod RulePlacesLemmas
+pub mod SaidLemmas

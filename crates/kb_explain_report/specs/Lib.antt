@@ -1,1 +1,2 @@
 pub mod RulePlaces
+pub mod Said

@@ -1,4 +1,10 @@
 //! Lines, as text or as JSON.
+ghost use Rattle.std.specs.Prelude.{◌∷◌, ◌++◌, [], OnErr, OnOk, string_bytes};
+ghost use Rattle.std.specs.Io.KnownBytes.{Appends};
+ghost use Rattle.serde_json.specs.View.{view};
+ghost use Rattle.kb_explain_report.specs.Said.{IsJson, WritesLine};
+ghost use Rattle.kb_stream.specs.Writing.{AppendsPart};
+
 use kb_base::NoMemory;
 use kb_stream::write_whole;
 use serde_json::Value;
@@ -34,8 +40,13 @@ impl From<NoMemory> for Stop {
     }
 }
 
-/// Writes a text and a line feed.
-pub(crate) fn say_text<W: Write>(text: String, out: &mut W) -> Result<(), Stop> {
+/// Writes a text and a line feed. If that fails, the writer has a part of them.
+pub(crate) fn say_text<W: Write>(text: String, out: &mut W) -> Result<(), Stop>
+    ensures ok { OnOk result
+        (Appends (W.contents out.old) (W.contents out.new) (string_bytes text ++ 10 ∷ [])) }
+    ensures err { OnErr result
+        (AppendsPart (W.contents out.old) (W.contents out.new) (string_bytes text ++ 10 ∷ [])) }
+{
     let mut text = text;
     text.push('\n')?;
     match write_whole(out, text.as_bytes()) {
@@ -45,6 +56,10 @@ pub(crate) fn say_text<W: Write>(text: String, out: &mut W) -> Result<(), Stop> 
 }
 
 /// Writes an object as a line.
-pub(crate) fn say_object<W: Write>(alloc: Global, object: Value, out: &mut W) -> Result<(), Stop> {
-    say_text(object.to_string(alloc)?, out)
+#[tactic(auto, unfolding(crate::specs::Said::IsJson))]
+pub(crate) fn say_object<W: Write>(alloc: Global, object: Value, out: &mut W) -> Result<(), Stop>
+    ensures { OnOk result (WritesLine (IsJson (view object)) (W.contents out.old) (W.contents out.new)) }
+{
+    say_text(object.to_string(alloc)?, out)?;
+    Ok(())
 }
