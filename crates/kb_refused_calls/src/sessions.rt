@@ -66,7 +66,9 @@ const SCRIPT: [&str; 26] = [
 ];
 
 /// The calls of a session, but for `register`.
-const CALLS: [&str; 7] = ["handle", "run", "dispose", "reload", "set", "unset", "update"];
+const CALLS: [&str; 7] = [
+    "handle", "run", "dispose", "reload", "set", "unset", "update",
+];
 
 /// Takes all bytes and keeps none.
 #[derive(Drop)]
@@ -143,7 +145,9 @@ fn answer_to<'a>(
         }
         "dispose" => session.dispose(Ticket(1)).err(),
         "reload" => session.reload_user(b"[]").err(),
-        "set" => session.set_context("window", "k", ContextValue::Truth(true)).err(),
+        "set" => session
+            .set_context("window", "k", ContextValue::Truth(true))
+            .err(),
         "unset" => session.unset_context("window", "k").err(),
         _ => session.update_extension("p.e", HANDLERS.as_bytes()).err(),
     };
