@@ -1,10 +1,10 @@
 -- Lemmas on what is written.
-use Rattle.std.proofs.Common.{◌≡◌, ◌<◌, ◌+◌, ◌++◌, ◌∙◌, ℕ, zero, suc, List, [], ◌∷◌, drop, map, take}
-use Rattle.std.proofs.Common.{add-one, ap, refl, sym}
-use Rattle.std.specs.Prelude.{Option, None, Some, slice_get}
-use Rattle.std.specs.Io.KnownBytes.{Appends, Keeps}
-use Rattle.std.proofs.KnownBytes.{Appends-nil, Appends-trans, Keeps-refl}
-use Rattle.std.proofs.lemmas.List.{map-append}
+use Rattle.std.proofs.Common.{◌≡◌, ◌≤◌, ◌+◌, ◌-◌, ◌++◌, ◌∙◌, ℕ, zero, suc, List, [], ◌∷◌, drop, get_or, length, map, take}
+use Rattle.std.proofs.Common.{add-one, ap, arith, subst, sym}
+use Rattle.std.specs.Prelude.{Option, Some, slice_get}
+use Rattle.std.specs.Io.KnownBytes.{Appends}
+use Rattle.std.proofs.KnownBytes.{Appends-nil, Appends-trans}
+use Rattle.std.proofs.lemmas.List.{map-append, take_all}
 use Rattle.serde_json.specs.Data.{Data, string}
 use Rattle.serde_json.specs.View.{view}
 use Rattle.serde_json.specs.declared.value.Value.{Value}
@@ -28,6 +28,23 @@ pub wrote_at : {A : Type 0} (Is : A → List ℕ → Type 0) (xs : List A) (i : 
     → slice_get xs i ≡ Some x → WritesLine (Is x) a b → WritesEach Is (drop (i + 1) xs) b c
     → WritesEach Is (drop i xs) a c
 wrote_at Is xs i x a b c e one rest = rw (left_from xs i x e) (b, one, rw add-one at rest)
+
+-- the first one and then the others, as a slice pattern has them
+pub wrote_front : {A : Type 0} (Is : A → List ℕ → Type 0) (xs : List A) (x : A) (a b c : Option (List ℕ))
+    → x ≡ get_or xs 0 x → 1 ≤ length xs → WritesLine (Is x) a b
+    → WritesEach Is (take (length xs - 1) (drop 1 xs)) b c → WritesEach Is xs a c
+wrote_front Is [] x a b c is some one rest = absurd (omega (arith, some))
+wrote_front {A} Is (y ∷ ys) x a b c is some one rest =
+    let all : take (length (y ∷ ys) - 1) ys ≡ ys = take_all (length (y ∷ ys) - 1) ys (omega arith) in (
+      b,
+      subst (λ (z : A). WritesLine (Is z) a b) is one,
+      subst (λ (l : List A). WritesEach Is l b c) all rest,
+    )
+
+pub wrote_mapped : {A B : Type 0} (f : A → B) (Is : B → List ℕ → Type 0) (xs : List A) (a b : Option (List ℕ))
+    → WritesEach (λ x. Is (f x)) xs a b → WritesEach Is (map f xs) a b
+wrote_mapped f Is [] a b wrote = wrote
+wrote_mapped f Is (x ∷ xs) a b wrote = (wrote.0, wrote.1, wrote_mapped f Is xs wrote.0 b wrote.2)
 
 -- values of the texts up to a place, with one more
 pub strings_at : (made new : List Value) (xs : List (List ℕ)) (i : ℕ) (x : List ℕ) (v : Value)

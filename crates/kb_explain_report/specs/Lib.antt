@@ -1,2 +1,4 @@
+pub mod PaletteSaid
 pub mod RulePlaces
+pub mod RulesSaid
 pub mod Said

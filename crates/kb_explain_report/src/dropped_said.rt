@@ -1,4 +1,7 @@
 //! Rules that were dropped with a warning, said.
+ghost use Rattle.std.specs.Prelude.{OnOk};
+ghost use Rattle.kb_explain_report.specs.Said.{WritesMore};
+
 use crate::output::{Form, Stop, say_object, say_text};
 use crate::rule_said::{Named, place_json, place_text};
 use kb_base::{NoMemory, Origin, Warning, fault_name};
@@ -48,6 +51,7 @@ fn may_be_meant(alloc: Global, keys: Option<&str>, strokes: &[Keystroke]) -> boo
 }
 
 /// Writes that an element was dropped.
+#[tactic(auto, using(crate::proofs::SaidLemmas::more))]
 fn say_one<W: Write>(
     alloc: Global,
     named: &Named<'_>,
@@ -55,11 +59,14 @@ fn say_one<W: Write>(
     keys: Option<&str>,
     form: Form,
     out: &mut W,
-) -> Result<(), Stop> {
+) -> Result<(), Stop>
+    ensures { OnOk result (WritesMore (W.contents out.old) (W.contents out.new)) }
+{
     match form {
-        Form::Text => say_text(dropped_text(alloc, named, warning, keys)?, out),
-        Form::Json => say_object(alloc, dropped_json(alloc, named, warning, keys)?, out),
+        Form::Text => say_text(dropped_text(alloc, named, warning, keys)?, out)?,
+        Form::Json => say_object(alloc, dropped_json(alloc, named, warning, keys)?, out)?,
     }
+    Ok(())
 }
 
 /// That an element was dropped, in words.
@@ -104,6 +111,7 @@ fn is_dropped(warning: &Warning) -> bool {
 }
 
 /// Writes a line for each dropped element of a file that may be meant for these keystrokes.
+#[tactic(auto, using(crate::proofs::SaidLemmas::more))]
 fn say_of_source<W: Write>(
     alloc: Global,
     named: &Named<'_>,
@@ -112,7 +120,9 @@ fn say_of_source<W: Write>(
     strokes: &[Keystroke],
     form: Form,
     out: &mut W,
-) -> Result<(), Stop> {
+) -> Result<(), Stop>
+    ensures { OnOk result (WritesMore (W.contents out.old) (W.contents out.new)) }
+{
     for warning in warnings {
         if !is_dropped(warning) {
             continue;
@@ -140,13 +150,16 @@ fn has_dropped(list: &RuleList) -> bool {
 
 /// Writes a line for each dropped element of a list that is in no file. Its keystrokes aren't known, so that
 /// it may be meant for any.
+#[tactic(auto, using(crate::proofs::SaidLemmas::more))]
 fn say_without_keys<W: Write>(
     alloc: Global,
     named: &Named<'_>,
     warnings: &[Warning],
     form: Form,
     out: &mut W,
-) -> Result<(), Stop> {
+) -> Result<(), Stop>
+    ensures { OnOk result (WritesMore (W.contents out.old) (W.contents out.new)) }
+{
     for warning in warnings {
         if is_dropped(warning) {
             say_one(alloc, named, warning, None, form, out)?;
@@ -156,6 +169,7 @@ fn say_without_keys<W: Write>(
 }
 
 /// Writes a line for each dropped element of a list that may be meant for these keystrokes.
+#[tactic(auto, using(crate::proofs::SaidLemmas::more))]
 fn say_of_list<W: Write>(
     alloc: Global,
     named: &Named<'_>,
@@ -164,35 +178,60 @@ fn say_of_list<W: Write>(
     strokes: &[Keystroke],
     form: Form,
     out: &mut W,
-) -> Result<(), Stop> {
+) -> Result<(), Stop>
+    ensures { OnOk result (WritesMore (W.contents out.old) (W.contents out.new)) }
+{
     if !has_dropped(list) {
         return Ok(());
     }
     let Some(file) = named.files.file_of_origin(origin) else {
-        return say_without_keys(alloc, named, list.warnings(), form, out);
+        say_without_keys(alloc, named, list.warnings(), form, out)?;
+        return Ok(());
     };
     match open(alloc, file.bytes)? {
-        Ok(source) => say_of_source(alloc, named, &source, list.warnings(), strokes, form, out),
+        Ok(source) => {
+            say_of_source(alloc, named, &source, list.warnings(), strokes, form, out)?;
+            Ok(())
+        }
         Err(_) => Ok(()),
     }
 }
 
-/// Writes a line for each element that was dropped and whose keystrokes begin with these or can't be read.
-pub(crate) fn say_dropped<W: Write>(
+/// Writes the same of the lists of enabled extensions.
+#[tactic(auto, using(crate::proofs::SaidLemmas::more))]
+fn say_of_extensions<W: Write>(
     alloc: Global,
     named: &Named<'_>,
     strokes: &[Keystroke],
     form: Form,
     out: &mut W,
-) -> Result<(), Stop> {
-    let defaults = named.bindings.defaults();
-    say_of_list(alloc, named, Origin::Defaults, defaults, strokes, form, out)?;
+) -> Result<(), Stop>
+    ensures { OnOk result (WritesMore (W.contents out.old) (W.contents out.new)) }
+{
     for extension in named.bindings.extensions() {
         if extension.enabled {
             let origin = Origin::Extension(extension.number);
             say_of_list(alloc, named, origin, &extension.rules, strokes, form, out)?;
         }
     }
+    Ok(())
+}
+
+/// Writes a line for each element that was dropped and whose keystrokes begin with these or can't be read.
+#[tactic(auto, using(crate::proofs::SaidLemmas::more))]
+pub(crate) fn say_dropped<W: Write>(
+    alloc: Global,
+    named: &Named<'_>,
+    strokes: &[Keystroke],
+    form: Form,
+    out: &mut W,
+) -> Result<(), Stop>
+    ensures { OnOk result (WritesMore (W.contents out.old) (W.contents out.new)) }
+{
+    let defaults = named.bindings.defaults();
+    say_of_list(alloc, named, Origin::Defaults, defaults, strokes, form, out)?;
+    say_of_extensions(alloc, named, strokes, form, out)?;
     let user = named.bindings.user();
-    say_of_list(alloc, named, Origin::User, user, strokes, form, out)
+    say_of_list(alloc, named, Origin::User, user, strokes, form, out)?;
+    Ok(())
 }

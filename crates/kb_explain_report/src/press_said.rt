@@ -1,8 +1,14 @@
 //! Why a key press does what it does, said.
-ghost use Rattle.std.specs.Prelude.{◌≡◌, ◌++◌, ◌∷◌, [], All, IfOk, List, map, option_map};
+ghost use Rattle.std.specs.Prelude.{◌≡◌, ◌++◌, ◌∷◌, [], All, IfOk, List, OnOk, map, option_map, string_bytes};
+ghost use Rattle.serde_json.specs.View.{view};
 ghost use Rattle.kb_bindings.specs.Sources.{enablement, rules_of};
 ghost use Rattle.kb_context.specs.Scopes.{context};
 ghost use Rattle.kb_explain.specs.Press.{passed_over, IsRightlyPassed};
+ghost use Rattle.kb_explain_report.specs.RulesSaid.{IsStepJson, IsStepText, SaysPress, SaysStep};
+ghost use Rattle.kb_explain_report.specs.RulesSaid as said;
+ghost use Rattle.kb_explain_report.specs.RulesSaid.{start_words, step_command, step_word, step_words};
+ghost use Rattle.kb_explain_report.specs.Said.{WritesLine, WritesMore};
+ghost use Rattle.kb_keys.specs.Chord.{chord_spelling};
 ghost use Rattle.kb_keys.specs.declared.keystroke.Keystroke.{Keystroke};
 ghost use Rattle.kb_resolve.specs.ChordState.{step, step_by};
 ghost use Rattle.kb_resolve.specs.Pressed.{step_of};
@@ -90,31 +96,90 @@ pub fn explained_press<'s>(alloc: Global, situation: &Situation<'s>) -> Result<P
     Ok(Press { does, explained })
 }
 
+/// What starting a command is in words.
+fn start_text(alloc: Global, command: &str) -> Result<String, NoMemory>
+    ensures { IfOk result (λ made. string_bytes made ≡ start_words command.now) }
+{
+    if command.is_empty() {
+        return String::from_str(
+            alloc,
+            "starts nothing, since the rule that it takes has no command",
+        );
+    }
+    format!(in alloc; "starts {command}")
+}
+
 /// What a press does, in words.
-fn does_text(alloc: Global, does: Pressed<'_>) -> Result<String, NoMemory> {
-    let said = match does {
-        Pressed::Start(rule) => match rule.command.as_str() {
-            "" => "starts nothing, since the rule that it takes has no command",
-            command => return format!(in alloc; "starts {command}"),
-        },
-        Pressed::More => "waits for more keystrokes",
-        Pressed::Left => "starts nothing and ends the chord, since no rule holds",
-        Pressed::Unbound => "starts nothing, since no rule holds",
-    };
-    String::from_str(alloc, said)
+fn does_text(alloc: Global, does: Pressed<'_>) -> Result<String, NoMemory>
+    ensures { IfOk result (λ made. string_bytes made ≡ step_words (step_of does.entry)) }
+{
+    match does {
+        Pressed::Start(rule) => start_text(alloc, rule.command.as_str()),
+        Pressed::More => String::from_str(alloc, "waits for more keystrokes"),
+        Pressed::Left => {
+            String::from_str(
+                alloc,
+                "starts nothing and ends the chord, since no rule holds",
+            )
+        }
+        Pressed::Unbound => String::from_str(alloc, "starts nothing, since no rule holds"),
+    }
+}
+
+/// What starting a command is in one word.
+fn start_word(command: &str) -> &'static str
+    ensures { result.now ≡ said.start_word command.now }
+{
+    if command.is_empty() {
+        "nothing"
+    } else {
+        "starts"
+    }
 }
 
 /// What a press does, in one word, and the command that it starts.
-fn does_words<'s>(does: Pressed<'s>) -> (&'static str, &'s str) {
+fn does_words<'s>(does: Pressed<'s>) -> (&'static str, &'s str)
+    ensures word { result.0.now ≡ step_word (step_of does.entry) }
+    ensures command { result.1.now ≡ step_command (step_of does.entry) }
+{
     match does {
-        Pressed::Start(rule) => match rule.command.as_str() {
-            "" => ("nothing", ""),
-            command => ("starts", command),
-        },
+        Pressed::Start(rule) => {
+            let command = rule.command.as_str();
+            (start_word(command), command)
+        }
         Pressed::More => ("chord", ""),
         Pressed::Left => ("left", ""),
         Pressed::Unbound => ("unbound", ""),
     }
+}
+
+/// Keystrokes as a text.
+fn keys_text(alloc: Global, strokes: &[Keystroke]) -> Result<String, NoMemory>
+    ensures { IfOk result (λ made. string_bytes made ≡ chord_spelling strokes.now) }
+{
+    let mut keys = String::new(alloc);
+    write_strokes(strokes, &mut keys)?;
+    Ok(keys)
+}
+
+/// What a press of these keystrokes does, in words.
+fn step_text(alloc: Global, strokes: &[Keystroke], does: Pressed<'_>) -> Result<String, NoMemory>
+    ensures { IfOk result (λ made. IsStepText strokes.now (step_of does.entry) (string_bytes made)) }
+{
+    let keys = keys_text(alloc, strokes)?;
+    let said = does_text(alloc, does)?;
+    let line = format!(in alloc; "{keys}: {said}")?;
+    Ok(line)
+}
+
+/// The same as JSON.
+fn step_json(alloc: Global, strokes: &[Keystroke], does: Pressed<'_>) -> Result<Value, NoMemory>
+    ensures { IfOk result (λ made. IsStepJson strokes.now (step_of does.entry) (view made)) }
+{
+    let keys = keys_text(alloc, strokes)?;
+    let keys = keys.as_str();
+    let (word, command) = does_words(does);
+    json!(in alloc; {"keys": keys, "does": word, "command": command})
 }
 
 /// Writes what the press does.
@@ -124,19 +189,18 @@ fn say_does<W: Write>(
     does: Pressed<'_>,
     form: Form,
     out: &mut W,
-) -> Result<(), Stop> {
-    let mut keys = String::new(alloc);
-    write_strokes(strokes, &mut keys)?;
+) -> Result<(), Stop>
+    ensures { OnOk result (WritesLine (SaysStep form strokes.now (step_of does.entry))
+        (W.contents out.old) (W.contents out.new)) }
+{
     match form {
         Form::Text => {
-            let said = does_text(alloc, does)?;
-            say_text(format!(in alloc; "{keys}: {said}")?, out)
+            say_text(step_text(alloc, strokes, does)?, out)?;
+            Ok(())
         }
         Form::Json => {
-            let (word, command) = does_words(does);
-            let keys = keys.as_str();
-            let object = json!(in alloc; {"keys": keys, "does": word, "command": command})?;
-            say_object(alloc, object, out)
+            say_object(alloc, step_json(alloc, strokes, does)?, out)?;
+            Ok(())
         }
     }
 }
@@ -179,48 +243,60 @@ fn obstacle_json(
 }
 
 /// Writes a rule with what is said of it.
+#[tactic(auto, using(crate::proofs::SaidLemmas::more))]
 fn say_rule<W: Write>(
     alloc: Global,
     named: &Named<'_>,
     rule: &Rule,
     said: &str,
     out: &mut W,
-) -> Result<(), Stop> {
+) -> Result<(), Stop>
+    ensures { OnOk result (WritesMore (W.contents out.old) (W.contents out.new)) }
+{
     let place = place_text(alloc, named, rule.origin, rule.place)?;
     let source = named.bindings.source(rule.origin);
     let text = rule_text(alloc, rule)?;
-    say_text(format!(in alloc; "{place}: {source}: {text}: {said}")?, out)
+    say_text(format!(in alloc; "{place}: {source}: {text}: {said}")?, out)?;
+    Ok(())
 }
 
 /// Writes why a press passes over a rule.
+#[tactic(auto, using(crate::proofs::SaidLemmas::more))]
 fn say_passed<W: Write>(
     alloc: Global,
     situation: &Situation<'_>,
     passed: &Passed<'_>,
     form: Form,
     out: &mut W,
-) -> Result<(), Stop> {
+) -> Result<(), Stop>
+    ensures { OnOk result (WritesMore (W.contents out.old) (W.contents out.new)) }
+{
     match form {
         Form::Text => {
             let said = obstacle_text(alloc, &passed.obstacle, situation.scopes)?;
-            say_rule(alloc, &situation.named, passed.rule, said.as_str(), out)
+            say_rule(alloc, &situation.named, passed.rule, said.as_str(), out)?;
+            Ok(())
         }
         Form::Json => {
             let rule = rule_json(alloc, &situation.named, passed.rule)?;
             let object = obstacle_json(alloc, rule, &passed.obstacle, situation.scopes)?;
-            say_object(alloc, object, out)
+            say_object(alloc, object, out)?;
+            Ok(())
         }
     }
 }
 
 /// Writes that a press takes a rule.
+#[tactic(auto, using(crate::proofs::SaidLemmas::more))]
 fn say_taken<W: Write>(
     alloc: Global,
     situation: &Situation<'_>,
     rule: &Rule,
     form: Form,
     out: &mut W,
-) -> Result<(), Stop> {
+) -> Result<(), Stop>
+    ensures { OnOk result (WritesMore (W.contents out.old) (W.contents out.new)) }
+{
     match form {
         Form::Text => {
             let said = if rule.chord.len() > situation.strokes.len() {
@@ -228,14 +304,36 @@ fn say_taken<W: Write>(
             } else {
                 "is taken"
             };
-            say_rule(alloc, &situation.named, rule, said, out)
+            say_rule(alloc, &situation.named, rule, said, out)?;
+            Ok(())
         }
         Form::Json => {
             let rule = rule_json(alloc, &situation.named, rule)?;
             let object = json!(in alloc; {"rule": rule, "verdict": "taken"})?;
-            say_object(alloc, object, out)
+            say_object(alloc, object, out)?;
+            Ok(())
         }
     }
+}
+
+/// Writes a line for each rule that a press passes over, and for the one that it takes.
+#[tactic(auto, using(crate::proofs::SaidLemmas::more))]
+fn say_explained<W: Write>(
+    alloc: Global,
+    situation: &Situation<'_>,
+    explained: &Explained<'_>,
+    form: Form,
+    out: &mut W,
+) -> Result<(), Stop>
+    ensures { OnOk result (WritesMore (W.contents out.old) (W.contents out.new)) }
+{
+    for passed in &explained.passed {
+        say_passed(alloc, situation, passed, form, out)?;
+    }
+    if let Some(rule) = explained.taken {
+        say_taken(alloc, situation, rule, form, out)?;
+    }
+    Ok(())
 }
 
 /// Writes what a press does and why: a line for what it does; then a line for each rule whose keystrokes
@@ -248,15 +346,19 @@ pub fn say_press<W: Write>(
     situation: &Situation<'_>,
     form: Form,
     out: &mut W,
-) -> Result<(), Stop> {
+) -> Result<(), Stop>
+    // The first line says what the engine's step does.
+    ensures { OnOk result ((before : List Keystroke) → (stroke : Keystroke)
+        → situation.now.strokes.now ≡ before ++ stroke ∷ []
+        → SaysPress form situation.now.strokes.now
+        (step before stroke (context situation.now.scopes.now.seen)
+        (enablement situation.now.named.bindings.now) (rules_of situation.now.named.bindings.now))
+        (W.contents out.old) (W.contents out.new)) }
+{
     let press = explained_press(alloc, situation)?;
     say_does(alloc, situation.strokes, press.does, form, out)?;
-    for passed in &press.explained.passed {
-        say_passed(alloc, situation, passed, form, out)?;
-    }
-    if let Some(rule) = press.explained.taken {
-        say_taken(alloc, situation, rule, form, out)?;
-    }
+    say_explained(alloc, situation, &press.explained, form, out)?;
     say_removed(alloc, &situation.named, situation.strokes, form, out)?;
-    say_dropped(alloc, &situation.named, situation.strokes, form, out)
+    say_dropped(alloc, &situation.named, situation.strokes, form, out)?;
+    Ok(())
 }

@@ -1,10 +1,15 @@
 //! A rule, said.
+ghost use Rattle.std.specs.Prelude.{◌≡◌, IfOk, string_bytes};
+ghost use Rattle.serde_json.specs.View.{view};
+ghost use Rattle.kb_explain_report.specs.RulesSaid.{IsRuleJson, IsRuleText, command_words};
+
 use crate::clauses::clause_text;
 use crate::rule_places::RulePlaces;
 use kb_base::{NoMemory, Origin};
 use kb_bindings::Bindings;
 use kb_rules::Rule;
 use kb_source_files::SourceFiles;
+use kb_when::Clause;
 use serde_json::{Value, json};
 use std::alloc::Global;
 
@@ -61,24 +66,42 @@ pub(crate) fn place_json(
     json!(in alloc; {"source": source, "path": path, "line": line, "column": column})
 }
 
-/// A rule in words: its keystrokes, its command and its clause.
-pub(crate) fn rule_text(alloc: Global, rule: &Rule) -> Result<String, NoMemory> {
-    let keys = rule.chord.text(alloc)?;
-    let command = match rule.command.as_str() {
-        "" => "(no command)",
-        command => command,
-    };
-    match &rule.when {
+/// The identifier of a command in words.
+fn command_text(command: &str) -> &str
+    ensures { result.now ≡ command_words command.entry.now }
+{
+    if command.is_empty() {
+        return "(no command)";
+    }
+    command
+}
+
+/// A rule's clause in words, if it has one.
+fn when_text(alloc: Global, clause: Option<&Clause>) -> Result<String, NoMemory> {
+    match clause {
         Some(clause) => {
             let clause = clause_text(alloc, clause)?;
-            format!(in alloc; "{keys} {command} when {clause}")
+            format!(in alloc; " when {clause}")
         }
-        None => format!(in alloc; "{keys} {command}"),
+        None => Ok(String::new(alloc)),
     }
 }
 
+/// A rule in words: its keystrokes, its command and its clause.
+pub(crate) fn rule_text(alloc: Global, rule: &Rule) -> Result<String, NoMemory>
+    ensures { IfOk result (λ made. IsRuleText rule.now (string_bytes made)) }
+{
+    let keys = rule.chord.text(alloc)?;
+    let command = command_text(rule.command.as_str());
+    let when = when_text(alloc, rule.when.as_ref())?;
+    let text = format!(in alloc; "{keys} {command}{when}")?;
+    Ok(text)
+}
+
 /// A rule as JSON, with its place.
-pub(crate) fn rule_json(alloc: Global, named: &Named<'_>, rule: &Rule) -> Result<Value, NoMemory> {
+pub(crate) fn rule_json(alloc: Global, named: &Named<'_>, rule: &Rule) -> Result<Value, NoMemory>
+    ensures { IfOk result (λ made. IsRuleJson rule.now (view made)) }
+{
     let keys = rule.chord.text(alloc)?;
     let keys = keys.as_str();
     let command = rule.command.as_str();

@@ -1,4 +1,3 @@
-use Rattle.std.proofs.Common.{List, ℕ}
 use Rattle.std.specs.Prelude.{string_bytes}
 use Rattle.serde_json.specs.View.{view}
 use Rattle.kb_explain_report.proofs.context_said.say_one.Goals as goal

@@ -1,4 +1,4 @@
-use Rattle.std.proofs.Common.{◌≡◌, ◌≤◌, ◌∙◌, List, ℕ, ap, arith, length, map, sym, take}
+use Rattle.std.proofs.Common.{◌≤◌, ◌∙◌, List, ap, arith, length, map, sym}
 use Rattle.std.proofs.lemmas.List.{take_all}
 use Rattle.serde_json.proofs.Views.{view-Array}
 use Rattle.serde_json.specs.Data.{Data, array, string}

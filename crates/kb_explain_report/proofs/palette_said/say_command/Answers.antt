@@ -1,0 +1,26 @@
+use Rattle.std.proofs.Common.{rules}
+use Rattle.std.specs.Prelude.{string_bytes}
+use Rattle.serde_json.specs.View.{view}
+use Rattle.kb_explain_report.proofs.palette_said.say_command.Goals as goal
+
+pub returns-in_ok-say_text-in-Text : goal.returns-in_ok-say_text-in-Text
+returns-in_ok-say_text-in-Text g c = rw c.in-Text.is record {
+  line = string_bytes c.in_ok-format-in-Text.field-0;
+  is = (
+    c.in_ok-why.why,
+    c.in_ok-why.ensures,
+    (string_bytes c.in_ok-said-in-Text.said, c.in_ok-said-in-Text.ensures, search rules),
+  );
+  got = c.in_ok-say_text-in-Text.ensures.ok;
+}
+
+pub returns-in_ok-say_object-in-Json : goal.returns-in_ok-say_object-in-Json
+returns-in_ok-say_object-in-Json g c = rw c.in-Json.is record {
+  line = c.in_ok-say_object-in-Json.ensures.line;
+  is = (
+    c.in_ok-why.why,
+    c.in_ok-why.ensures,
+    (view c.in_ok-object-in-Json.object, c.in_ok-object-in-Json.ensures, c.in_ok-say_object-in-Json.ensures.is),
+  );
+  got = c.in_ok-say_object-in-Json.ensures.got;
+}
