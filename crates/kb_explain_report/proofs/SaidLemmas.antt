@@ -1,5 +1,6 @@
 -- Lemmas on what is written.
-use Rattle.std.proofs.Common.{◌≡◌, ◌≤◌, ◌+◌, ◌-◌, ◌++◌, ◌∙◌, ℕ, zero, suc, List, [], ◌∷◌, drop, get_or, length, map, take}
+use Rattle.std.proofs.Common.{◌≡◌, ◌≤◌, ◌+◌, ◌-◌, ◌++◌, ◌∙◌, ℕ, zero, suc, List, [], ◌∷◌}
+use Rattle.std.proofs.Common.{drop, get_or, length, map, take}
 use Rattle.std.proofs.Common.{add-one, ap, arith, subst, sym}
 use Rattle.std.specs.Prelude.{Option, Some, slice_get}
 use Rattle.std.specs.Io.KnownBytes.{Appends}
@@ -11,7 +12,8 @@ use Rattle.serde_json.specs.declared.value.Value.{Value}
 use Rattle.kb_explain_report.specs.Said.{WritesEach, WritesLine, WritesMore}
 
 -- what is left of a list from a place on begins with the element there
-left_from : {A : Type 0} (xs : List A) (i : ℕ) (x : A) → slice_get xs i ≡ Some x → drop i xs ≡ x ∷ drop (suc i) xs
+left_from : {A : Type 0} (xs : List A) (i : ℕ) (x : A) → slice_get xs i ≡ Some x
+    → drop i xs ≡ x ∷ drop (suc i) xs
 left_from [] i x e = absurd (cc)
 left_from (y ∷ ys) zero x e = cc
 left_from (y ∷ ys) (suc i) x e = left_from ys i x e

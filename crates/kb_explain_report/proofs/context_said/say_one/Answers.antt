@@ -12,6 +12,10 @@ returns-in_ok-say_text-in-Text g c = rw c.in-Text.is record {
 pub returns-in_ok-say_object-in-Json : goal.returns-in_ok-say_object-in-Json
 returns-in_ok-say_object-in-Json g c = rw c.in-Json.is record {
   line = c.in_ok-say_object-in-Json.ensures.line;
-  is = (view c.in_ok-seen_json-in-Json.field-0, c.in_ok-seen_json-in-Json.ensures, c.in_ok-say_object-in-Json.ensures.is);
+  is = (
+    view c.in_ok-seen_json-in-Json.field-0,
+    c.in_ok-seen_json-in-Json.ensures,
+    c.in_ok-say_object-in-Json.ensures.is,
+  );
   got = c.in_ok-say_object-in-Json.ensures.got;
 }

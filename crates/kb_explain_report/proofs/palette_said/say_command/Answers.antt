@@ -20,7 +20,11 @@ returns-in_ok-say_object-in-Json g c = rw c.in-Json.is record {
   is = (
     c.in_ok-why.why,
     c.in_ok-why.ensures,
-    (view c.in_ok-object-in-Json.object, c.in_ok-object-in-Json.ensures, c.in_ok-say_object-in-Json.ensures.is),
+    (
+      view c.in_ok-object-in-Json.object,
+      c.in_ok-object-in-Json.ensures,
+      c.in_ok-say_object-in-Json.ensures.is,
+    ),
   );
   got = c.in_ok-say_object-in-Json.ensures.got;
 }
