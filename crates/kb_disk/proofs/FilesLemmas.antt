@@ -1,10 +1,10 @@
 -- Files that were read, and files of directories that could not be read.
-use Rattle.std.proofs.Common.{◌≡◌, ℕ, List, refl, subst}
+use Rattle.std.proofs.Common.{ℕ, List, refl}
 use Rattle.std.specs.Borrow.{Bor}
-use Rattle.std.specs.Prelude.{Option, None, Some, Result, Ok, Err, option_map}
+use Rattle.std.specs.Prelude.{Option, None, Some, Ok, Err, option_map}
 use Rattle.kb_base.specs.declared.failure.Failure.{Failure}
-use Rattle.kb_base.specs.declared.failure.Failure.TheVariants.{Fault}
-use Rattle.kb_disk.specs.Files.{Held, unknown, refuses, holds, GivesIfThere, HasIfThere, HasRead, FailsReadingIn}
+use Rattle.kb_base.specs.declared.failure.Failure.TheVariants.{Fault, NoMemory}
+use Rattle.kb_disk.specs.Files.{Held, unknown, refuses, holds, GivesIfThere, HasIfThere, HasRead, FailsReadingIn, failure_in}
 use Rattle.kb_disk.specs.declared.cannot_read.CannotRead.TheVariants.{InDirectory}
 use Rattle.kb_disk.specs.declared.cannot_read.DirFile.TheVariants.{Package, Handlers}
 use Rattle.kb_stream.specs.declared.reading.ReadFault.{ReadFault}
@@ -27,19 +27,14 @@ unread unknown view dir fault has = (refl, refl, tt, (fault, has))
 unread (refuses kind) view dir fault has = (refl, refl, tt, (fault, has))
 unread (holds bytes) view dir fault has = (refl, refl, tt, (fault, has))
 
--- a manifest that could not be read, at a path
-pub unread_at : {B : Type 0} (held : List ℕ → Held) (view : B → List ℕ) (dir : Bor (List ℕ)) (path at : List ℕ)
-    → at ≡ path → (r : Result B (Failure ReadFault)) (fault : ReadFault) → r ≡ Err (Fault fault)
-    → HasRead (held at) view r → FailsReadingIn Package (held path) dir (Fault (InDirectory dir Package))
-unread_at held view dir path at is r fault fails has =
-    let there = subst (λ p. HasRead (held p) view r) is has in
-    unread (held path) view dir fault (subst (λ (x : Result _ (Failure ReadFault)). HasRead (held path) view x) fails there)
+-- a manifest that could not be read
+pub unread_manifest : {B : Type 0} (held : Held) (view : B → List ℕ) (dir : Bor (List ℕ)) (failure : Failure ReadFault)
+    → HasRead held view (Err failure) → FailsReadingIn Package held dir (failure_in dir Package failure)
+unread_manifest held view dir NoMemory has = tt
+unread_manifest held view dir (Fault fault) has = unread held view dir fault has
 
--- handlers that exist and could not be read, at a path
-pub unread_there : {B : Type 0} (held : List ℕ → Held) (view : B → List ℕ) (dir : Bor (List ℕ)) (path at : List ℕ)
-    → at ≡ path → (r : Result (Option B) (Failure ReadFault)) (fault : ReadFault) → r ≡ Err (Fault fault)
-    → HasIfThere (held at) view r → FailsReadingIn Handlers (held path) dir (Fault (InDirectory dir Handlers))
-unread_there held view dir path at is r fault fails has =
-    let there = subst (λ p. HasIfThere (held p) view r) is has in
-    let had = subst (λ (x : Result (Option _) (Failure ReadFault)). HasIfThere (held path) view x) fails there in
-    (refl, refl, had.0, (fault, had.1))
+-- handlers that exist and could not be read
+pub unread_handlers : {B : Type 0} (held : Held) (view : B → List ℕ) (dir : Bor (List ℕ)) (failure : Failure ReadFault)
+    → HasIfThere {B = B} held view (Err failure) → FailsReadingIn Handlers held dir (failure_in dir Handlers failure)
+unread_handlers held view dir NoMemory has = tt
+unread_handlers held view dir (Fault fault) has = (refl, refl, has.0, (fault, has.1))

@@ -59,6 +59,10 @@ abbrev pub file_failure : Bor (List ℕ) → Failure ReadFault → Failure Canno
 file_failure path NoMemory = NoMemory
 file_failure path (Fault fault) = Fault (File path)
 
+abbrev pub failure_in : Bor (List ℕ) → DirFile → Failure ReadFault → Failure CannotRead
+failure_in dir file NoMemory = NoMemory
+failure_in dir file (Fault fault) = Fault (InDirectory dir file)
+
 -- reading the file at a path fails
 pub record FailsReading (held : Held) (path : Bor (List ℕ)) (failure : Failure CannotRead) : Type 0 where
   pub failed : Failure ReadFault

@@ -1,11 +1,12 @@
 //! Reads the files of an extension's directory.
 ghost use Rattle.std.specs.Prelude.{◌≡◌, IfOk};
 ghost use Rattle.kb_disk.specs.CannotRead.{path_in};
-ghost use Rattle.kb_disk.specs.Files.{HasManifest, HasHandlers};
+ghost use Rattle.kb_disk.specs.Files.{HasManifest, HasHandlers, failure_in};
 
 use crate::cannot_read::{CannotRead, DirFile};
 use crate::files::{FileSource, read_file, read_if_there};
 use kb_base::{Failure, NoMemory};
+use kb_stream::ReadFault;
 use std::alloc::Global;
 
 /// The path of a file of an extension's directory: the directory's path as given, `/` and the file's name.
@@ -18,10 +19,22 @@ pub fn path_in(alloc: Global, dir: &str, file: DirFile) -> Result<String, NoMemo
     format!(in alloc; "{dir}/{name}")
 }
 
+/// Adds to a failure which file of a directory could not be read.
+fn failure_in<'a>(
+    dir: &'a str,
+    file: DirFile,
+    failure: Failure<ReadFault>,
+) -> Failure<CannotRead<'a>>
+    ensures { result ≡ failure_in dir.entry file failure }
+{
+    failure.map_fault(|_| CannotRead::InDirectory(dir, file))
+}
+
 /// The bytes of the manifest of an extension's directory, which is the file `package.json` in it.
 ///
 /// Errors: `CannotRead::InDirectory` if the file does not open, cannot be read or is longer than
 /// `FILE_LIMIT`, or refused memory.
+#[tactic(auto, using(crate::proofs::FilesLemmas::unread_manifest))]
 pub fn manifest_in<'a, F: FileSource>(
     files: &F,
     alloc: Global,
@@ -32,11 +45,7 @@ pub fn manifest_in<'a, F: FileSource>(
     let path = path_in(alloc, dir, DirFile::Package)?;
     match read_file(files, alloc, path.as_str()) {
         Ok(bytes) => Ok(bytes),
-        Err(Failure::NoMemory) => Err(Failure::NoMemory),
-        Err(Failure::Fault(_fault)) => {
-            let unread = CannotRead::InDirectory(dir, DirFile::Package);
-            Err(Failure::Fault(unread))
-        }
+        Err(failure) => Err(failure_in(dir, DirFile::Package, failure)),
     }
 }
 
@@ -44,6 +53,7 @@ pub fn manifest_in<'a, F: FileSource>(
 /// `None` if no such file exists. A file that exists and does not open is an error (our decision).
 ///
 /// Errors: those of [`manifest_in`].
+#[tactic(auto, using(crate::proofs::FilesLemmas::unread_handlers))]
 pub fn handlers_in<'a, F: FileSource>(
     files: &F,
     alloc: Global,
@@ -54,10 +64,6 @@ pub fn handlers_in<'a, F: FileSource>(
     let path = path_in(alloc, dir, DirFile::Handlers)?;
     match read_if_there(files, alloc, path.as_str()) {
         Ok(bytes) => Ok(bytes),
-        Err(Failure::NoMemory) => Err(Failure::NoMemory),
-        Err(Failure::Fault(_fault)) => {
-            let unread = CannotRead::InDirectory(dir, DirFile::Handlers);
-            Err(Failure::Fault(unread))
-        }
+        Err(failure) => Err(failure_in(dir, DirFile::Handlers, failure)),
     }
 }

@@ -3,6 +3,7 @@ use Rattle.std.specs.Prelude.{◌≡◌, ◌⊎◌, ⊤, ℕ, List, map, Err, �
 use Rattle.kb_base.specs.declared.failure.Failure.{Failure}
 use Rattle.kb_base.specs.declared.failure.Failure.TheVariants.{NoMemory, Fault}
 use Rattle.kb_core.specs.declared.native.Native.{Native}
+use Rattle.kb_files.specs.declared.fault.LoadFault.{LoadFault}
 use Rattle.kb_end_to_end.specs.declared.TranscriptFault.{TranscriptFault}
 use Rattle.kb_end_to_end.specs.declared.TranscriptFault.TheVariants.{Load, Script}
 use Rattle.kb_script.specs.Script.{said_of, bare}
@@ -33,6 +34,15 @@ FailsToRun script.TooLong text = 16777216 < length text
 FailsToRun script.ReadFailed text = ⊤
 FailsToRun script.WriteFailed text = ⊤
 FailsToRun script.Trapped text = ⊥
+
+-- the failure of a load, and that of a script, as one of a transcript
+abbrev pub of_load : Failure LoadFault → Failure TranscriptFault
+of_load NoMemory = NoMemory
+of_load (Fault fault) = Fault (Load fault)
+
+abbrev pub of_script : Failure ScriptFault → Failure TranscriptFault
+of_script NoMemory = NoMemory
+of_script (Fault fault) = Fault (Script fault)
 
 -- the failures of a transcript: that of the load, that of the script, or refused memory
 abbrev pub FailsToGive : Files → List Native → List ℕ → Failure TranscriptFault → Type 0

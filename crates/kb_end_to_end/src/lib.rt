@@ -4,8 +4,8 @@
 //! (`docs/TESTING.md`).
 #![tactic(auto)]
 
-ghost use Rattle.std.specs.Prelude.{IfOk, IfErr, map};
-ghost use Rattle.kb_end_to_end.specs.Transcript.{IsTranscript, FailsToGive};
+ghost use Rattle.std.specs.Prelude.{◌≡◌, IfOk, IfErr, map};
+ghost use Rattle.kb_end_to_end.specs.Transcript.{IsTranscript, FailsToGive, of_load, of_script};
 ghost use Rattle.kb_bindings.specs.Load.{files_of};
 
 mod alike;
@@ -25,12 +25,27 @@ pub enum TranscriptFault {
     Script(ScriptFault),
 }
 
+/// The failure of a load as one of a transcript.
+fn load_failure(failure: Failure<LoadFault>) -> Failure<TranscriptFault>
+    ensures { result ≡ of_load failure }
+{
+    failure.map_fault(TranscriptFault::Load)
+}
+
+/// The failure of a script as one of a transcript.
+fn script_failure(failure: Failure<ScriptFault>) -> Failure<TranscriptFault>
+    ensures { result ≡ of_script failure }
+{
+    failure.map_fault(TranscriptFault::Script)
+}
+
 /// Loads a session with these files and closures, runs a script in it beside a shelf of more closures, and
 /// returns what the script writes. That is the text that the model defines. It depends on the closures only
 /// by the natives that they stand for.
 ///
 /// Errors: `Load` with the fault of `Session::load`, `Script` with the fault of `run_script`, and
 /// `NoMemory`. `Stopped` and `Trapped` never occur: the session is new, and its handlers are verified.
+#[tactic(auto, using(crate::proofs::Transcripts::load_fails))]
 pub fn transcript<C: HostCommand>(
     alloc: Global,
     inputs: Inputs<'_>,
@@ -45,8 +60,7 @@ pub fn transcript<C: HostCommand>(
 {
     let mut session = match Session::load(alloc, inputs, natives) {
         Ok(session) => session,
-        Err(Failure::NoMemory) => return Err(Failure::NoMemory),
-        Err(Failure::Fault(fault)) => return Err(Failure::Fault(TranscriptFault::Load(fault))),
+        Err(failure) => return Err(load_failure(failure)),
     };
     let mut shelf = shelf;
     let mut out = Vec::new(alloc);
@@ -55,7 +69,6 @@ pub fn transcript<C: HostCommand>(
     drop(session.into_trace());
     match ran {
         Ok(()) => Ok(out),
-        Err(Failure::NoMemory) => Err(Failure::NoMemory),
-        Err(Failure::Fault(fault)) => Err(Failure::Fault(TranscriptFault::Script(fault))),
+        Err(failure) => Err(script_failure(failure)),
     }
 }

@@ -3,7 +3,9 @@ use Rattle.std.proofs.Common.{◌≡◌, arith, subst, ℕ, ℤ, pos, negsuc, su
 use Rattle.std.proofs.Common.{List, [], ◌∷◌, ◌++◌, map, length, take, Option, Some, None, Result, Ok, refl, sym, ap, ◌∙◌}
 use Rattle.std.proofs.Common.{option_map, option_and_then}
 use Rattle.std.specs.Prelude.{◌==◌, nat_lt, decimal, if◌then◌else◌}
-use Rattle.std.proofs.lemmas.Bool.{ne_eqb, lt-ltb}
+use Rattle.std.proofs.Math.Seq.{take-length}
+use Rattle.std.proofs.lemmas.Bool.{ne_eqb, lt-ltb, not-true}
+use Rattle.std.proofs.lemmas.List.{append-nil}
 use Rattle.std.proofs.lemmas.Fmt.{decimal_is_IsNumeral}
 use Rattle.std.proofs.lemmas.Str.Parse.{digit_at}
 use Rattle.std.specs.Str.Parse.{AllDigits}
@@ -81,16 +83,12 @@ pub record Plain (b : ℕ) : Type 0 where
   pub no_backslash : (b == 92) ≡ false
   pub no_control : nat_lt b 32 ≡ false
 
-not_true : (a : Bool) → not a ≡ true → a ≡ false
-not_true true h = sym h
-not_true false h = refl
-
 plain_byte : (b : ℕ) → is_plain b ≡ true → Plain b
 plain_byte b h =
     let rest = and_right (not (nat_lt b 32)) (not (b == 34) && not (b == 92)) h in record {
-      no_quote = not_true (b == 34) (and_left (not (b == 34)) (not (b == 92)) rest);
-      no_backslash = not_true (b == 92) (and_right (not (b == 34)) (not (b == 92)) rest);
-      no_control = not_true (nat_lt b 32) (and_left (not (nat_lt b 32)) (not (b == 34) && not (b == 92)) h);
+      no_quote = not-true (b == 34) (and_left (not (b == 34)) (not (b == 92)) rest);
+      no_backslash = not-true (b == 92) (and_right (not (b == 34)) (not (b == 92)) rest);
+      no_control = not-true (nat_lt b 32) (and_left (not (nat_lt b 32)) (not (b == 34) && not (b == 92)) h);
     }
 
 abbrev AllPlain : List ℕ → Type 0
@@ -114,10 +112,6 @@ string_ends (b ∷ c ∷ s) plain =
     rw (plain.0.no_quote, plain.0.no_backslash) (ap (option_map (λ n. n + 1)) (string_ends (c ∷ s) plain.1)
     ∙ ap Some (one_more (length (c ∷ (s ++ 34 ∷ [])))))
 
-all_taken : (bs : List ℕ) → take (length bs) bs ≡ bs
-all_taken [] = refl
-all_taken (b ∷ bs) = ap (λ (l : List ℕ). b ∷ l) (all_taken bs)
-
 none_past : (bs : List ℕ) → pieces_past (length bs) bs ≡ Ok []
 none_past [] = refl
 none_past (b ∷ bs) = none_past bs
@@ -126,7 +120,7 @@ quoted_piece : (s : List ℕ) → AllPlain s → first_piece 34 (s ++ 34 ∷ [])
 unfolding first_piece
 quoted_piece s plain =
     ap (λ n. or_fault OpenString (option_map (λ k. quoted (34 ∷ take k (s ++ 34 ∷ []))) n)) (string_ends s plain)
-    ∙ ap (λ (l : List ℕ). Ok (quoted (34 ∷ l))) (all_taken (s ++ 34 ∷ []))
+    ∙ ap (λ (l : List ℕ). Ok (quoted (34 ∷ l))) (take-length (s ++ 34 ∷ []))
 
 quoted_pieces : (s : List ℕ) → AllPlain s → pieces (34 ∷ (s ++ 34 ∷ [])) ≡ Ok (quoted (34 ∷ (s ++ 34 ∷ [])) ∷ [])
 quoted_pieces s plain =
@@ -134,14 +128,10 @@ quoted_pieces s plain =
     ∙ ap (λ n. pieces_past n (s ++ 34 ∷ []) >>= λ ps. Ok (quoted (34 ∷ (s ++ 34 ∷ [])) ∷ ps)) (one_less (length (s ++ 34 ∷ [])))
     ∙ ap (λ r. r >>= λ ps. Ok (quoted (34 ∷ (s ++ 34 ∷ [])) ∷ ps)) (none_past (s ++ 34 ∷ []))
 
-append_nil : (bs : List ℕ) → bs ++ [] ≡ bs
-append_nil [] = refl
-append_nil (b ∷ bs) = ap (λ (l : List ℕ). b ∷ l) (append_nil bs)
-
 quoted_text : (s : List ℕ) → AllPlain s → plain_text (34 ∷ (s ++ 34 ∷ [])) ≡ Ok (34 ∷ (s ++ 34 ∷ []))
 unfolding plain_text
 quoted_text s plain =
-    ap (λ r. r >>= λ ps. Ok (plain_of None ps)) (quoted_pieces s plain) ∙ ap (λ l. Ok (34 ∷ l)) (append_nil (s ++ 34 ∷ []))
+    ap (λ r. r >>= λ ps. Ok (plain_of None ps)) (quoted_pieces s plain) ∙ ap (λ l. Ok (34 ∷ l)) (append-nil (s ++ 34 ∷ []))
 
 is_not : (b c : ℕ) → (b == c) ≡ false → b ≡ c → ⊥
 is_not b c off e = grind (arith, nat_tests)
@@ -161,14 +151,14 @@ read_tokens ts = option_and_then of_json (option_and_then (λ p. json.if_last p.
 read_string : (s : List ℕ) → AllPlain s → read (34 ∷ (s ++ 34 ∷ [])) ≡ Some (string s)
 unfolding print_from ArePrintable json.value
 read_string s plain =
-    let text = append_nil (34 ∷ (s ++ 34 ∷ [])) in
+    let text = append-nil (34 ∷ (s ++ 34 ∷ [])) in
     ap read (sym (ap (λ (l : List ℕ). (34 ∷ (l ++ 34 ∷ [])) ++ []) (escape_plain s plain) ∙ text))
     ∙ ap read_tokens (tokens-print (token.string s ∷ []) (tt, tt))
 
 read_number : (z : ℤ) → mag z < 2 ^ 63 → read (signed_decimal z) ≡ option_map number (json_value.number_of (signed_decimal z))
 unfolding print_from ArePrintable json_value.number_of json.value
 read_number z small =
-    ap read (sym (append_nil (signed_decimal z)))
+    ap read (sym (append-nil (signed_decimal z)))
     ∙ ap read_tokens (tokens-print (token.number (signed_decimal z) ∷ []) (IsNumber-signed_decimal z small, tt))
 
 value_utf8 : (text plain : List ℕ) (d : Data) → IsUtf8 text → without_mark text ≡ text → plain_text text ≡ Ok text

@@ -43,11 +43,7 @@ fn instrs_of(
     if bytes.len() % INSTR_BYTES == 0 && bytes.len() / INSTR_BYTES > INSTR_LIMIT {
         return Err(Failure::Fault(HandlersFault::TooLarge));
     }
-    match decode(alloc, bytes, version) {
-        Ok(instrs) => Ok(instrs),
-        Err(Failure::Fault(fault)) => Err(Failure::Fault(HandlersFault::Code(fault))),
-        Err(Failure::NoMemory) => Err(Failure::NoMemory),
-    }
+    decode(alloc, bytes, version).map_err(|failure| failure.map_fault(HandlersFault::Code))
 }
 
 /// The code of these instructions. Errors: `Code` and `NoMemory`.
@@ -58,11 +54,7 @@ fn formed(
 ) -> Result<Code, Failure<HandlersFault>>
     ensures { Gives (λ code. code) result (formed instrs (code_fault version instrs)) }
 {
-    match Code::new(alloc, instrs, version) {
-        Ok(code) => Ok(code),
-        Err(Failure::Fault(fault)) => Err(Failure::Fault(HandlersFault::Code(fault))),
-        Err(Failure::NoMemory) => Err(Failure::NoMemory),
-    }
+    Code::new(alloc, instrs, version).map_err(|failure| failure.map_fault(HandlersFault::Code))
 }
 
 /// Decodes the code of a hexadecimal text. Errors: `BadHex`, `TooLarge`, `Code` and `NoMemory`.

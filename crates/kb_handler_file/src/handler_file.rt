@@ -142,11 +142,10 @@ fn read_handler(
 ) -> Result<Handler, Failure<HandlersFault>>
     ensures { Gives (λ handler. handler) result (handler_of version (view element)) }
 {
-    match read_entry(alloc, element) {
-        Ok(entry) => handler_in(alloc, entry, version),
-        Err(Failure::Fault(shape)) => Err(Failure::Fault(HandlersFault::Shape(shape))),
-        Err(Failure::NoMemory) => Err(Failure::NoMemory),
-    }
+    let entry = read_entry(alloc, element).map_err(|failure| failure.map_fault(
+        HandlersFault::Shape,
+    ))?;
+    handler_in(alloc, entry, version)
 }
 
 /// Makes a handler from its members. Errors: `TooLarge`, `BadHex`, `Code` and `NoMemory`.

@@ -1,3 +1,4 @@
+pub mod BeginsLemmas
 pub mod ChordLemmas
 pub mod ChordReadsBack
 pub mod KeyNameLemmas

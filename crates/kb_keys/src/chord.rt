@@ -1,6 +1,6 @@
 //! Chords: keystrokes pressed one after another.
 ghost use Rattle.std.specs.Prelude.{◌≡◌, ◌<◌, ◌≤◌, ◌+◌, ◌↔◌, length, List, [], ◌∷◌, ◌++◌, IfOk, OnOk, Ok};
-ghost use Rattle.std.specs.Prelude.{string_bytes, option_to_list, IsTrue, IsSome};
+ghost use Rattle.std.specs.Prelude.{string_bytes, option_to_list, IsTrue, IsFalse, IsSome, false};
 ghost use Rattle.std.specs.Str.{IsUtf8};
 ghost use Rattle.kb_keys.specs.Keystroke.{KnownKeys};
 ghost use Rattle.kb_keys.specs.Chord.{chord_limit, chord_of, steps_of, with_step, chord_spelling};
@@ -152,7 +152,21 @@ impl Chord {
         ensures front { IsTrue result ↔ ((more : List Keystroke) × (self.now ≡ pressed.now ++ more)) }
         ensures bound { IsTrue result → length pressed.now ≤ length self.now }
     {
-        self.strokes.as_slice().starts_with(pressed)
+        self.has_last_of(pressed) && self.strokes.as_slice().starts_with(pressed)
+    }
+
+    /// Whether the last of several keystrokes is in its place. A search compares rules that all begin with
+    /// the first keystroke, so this tells most of those that differ.
+    #[tactic(auto, using(crate::proofs::BeginsLemmas::apart))]
+    fn has_last_of(&self, pressed: &[Keystroke]) -> bool
+        ensures { IsFalse result → begins_with self.now pressed.now ≡ false }
+    {
+        let strokes = self.strokes.as_slice();
+        if pressed.len() < 2 || strokes.len() < pressed.len() {
+            return true;
+        }
+        let place = pressed.len() - 1;
+        strokes[place] == pressed[place]
     }
 
     /// Whether both chords have the same keystrokes in the same order.

@@ -1,12 +1,15 @@
 //! The lines of a script and their parser.
-ghost use Rattle.std.specs.Prelude.{◌≡◌, ◌<◌, ◌∷◌, false, true, None, Ok};
+ghost use Rattle.std.specs.Prelude.{◌≡◌, ◌<◌, ◌∷◌, ◌++◌, ℕ, List, codes, false, true, None, Some, Ok};
 ghost use Rattle.std.specs.Prelude.{IfOk, IfSome, IsSome, OnErr, MatchOption, option_map, position, length};
 ghost use Rattle.std.specs.Char.{is_ascii_digit};
 ghost use Rattle.std.specs.List.{list_any, list_all};
 ghost use Rattle.std.specs.Str.{is_utf8};
 ghost use Rattle.kb_core.specs.Native.{named};
+ghost use Rattle.kb_keys.specs.Keystroke.{keystroke_of};
 ghost use Rattle.kb_script.specs.Script as script;
 ghost use Rattle.kb_script.specs.ScriptLine.{said_by, TakesAs};
+ghost use Rattle.kb_script.specs.Shelf.{tells};
+ghost use Rattle.kb_session.specs.State.{happens};
 ghost use Rattle.kb_trace.specs.declared.event.Event.TheVariants as event;
 
 use kb_base::{Failure, NoMemory, Refusal, Text, is_blank_text};
@@ -109,28 +112,26 @@ fn text_of(line: &[u8]) -> Option<&str>
     }
 }
 
-/// Parses a line: one of several words by its first word, or one of a single word. Key presses, which most
-/// lines are, are told by their first bytes.
-#[tactic(auto, using(crate::proofs::LineLemmas::key_said))]
+/// The key of a line `key KEY` with a text that is a key, `None` for any other line. Most lines are such
+/// presses, so they are told by their first bytes, and no [`ScriptLine`] is made.
+#[tactic(auto, using(crate::proofs::LineLemmas::pressed))]
+pub(crate) fn pressed_key(line: &[u8]) -> Option<Keystroke>
+    ensures { IfSome result (λ key. (number : ℕ)
+        → script.line_said number line.now ≡ Some (tells (happens (event.Key key)))) }
+{
+    key_in(text_of(line)?)
+}
+
+fn key_in(text: &str) -> Option<Keystroke>
+    ensures { IfSome result (λ key. (rest : List ℕ)
+        × (text.now ≡ codes "key " ++ rest) × (keystroke_of rest ≡ Ok key)) }
+{
+    let key = text.strip_prefix("key ")?;
+    Keystroke::parse(key).ok()
+}
+
+/// Parses a line: one of several words by its first word, or one of a single word.
 fn read_words<'a>(alloc: Global, text: &'a str) -> Result<Option<ScriptLine<'a>>, NoMemory>
-    ensures { IfOk result (λ said. option_map said_by said
-        ≡ script.words_said text.now (script.split_word text.now)) }
-{
-    match text.strip_prefix("key ") {
-        Some(key) => Ok(key_line(key)),
-        None => read_other(alloc, text),
-    }
-}
-
-/// The press that the line `key KEY` is.
-fn key_line<'a>(key: &str) -> Option<ScriptLine<'a>>
-    ensures { option_map said_by result ≡ script.event_said (script.key_event key.now) }
-{
-    line_of(read_key(key))
-}
-
-/// Parses any line, as `read_words` does.
-fn read_other<'a>(alloc: Global, text: &'a str) -> Result<Option<ScriptLine<'a>>, NoMemory>
     ensures { IfOk result (λ said. option_map said_by said
         ≡ script.words_said text.now (script.split_word text.now)) }
 {
@@ -177,7 +178,7 @@ fn read_event<'a>(
         option_map said_by said ≡ script.event_said (script.event_told word.now rest.now)) }
 {
     match word {
-        "key" => Ok(key_line(rest)),
+        "key" => Ok(line_of(read_key(rest))),
         "focus" => Ok(line_of(read_focus(alloc, rest)?)),
         "set" => read_set(alloc, rest),
         "unset" => Ok(read_unset(rest)),

@@ -118,12 +118,13 @@ fn run_either<R: Read, W: Write, C: HostCommand>(
     if session.is_stopped() {
         return Err(Failure::Fault(ScriptFault::Stopped));
     }
-    match run_lines(alloc, script.as_slice(), writer, session, shelf, kept) {
-        Ok(true) => Err(Failure::Fault(ScriptFault::Trapped)),
-        Ok(false) => Ok(()),
-        Err(Failure::NoMemory) => Err(Failure::NoMemory),
-        Err(Failure::Fault(WriteRefused)) => Err(Failure::Fault(ScriptFault::WriteFailed)),
+    let trapped = run_lines(alloc, script.as_slice(), writer, session, shelf, kept).map_err(
+        |failure| failure.map_fault(|_| ScriptFault::WriteFailed),
+    )?;
+    if trapped {
+        return Err(Failure::Fault(ScriptFault::Trapped));
     }
+    Ok(())
 }
 
 /// Runs the lines of a script, numbered from 1, up to one in which a handler traps, and returns whether one

@@ -9,7 +9,7 @@ ghost use Rattle.kb_script.specs.Shelf.{tells, takes, beside, move, Obeys, on_sh
 ghost use Rattle.kb_session.specs.State.{dispose, stops};
 ghost use Rattle.kb_stream.specs.Fold.{after_all};
 
-use crate::script::{ScriptLine, read_line};
+use crate::script::{ScriptLine, pressed_key, read_line};
 use kb_base::NoMemory;
 use kb_core::Native;
 use kb_execute::Finish;
@@ -23,6 +23,35 @@ use std::alloc::{AllocError, Global};
 /// is stopped, and the shelf still has all its closures.
 #[tactic(auto, using(crate::proofs::ShelfLemmas::halting, kb_session::proofs::Stopping::answers_quietly))]
 pub fn obey<C: HostCommand>(
+    alloc: Global,
+    number: u64,
+    line: &[u8],
+    session: &mut Session<C>,
+    shelf: &mut Vec<C>,
+) -> Result<Finish, NoMemory>
+    requires { session.old.state.stopped ≡ false }
+    ensures ok { OnOk result (beside session.new (map C.stands_for shelf.new.items)
+        ≡ after_all move (option_to_list
+        (option_map (marked session.new.state.sources.user.unread) (script.line_said number line.now)))
+        (beside session.old (map C.stands_for shelf.old.items))) }
+    ensures stops { IfOk result (λ finish. session.new.state.stopped ≡ stops finish) }
+    ensures err { OnErr result (Halts (beside session.old (map C.stands_for shelf.old.items)).state
+        (beside session.new (map C.stands_for shelf.new.items)).state) }
+    ensures trace { OnErr result (session.new.trace ≡ session.old.trace) }
+    ensures asked { OnErr result (IsSome (script.line_said number line.now)) }
+{
+    match pressed_key(line) {
+        Some(key) => match session.handle_fully(Event::Key(key)) {
+            Ok(handled) => Ok(handled.finish),
+            Err(_) => Err(AllocError),
+        },
+        None => obey_other(alloc, number, line, session, shelf),
+    }
+}
+
+/// The same as [`obey`] for any line.
+#[tactic(auto, using(crate::proofs::ShelfLemmas::halting, kb_session::proofs::Stopping::answers_quietly))]
+fn obey_other<C: HostCommand>(
     alloc: Global,
     number: u64,
     line: &[u8],
