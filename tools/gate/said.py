@@ -23,6 +23,8 @@ SEARCHED = re.compile(r"^`search` did not prove (`.*`)$")
 WAITS = re.compile(r"^it (?:calls|passes the blocks?|waits for the proof of) `.*`(?:, which .*)?$")
 IN_CYCLE = re.compile(r"^in `[^`]*`, of this cycle of calls: ")
 LACKS = re.compile(r"^(?:not proved|no proof|expected answers in \S+)$")
+# Of a closure with the second text nothing is missing: what it asks is a goal of the function that it is in.
+PROVED = {"proved", "proved where its callers give what it asks"}
 
 
 @dataclasses.dataclass
@@ -46,8 +48,11 @@ class Verdict:
 
 
 def own_part(name):
-    """The function that a closure belongs to, or the name itself."""
-    return re.sub(r"(^|::)fn::(.*)::[^:]*$", r"\1\2", re.sub(r"\+Fn\w*::call\w*$", "", name))
+    """The function that a closure belongs to, or the name itself. A closure may be in another one:
+    `module::fn::function::fn::outer::inner`.
+    """
+    of_closure = re.compile(r"(^|::)fn::(.*?)(?:::fn::.*|::[^:]*)$")
+    return of_closure.sub(r"\1\2", re.sub(r"\+Fn\w*::call\w*$", "", name))
 
 
 class Said:
@@ -109,7 +114,7 @@ class Said:
 
 def read_parts(text, verdict):
     """Adds the text after a function's name to a verdict."""
-    if text == "proved":
+    if text in PROVED:
         return
     verdict.is_proved = False
     for part in text.removeprefix("no proof: ").split("; "):

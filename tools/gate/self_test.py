@@ -23,6 +23,7 @@ SOURCE = """\
 #![tactic(auto)]
 
 ghost use Rattle.std.specs.Prelude.{◌≡◌, ◌≤◌, ◌<◌, ◌+◌};
+ghost use Rattle.std.specs.Option.{option_map};
 
 const LIMIT: u8 = 3;
 
@@ -75,6 +76,12 @@ pub fn counted(number: u8) -> Count
     Count::from(Given { number })
 }
 
+pub fn replaced(nested: Option<Option<u8>>, number: u8) -> Option<Option<u8>>
+    ensures { result ≡ option_map (option_map (λ _. number)) nested }
+{
+    nested.map(|inner| inner.map(|_| number))
+}
+
 pub fn climbed(height: u8) -> u8
     ensures { result ≡ height }
 {
@@ -104,6 +111,7 @@ EDITS = {
     "callee_adds_none": ("    number + 1", "    number", "in a batch"),
     "caller_by_other_words": ("next(next(number))", "next(number) + 1", "not refused"),
     "number_is_lost": ("    given", "    0", "in a batch"),
+    "inner_closure_gives_none": ("inner.map(|_| number)", "inner.map(|_| 0)", "in a batch"),
     "constant_is_four": ("LIMIT: u8 = 3", "LIMIT: u8 = 4", "in a batch"),
     "trait_counts_none": ("number: given.number", "number: 0", "in a batch"),
     "trait_counts_one": ("number: given.number", "number: 1", "in a batch"),
@@ -178,6 +186,8 @@ class Reading(unittest.TestCase):
         line = "no proof: `search` did not prove `returns`"
         found = said(f"fn tiny::a::fn::callee::all+FnMut::call_mut: {line}")
         self.assertEqual(found.found["a::callee"].goals, ["returns"])
+        found = said(f"fn tiny::a::fn::callee::fn::all::any+FnOnce::call_once: {line}")
+        self.assertEqual(found.found["a::callee"].goals, ["returns"])
         ring = "fn tiny::a::one_of_ring: not proved; it calls `tiny::a::two_of_ring`, which is not proved"
         found = said("./proofs/a/+ring/Answers.antt:3:5: error: `returns`: the two types differ", ring)
         self.assertEqual(found.found["a::+ring"].goals, ["returns"])
@@ -185,6 +195,13 @@ class Reading(unittest.TestCase):
         found = said(f"fn tiny::a::one_of_ring: no proof: {line}")
         self.assertTrue(found.found["a::+ring"].waits)
         self.assertEqual(trouble(found, "a::callee"), "")
+
+    def test_a_closure_whose_caller_gives_what_it_asks_lacks_nothing(self):
+        line = "proved where its callers give what it asks"
+        found = said(f"fn tiny::a::fn::callee::all: {line}", "fn tiny::a::callee: no proof: `search` did not prove `it`")
+        verdict = found.found["a::callee"]
+        self.assertEqual((verdict.goals, verdict.unread, verdict.is_proved), (["it"], "", False))
+        self.assertTrue(said(f"fn tiny::a::fn::callee::all: {line}").found["a::callee"].is_proved)
 
 
 def write(path, text):
