@@ -26,3 +26,5 @@ module _ (ss : List Scope) (key : List ℕ) (n i at : ℕ) (below : i < n) where
     pub seat_further : (parent : ℕ) → is_some (get s.keys key) ≡ false → s.parent ≡ Some parent
         → seat_from ss (n - i) at key ≡ seat_from ss (n - (i + 1)) parent key
     seat_further parent h p = rw (more, e, h, p) refl
+
+pub ruleset seats = (seat_outside, seat_here, seat_nowhere, seat_further)

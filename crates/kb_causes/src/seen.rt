@@ -19,7 +19,7 @@ pub struct Seen<'s> {
 }
 
 /// The index of the innermost scope that has a key, from the one at an index outward.
-#[tactic(auto, using(crate::proofs::SeenLemmas::seat_outside, crate::proofs::SeenLemmas::seat_here, crate::proofs::SeenLemmas::seat_nowhere, crate::proofs::SeenLemmas::seat_further))]
+#[tactic(auto, using(crate::proofs::SeenLemmas::seats))]
 fn seat(all: &[Scope], from: usize, key: &str) -> Option<usize>
     ensures { result ≡ seat_from all.now (length all.now) from key.now }
 {

@@ -38,6 +38,8 @@ use Rattle.kb_check_report.specs.Placed.{ArePlaced, IsEntryAt, IsEntryIn, IsPlac
 use Rattle.kb_check_report.specs.Placed.{entry_at, is_alone, list_in, steps_in, value_in}
 use Rattle.kb_check_report.specs.Problems.{is_wanted}
 use Rattle.kb_check_report.specs.Starts.{file_in}
+use Rattle.kb_check_report.proofs.CauseLemmas.{refusal_wanted}
+use Rattle.kb_check_report.proofs.CauseLemmas.{lint_adds, wanted_adds}
 
 -- ---- the value at a path is the entry
 
@@ -304,3 +306,7 @@ package_adds extensions before n d one all count below is k opened e =
           (subst (λ (o : Option Opened). IfSome o (IsOpened (Package n) (Some (get_or extensions n d).package)))
           last.1 is))
     ]
+
+pub ruleset refusals = (refusal_wanted, refusal_placed)
+
+pub ruleset lints = (lint_adds, wanted_adds, lint_placed)

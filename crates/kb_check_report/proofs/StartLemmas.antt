@@ -12,6 +12,7 @@ use Rattle.kb_rules.specs.declared.rule.Rule.{Rule}
 use Rattle.kb_check_report.specs.declared.cause.Cause.TheVariants.{Warned}
 use Rattle.kb_check_report.specs.declared.problem.Problem.{Problem}
 use Rattle.kb_check_report.specs.Starts.{AreSound, NeverStarts, file_in, never_said, says_never}
+use Rattle.kb_check_report.proofs.CauseLemmas.{warnings_told, warnings_wanted}
 
 -- one that doesn't say so changes nothing
 pub other_adds : (ps : List Problem) (p : Problem) → says_never p.cause ≡ false
@@ -120,3 +121,5 @@ module _ (enablement : Enabling) (in_force : List Rule) where
   -- none says so
   pub none_said : AreSound enablement in_force []
   none_said k d below = absurd (omega (arith, below))
+
+pub ruleset warning = (warnings_told, warnings_wanted, warnings_sound)

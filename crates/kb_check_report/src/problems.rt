@@ -80,7 +80,7 @@ fn of_session(
 }
 
 /// The problem of a load that is refused. It is no lint.
-#[tactic(auto, using(crate::proofs::CauseLemmas::refusal_wanted, crate::proofs::PlacedLemmas::refusal_placed))]
+#[tactic(auto, using(crate::proofs::PlacedLemmas::refusals))]
 fn of_refused(
     alloc: Global,
     files: &SourceFiles<'_>,
@@ -97,7 +97,7 @@ fn of_refused(
 }
 
 /// The warnings and the lints of an accepted load.
-#[tactic(auto, using(crate::proofs::CauseLemmas::warnings_told, crate::proofs::CauseLemmas::warnings_wanted, crate::proofs::StartLemmas::warnings_sound))]
+#[tactic(auto, using(crate::proofs::StartLemmas::warning))]
 fn of_accepted<'b>(
     alloc: Global,
     sources: &SourceFiles<'_>,
@@ -131,7 +131,7 @@ fn is_wanted(cause: Cause, choices: &Choices<'_>) -> bool
 }
 
 /// Adds a lint behind other problems, if it is looked for.
-#[tactic(auto, using(crate::proofs::CauseLemmas::lint_adds, crate::proofs::CauseLemmas::wanted_adds, crate::proofs::PlacedLemmas::lint_placed))]
+#[tactic(auto, using(crate::proofs::PlacedLemmas::lints))]
 fn add_lint(
     lint: Problem,
     choices: &Choices<'_>,

@@ -131,6 +131,14 @@ abbrev pub MustRead : DirFile → Held → Type 0
 MustRead Package held = ⊤
 MustRead Handlers held = IsThere held
 
+-- reading a file of a directory at its path fails as reading that path does
+pub record FailsAt (file : DirFile) (held : Held) (dir : Bor (List ℕ)) (failure : Failure CannotRead)
+    : Type 0 where
+  pub must_read : MustRead file held
+  pub failed : Failure ReadFault
+  pub reading : HasRead {B = List ℕ} held (λ bytes. bytes) (Err failed)
+  pub failure_is : failure ≡ failure_in dir file failed
+
 -- reading a file of a directory fails, by what is at its path. Memory may always be refused, since the path
 -- takes memory
 abbrev pub FailsReadingIn : DirFile → Held → Bor (List ℕ) → Failure CannotRead → Type 0

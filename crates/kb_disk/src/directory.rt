@@ -1,7 +1,8 @@
 //! Reads the files of an extension's directory.
-ghost use Rattle.std.specs.Prelude.{◌≡◌, IfOk};
+ghost use Rattle.std.specs.Prelude.{◌≡◌, IfOk, MatchResult, Ok};
 ghost use Rattle.kb_disk.specs.CannotRead.{path_in};
-ghost use Rattle.kb_disk.specs.Files.{HasManifest, HasHandlers, failure_in};
+ghost use Rattle.kb_disk.specs.Files.{FailsAt, GivesIfThere, HasHandlers, HasManifest, HasRead, failure_in};
+ghost use Rattle.kb_disk.specs.declared.cannot_read.DirFile.TheVariants.{Package, Handlers};
 
 use crate::cannot_read::{CannotRead, DirFile};
 use crate::files::{FileSource, read_file, read_if_there};
@@ -30,11 +31,49 @@ fn failure_in<'a>(
     failure.map_fault(|_| CannotRead::InDirectory(dir, file))
 }
 
+/// The bytes of the manifest at its path in `dir`.
+///
+/// Errors: those of [`read_file`], with the directory and the file.
+#[tactic(auto, using(crate::proofs::FilesLemmas::manifest_fails))]
+fn manifest_at<'a, F: FileSource>(
+    files: &F,
+    alloc: Global,
+    dir: &'a str,
+    path: &str,
+) -> Result<Vec<u8>, Failure<CannotRead<'a>>>
+    ensures { MatchResult result (λ bytes. HasRead (F.held files.now path.now) (λ b. b.items) (Ok bytes))
+        (FailsAt Package (F.held files.now path.now) dir.entry) }
+{
+    match read_file(files, alloc, path) {
+        Ok(bytes) => Ok(bytes),
+        Err(failure) => Err(failure_in(dir, DirFile::Package, failure)),
+    }
+}
+
+/// The bytes of the handlers at their path in `dir`, or `None` if no such file exists.
+///
+/// Errors: those of [`read_if_there`], with the directory and the file.
+#[tactic(auto, using(crate::proofs::FilesLemmas::handlers_fail))]
+fn handlers_at<'a, F: FileSource>(
+    files: &F,
+    alloc: Global,
+    dir: &'a str,
+    path: &str,
+) -> Result<Option<Vec<u8>>, Failure<CannotRead<'a>>>
+    ensures { MatchResult result (GivesIfThere (F.held files.now path.now) (λ bytes. bytes.items))
+        (FailsAt Handlers (F.held files.now path.now) dir.entry) }
+{
+    match read_if_there(files, alloc, path) {
+        Ok(bytes) => Ok(bytes),
+        Err(failure) => Err(failure_in(dir, DirFile::Handlers, failure)),
+    }
+}
+
 /// The bytes of the manifest of an extension's directory, which is the file `package.json` in it.
 ///
 /// Errors: `CannotRead::InDirectory` if the file does not open, cannot be read or is longer than
 /// `FILE_LIMIT`, or refused memory.
-#[tactic(auto, using(crate::proofs::FilesLemmas::unread_manifest))]
+#[tactic(auto, using(crate::proofs::FilesLemmas::unread_in))]
 pub fn manifest_in<'a, F: FileSource>(
     files: &F,
     alloc: Global,
@@ -43,17 +82,14 @@ pub fn manifest_in<'a, F: FileSource>(
     ensures { HasManifest (F.held files.now) (λ bytes. bytes.items) dir.entry result }
 {
     let path = path_in(alloc, dir, DirFile::Package)?;
-    match read_file(files, alloc, path.as_str()) {
-        Ok(bytes) => Ok(bytes),
-        Err(failure) => Err(failure_in(dir, DirFile::Package, failure)),
-    }
+    manifest_at(files, alloc, dir, path.as_str())
 }
 
 /// The bytes of the handlers of an extension's directory, which are the file `handlers.json` in it, or
 /// `None` if no such file exists. A file that exists and does not open is an error (our decision).
 ///
 /// Errors: those of [`manifest_in`].
-#[tactic(auto, using(crate::proofs::FilesLemmas::unread_handlers))]
+#[tactic(auto, using(crate::proofs::FilesLemmas::unread_in))]
 pub fn handlers_in<'a, F: FileSource>(
     files: &F,
     alloc: Global,
@@ -62,8 +98,5 @@ pub fn handlers_in<'a, F: FileSource>(
     ensures { HasHandlers (F.held files.now) (λ bytes. bytes.items) dir.entry result }
 {
     let path = path_in(alloc, dir, DirFile::Handlers)?;
-    match read_if_there(files, alloc, path.as_str()) {
-        Ok(bytes) => Ok(bytes),
-        Err(failure) => Err(failure_in(dir, DirFile::Handlers, failure)),
-    }
+    handlers_at(files, alloc, dir, path.as_str())
 }

@@ -115,3 +115,5 @@ pub one_more : (made : List Passed) (p : Passed) (rules : List Rule) (r : Rule) 
     ≡ map (λ (one : Passed). one.rule.now) made ++ r ∷ rules
 one_more [] p rules r e = ap (λ (x : Rule). x ∷ rules) e
 one_more (x ∷ xs) p rules r e = ap (λ (l : List Rule). x.rule.now ∷ l) (one_more xs p rules r e)
+
+pub ruleset obstacles = (clause_is_obstacle, clause_holds, enablement_is_obstacle, no_obstacle)

@@ -55,7 +55,7 @@ pub(crate) fn clause_of<'s>(enablement: Option<&'s SharedClause>) -> Option<&'s 
 }
 
 /// Why a press passes over a rule whose keystrokes begin with those that are pressed, if it does.
-#[tactic(auto, using(crate::proofs::PressLemmas::clause_is_obstacle, crate::proofs::PressLemmas::clause_holds, crate::proofs::PressLemmas::enablement_is_obstacle, crate::proofs::PressLemmas::no_obstacle))]
+#[tactic(auto, using(crate::proofs::PressLemmas::obstacles))]
 fn first_obstacle<'s>(
     alloc: Global,
     rule: &'s Rule,

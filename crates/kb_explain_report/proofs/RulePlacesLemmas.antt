@@ -227,3 +227,5 @@ pub all_next : (sources : List ExtensionSource) (i : ℕ) (d : ExtensionSource)
     → ArePlacedInAll (take (i + 1) sources) (made ++ one ∷ [])
 all_next sources i d made one below placed is =
     rw (take_more sources i d below) (all_more (take i sources) made (get_or sources i d) one placed is)
+
+pub ruleset origins = (file_stands, manifest_stands)

@@ -66,7 +66,7 @@ fn list_at(alloc: Global, source: &Source<'_>, home: Home) -> Result<Option<Span
 }
 
 /// The part of a file, if it is the rule at a place of its list.
-#[tactic(auto, using(crate::proofs::RulePlacesLemmas::file_stands, crate::proofs::RulePlacesLemmas::manifest_stands))]
+#[tactic(auto, using(crate::proofs::RulePlacesLemmas::origins))]
 fn rule_at(
     alloc: Global,
     source: &Source<'_>,

@@ -255,3 +255,5 @@ pub number_read : (text : List ℕ) (z : ℤ) → text ≡ signed_decimal z → 
 number_read text z is small utf8 =
     ap context_in is ∙ ap context_by (number_value z small (subst IsUtf8 is utf8))
     ∙ ap (λ o. numbered number_of (or_fault WrongShape (option_map Number o))) (as_read z small)
+
+pub ruleset reading = (number_read, quoted_read)

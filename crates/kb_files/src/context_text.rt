@@ -26,7 +26,7 @@ pub fn read_context_text(alloc: Global, text: &str) -> Result<ContextValue, Fail
 }
 
 /// The value that a text is, other than `true` and `false`.
-#[tactic(auto, using(crate::proofs::PlainValueLemmas::number_read, crate::proofs::PlainValueLemmas::quoted_read))]
+#[tactic(auto, using(crate::proofs::PlainValueLemmas::reading))]
 fn read_other(alloc: Global, text: &str) -> Result<ContextValue, Failure<Refusal>>
     ensures { Gives (λ value. value) result (context_in text.now) }
 {

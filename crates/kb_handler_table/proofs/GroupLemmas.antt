@@ -145,3 +145,5 @@ module _ (own : List HandlerData) where
       sym (ap (find (calls_one own)) (split hs place h below at)
       ∙ ap (λ b. cond b (Some h) (find (calls_one own) (drop (suc place) hs)))
       (its_calls hs all place h cs each below at its ∙ sym is))
+
+pub ruleset searching = (as_long, passed, met)

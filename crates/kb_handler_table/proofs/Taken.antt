@@ -159,3 +159,5 @@ module _ (live hs : List HandlerData) (i : ℕ) (h : HandlerData) (below : i < l
         stays false is =
             ap (λ b. option_or (handler_named other (take i hs)) (cond b (Some h) None)) is
             ∙ nothing_more (handler_named other (take i hs))
+
+pub ruleset taking = (live_here, above_here, free_here)

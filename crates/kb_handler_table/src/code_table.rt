@@ -320,7 +320,7 @@ impl CodeTable {
 
     /// The reason why handlers can't be added when memory was refused: a name that is taken, or else
     /// refused memory.
-    #[tactic(auto, using(crate::proofs::Taken::live_here, crate::proofs::Taken::above_here, crate::proofs::Taken::free_here))]
+    #[tactic(auto, using(crate::proofs::Taken::taking))]
     fn failure_of(&self, handlers: &[Handler]) -> Failure<CodesFault>
         ensures { IsRefusalOrMemory (codes_fault handlers.now self.now) result }
     {

@@ -255,7 +255,7 @@ fn user_in<'a>(own: &Group, handlers: &'a [Handler], callees: &[Seq<Callee>]) ->
 }
 
 /// The first of the handlers that calls the native command.
-#[tactic(auto, using(crate::proofs::GroupLemmas::as_long, crate::proofs::GroupLemmas::passed, crate::proofs::GroupLemmas::met))]
+#[tactic(auto, using(crate::proofs::GroupLemmas::searching))]
 fn caller_in<'a>(handlers: &'a [Handler], links: &'a [Links], native: Native) -> Option<&'a Handler>
     requires { AllZip AreLinks links.now handlers.now }
     ensures { option_copied result ≡ find (calls_native native) handlers.now }

@@ -91,3 +91,5 @@ pub unread_name : (name text : List ℕ) → IsUtf8 text → read text ≡ None 
 unread_name name text h e =
     ap (λ (b : Bool). b && says name (option_and_then as_str (read text))) (is_utf8-from_IsUtf8 text h)
     ∙ ap (λ r. says name (option_and_then as_str r)) e
+
+pub ruleset names = (not_utf8, read_name, unread_name)

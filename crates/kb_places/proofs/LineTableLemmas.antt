@@ -122,3 +122,5 @@ pub one_begins : (text : List ℕ) (n : ℕ) (starts made : List ℕ) (b : Bool)
     → b ≡ begins_line text n → b ≡ true → made ≡ starts ++ n ∷ [] → made ≡ begins_below text (n + 1)
 one_begins text n starts made b same is holds more =
     more ∙ ap (λ (c : Bool). starts ++ cond c (n ∷ []) []) (sym holds) ∙ next_begin text n starts b same is
+
+pub ruleset beginning = (first_begins, none_begins, one_begins)

@@ -5,6 +5,7 @@ use Rattle.std.specs.Prelude.{◌==◌, slice_index}
 use Rattle.std.specs.List.{fold}
 use Rattle.kb_places.specs.declared.position.Head.{Head}
 use Rattle.kb_places.specs.Position.{begin, below, beside, behind, behind_feed, head_at, is_inside}
+use Rattle.kb_places.proofs.LineLemmas.{next_line}
 
 walk : (h : Head) (xs : List ℕ) (n : ℕ) → n < length xs
     → fold behind h (take (suc n) xs) ≡ behind (fold behind h (take n xs)) (slice_index xs n)
@@ -60,3 +61,5 @@ line_fits text n p = let q = within text n in omega (arith, q.0, p)
 
 pub column_fits : (text : List ℕ) (n : ℕ) → n < 2 ^ 63 - 1 → (head_at text n).position.column < 2 ^ 63
 column_fits text n p = let q = within text n in omega (arith, q.1, p)
+
+pub ruleset moving = (head_next, line_fits, column_fits, next_line)

@@ -137,7 +137,7 @@ fn is_quoted(text: &[u8], name: &[u8]) -> bool
 }
 
 /// Whether a text is a string of JSON that reads as this name.
-#[tactic(auto, using(crate::proofs::ChildrenLemmas::not_utf8, crate::proofs::ChildrenLemmas::read_name, crate::proofs::ChildrenLemmas::unread_name))]
+#[tactic(auto, using(crate::proofs::ChildrenLemmas::names))]
 fn reads_as(alloc: Global, text: &[u8], name: &str) -> Result<bool, NoMemory>
     ensures { IfOk result (λ answer. answer ≡ reads_as name.now text.now) }
 {

@@ -25,7 +25,7 @@ fn begins_line(text: &[u8], index: usize) -> bool
 
 impl LineTable {
     /// The lines of a text.
-    #[tactic(auto, using(crate::proofs::LineTableLemmas::first_begins, crate::proofs::LineTableLemmas::none_begins, crate::proofs::LineTableLemmas::one_begins))]
+    #[tactic(auto, using(crate::proofs::LineTableLemmas::beginning))]
     pub fn new(alloc: Global, text: &[u8]) -> Result<LineTable, NoMemory>
         ensures { IfOk result (IsTableOf text.now) }
     {

@@ -130,7 +130,7 @@ impl<'t> Walker<'t> {
     }
 
     /// Goes over one byte.
-    #[tactic(auto, using(crate::proofs::PositionLemmas::head_next, crate::proofs::PositionLemmas::line_fits, crate::proofs::PositionLemmas::column_fits, crate::proofs::LineLemmas::next_line))]
+    #[tactic(auto, using(crate::proofs::PositionLemmas::moving))]
     fn step(self) -> Walker<'t>
         requires { self.at < length self.text.now }
         ensures text { result.text.now ≡ self.entry.text.now }

@@ -5,6 +5,7 @@ use Rattle.std.proofs.lemmas.Bool.Decides.{Decides-eqb}
 use Rattle.kb_core.specs.declared.native.Native.{Native}
 use Rattle.kb_registry.specs.declared.fault.RegistryFault.TheVariants.{AlreadyExists, Exhausted}
 use Rattle.kb_registry.specs.Live.{Live, is_live, registration_fault, holder, disposal_fault, disposal_fault_of}
+use Rattle.kb_registry.proofs.Tickets.{holder_lasts}
 
 none_of : (taken full : Bool)
     → cond taken (Some AlreadyExists) (cond full (Some Exhausted) None) ≡ None
@@ -35,3 +36,5 @@ is_held ticket live = by (holder ticket live)
     by : (held : Option Native) → disposal_fault_of held live ≡ None → is_some held ≡ true
     by None e = cc
     by (Some native) e = refl
+
+pub ruleset registering = (holder_lasts, is_free, has_room)

@@ -50,3 +50,5 @@ module _ (there : Declaration → List ℕ → Bool) where
   no_callees hs (cs ∷ all) zero above = absurd (omega (arith, above))
   no_callees [] (cs ∷ all) (suc i) above = refl
   no_callees (h ∷ hs) (cs ∷ all) (suc i) above = no_callees hs all i (omega (arith, above))
+
+pub ruleset finding = (next_handler, found_here)

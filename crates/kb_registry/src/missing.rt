@@ -82,7 +82,7 @@ impl<C: HostCommand> Registry<C> {
     }
 
     /// The name of the first missing callee of handlers.
-    #[tactic(auto, using(crate::proofs::MissingLemmas::next_handler, crate::proofs::MissingLemmas::found_here))]
+    #[tactic(auto, using(crate::proofs::MissingLemmas::finding))]
     fn missing_from<'a>(
         &self,
         among: &Among<'_>,

@@ -172,7 +172,7 @@ impl<C: HostCommand> Registry<C> {
     /// Registers a closure for its native command as `register` does, if `registration_fault` was asked
     /// before, and returns its ticket. On refused memory the closure is returned and the registry is
     /// unchanged.
-    #[tactic(auto, using(crate::proofs::Tickets::holder_lasts, crate::proofs::Allowed::is_free, crate::proofs::Allowed::has_room))]
+    #[tactic(auto, using(crate::proofs::Allowed::registering))]
     pub fn register_allowed(&mut self, command: C) -> Result<Ticket, C>
         requires { registration_fault (C.stands_for command) self.old ≡ None }
         ensures ticket { IfOk result (λ ticket. ticket.0 ≡ self.old.made + 1) }

@@ -46,3 +46,7 @@ callees_of [] [] each = refl
 callees_of [] (cs ∷ all) each = absurd each
 callees_of (h ∷ hs) [] each = absurd each
 callees_of (h ∷ hs) (cs ∷ all) each = ap (λ (all : List (List Callee)). cs ∷ all) (callees_of hs all each.1)
+
+pub ruleset adding = (one_more, together_more)
+
+pub ruleset listing = (handlers_of, callees_of)

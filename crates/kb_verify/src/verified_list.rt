@@ -39,7 +39,7 @@ impl VerifiedList {
     }
 
     /// The list with one more handler at its end. On refused memory all handlers are dropped.
-    #[tactic(auto, using(crate::proofs::VerifiedLemmas::one_more, crate::proofs::VerifiedLemmas::together_more))]
+    #[tactic(auto, using(crate::proofs::VerifiedLemmas::adding))]
     pub fn with(self, verified: Verified) -> Result<VerifiedList, NoMemory>
         ensures { IfOk result (λ list. list ≡ self ++ verified ∷ []) }
     {
@@ -54,7 +54,7 @@ impl VerifiedList {
     }
 
     /// The handlers and the callees of each, by value.
-    #[tactic(auto, using(crate::proofs::VerifiedLemmas::handlers_of, crate::proofs::VerifiedLemmas::callees_of))]
+    #[tactic(auto, using(crate::proofs::VerifiedLemmas::listing))]
     pub fn into_parts(self) -> (Seq<Handler>, Seq<Seq<Callee>>)
         ensures handlers { result.0 ≡ map (λ v. v.handler) self }
         ensures callees { result.1 ≡ map (λ v. v.callees) self }
