@@ -198,8 +198,8 @@ class Reading(unittest.TestCase):
 
     def test_a_closure_whose_caller_gives_what_it_asks_lacks_nothing(self):
         line = "proved where its callers give what it asks"
-        found = said(f"fn tiny::a::fn::callee::all: {line}", "fn tiny::a::callee: no proof: `search` did not prove `it`")
-        verdict = found.found["a::callee"]
+        failed = "fn tiny::a::callee: no proof: `search` did not prove `it`"
+        verdict = said(f"fn tiny::a::fn::callee::all: {line}", failed).found["a::callee"]
         self.assertEqual((verdict.goals, verdict.unread, verdict.is_proved), (["it"], "", False))
         self.assertTrue(said(f"fn tiny::a::fn::callee::all: {line}").found["a::callee"].is_proved)
 
