@@ -13,6 +13,9 @@ use Rattle.serde_json.specs.Data.{Data, null, boolean, number, string, array, ob
 use Rattle.serde_json.specs.Data.{item as item_of}
 use Rattle.serde_json.specs.Find.{as_object, at, get, get_item}
 use Rattle.serde_json.specs.View.{view}
+use Rattle.kb_base.specs.declared.note.Origin.{Origin}
+use Rattle.kb_base.specs.declared.note.Part.{Part}
+use Rattle.kb_base.specs.declared.note.Part.TheVariants.{Keybindings}
 use Rattle.kb_base.specs.declared.note.Warning.{Warning}
 use Rattle.kb_files.specs.declared.fault.LoadFile.{LoadFile}
 use Rattle.kb_files.specs.declared.fault.LoadFile.TheVariants.{Package}
@@ -24,6 +27,7 @@ use Rattle.kb_places.specs.declared.path.Step.{Step}
 use Rattle.kb_places.specs.declared.path.Step.TheVariants.{Member, Item}
 use Rattle.kb_places.specs.declared.source.Source.{Source}
 use Rattle.kb_places.specs.declared.span.Span.{Span}
+use Rattle.kb_rules.specs.declared.rule.Rule.{Rule}
 use Rattle.kb_source_files.specs.SourceFiles.{file_of}
 use Rattle.kb_source_files.specs.declared.source_files.ExtensionSource.{ExtensionSource}
 use Rattle.kb_source_files.specs.declared.source_files.SourceFile.{SourceFile}
@@ -32,8 +36,9 @@ use Rattle.kb_check_report.specs.declared.cause.Cause.{Cause}
 use Rattle.kb_check_report.specs.declared.cause.Cause.TheVariants.{Refused, Warned, Linted}
 use Rattle.kb_check_report.specs.declared.choices.Choices.{Choices}
 use Rattle.kb_check_report.specs.declared.opened.Opened.{Opened}
+use Rattle.kb_check_report.specs.declared.opened.OpenedFiles.{OpenedFiles}
 use Rattle.kb_check_report.specs.declared.problem.Problem.{Problem}
-use Rattle.kb_check_report.specs.Opened.{ArePackages, IsOpened}
+use Rattle.kb_check_report.specs.Opened.{AreOpened, ArePackages, IsAtOpened, IsOpened}
 use Rattle.kb_check_report.specs.Placed.{ArePlaced, IsEntryAt, IsEntryIn, IsPlaced, IsPlacedBy, IsPlacedWarning}
 use Rattle.kb_check_report.specs.Placed.{entry_at, is_alone, list_in, steps_in, value_in}
 use Rattle.kb_check_report.specs.Problems.{is_wanted}
@@ -236,18 +241,24 @@ part_in from names place file source (Some span) is opens shows = record {
   shows = shows;
 }
 
--- the place of a warning in a file that was opened
-pub part_there : (files : SourceFiles) (warning : Warning) (opened : Opened) (span : Option Span)
-    → IsOpened (file_in warning.origin) (file_of files (file_in warning.origin)) opened
-    → IfSome span (IsEntryAt opened.source (list_in opened.file warning.part) warning.place)
-    → IfSome span (IsEntryIn (file_of files (file_in warning.origin)) (list_in (file_in warning.origin) warning.part)
-    warning.place)
-part_there files warning opened span is shows =
-    let name = file_in warning.origin in
-    part_in (file_of files name) (list_in name warning.part) warning.place is.file opened.source span is.is_file
-    is.opens
-    (subst (λ (n : LoadFile). IfSome span (IsEntryAt opened.source (list_in n warning.part) warning.place))
-    is.named shows)
+-- the place of an entry in a file that was opened
+pub part_there : (files : SourceFiles) (origin : Origin) (part : Part) (place : ℕ) (opened : Opened)
+    (span : Option Span) → IsOpened (file_in origin) (file_of files (file_in origin)) opened
+    → IfSome span (IsEntryAt opened.source (list_in opened.file part) place)
+    → IfSome span (IsEntryIn (file_of files (file_in origin)) (list_in (file_in origin) part) place)
+part_there files origin part place opened span is shows =
+    let name = file_in origin in
+    part_in (file_of files name) (list_in name part) place is.file opened.source span is.is_file is.opens
+    (subst (λ (n : LoadFile). IfSome span (IsEntryAt opened.source (list_in n part) place)) is.named shows)
+
+-- a problem at the entry of a rule
+pub at_rule : (opened : OpenedFiles) (rule : Rule) (problem : Problem) → problem.file ≡ file_in rule.origin
+    → ((files : SourceFiles) → AreOpened files opened → IfSome problem.span
+    (IsEntryIn (file_of files (file_in rule.origin)) (list_in (file_in rule.origin) Keybindings) rule.place))
+    → IsAtOpened opened rule problem
+at_rule opened rule problem is_in stands = record {
+  of_files = λ files are. record { is_in = is_in; stands = stands files are };
+}
 
 -- one more problem
 pub warned_adds : (files : SourceFiles) (ps : List Problem) (p : Problem) (warning : Warning)

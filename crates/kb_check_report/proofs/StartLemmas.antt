@@ -1,6 +1,6 @@
 -- One more problem, which says that a rule can never start or doesn't.
 use Rattle.std.proofs.Common.{◌≡◌, ◌∙◌, ap, refl, sym, subst, List, [], ◌∷◌, ◌++◌, Bool, true, false, cond, ℕ, arith}
-use Rattle.std.proofs.Common.{append-nil, inl, inr, map, suc}
+use Rattle.std.proofs.Common.{append-nil, get_or, inl, inr, map, suc}
 use Rattle.std.specs.Prelude.{All, Some, filter, slice_get}
 use Rattle.std.proofs.lemmas.List.Elements.{All-push, filter-append}
 use Rattle.kb_base.specs.declared.note.Warning.{Warning}
@@ -11,7 +11,11 @@ use Rattle.kb_resolve.specs.Enablements.{Enabling}
 use Rattle.kb_rules.specs.declared.rule.Rule.{Rule}
 use Rattle.kb_check_report.specs.declared.cause.Cause.TheVariants.{Warned}
 use Rattle.kb_check_report.specs.declared.problem.Problem.{Problem}
-use Rattle.kb_check_report.specs.Starts.{AreSound, NeverStarts, file_in, never_said, says_never}
+use Rattle.kb_check_report.specs.Opened.{AreOpened, IsAtOpened}
+use Rattle.kb_check_report.specs.Placed.{IsAtRule}
+use Rattle.kb_check_report.specs.declared.opened.OpenedFiles.{OpenedFiles}
+use Rattle.kb_source_files.specs.declared.source_files.SourceFiles.{SourceFiles}
+use Rattle.kb_check_report.specs.Starts.{AreSound, NeverStarts, never_said, says_never}
 use Rattle.kb_check_report.proofs.CauseLemmas.{warnings_told, warnings_wanted}
 
 -- one that doesn't say so changes nothing
@@ -23,80 +27,80 @@ other_adds ps p other =
     ∙ append-nil (never_said ps)
 
 -- one that may say so, of a rule that can never start
-module _ (enablement : Enabling) (in_force : List Rule) where
-  onto : (b : Bool) (said : List Problem) (p : Problem) → All (NeverStarts enablement in_force) said
-      → NeverStarts enablement in_force p → All (NeverStarts enablement in_force) (said ++ cond b (p ∷ []) [])
-  onto true said p all one = All-push (NeverStarts enablement in_force) said p all one
-  onto false said p all one = subst (All (NeverStarts enablement in_force)) (sym (append-nil said)) all
+module _ (at_rule : Rule → Problem → Type 0) (enablement : Enabling) (in_force : List Rule) where
+  onto : (b : Bool) (said : List Problem) (p : Problem) → All (NeverStarts at_rule enablement in_force) said
+      → NeverStarts at_rule enablement in_force p → All (NeverStarts at_rule enablement in_force) (said ++ cond b (p ∷ []) [])
+  onto true said p all one = All-push (NeverStarts at_rule enablement in_force) said p all one
+  onto false said p all one = subst (All (NeverStarts at_rule enablement in_force)) (sym (append-nil said)) all
 
-  pub never_adds : (ps : List Problem) (p : Problem) → AreSound enablement in_force ps
-      → NeverStarts enablement in_force p → AreSound enablement in_force (ps ++ p ∷ [])
+  pub never_adds : (ps : List Problem) (p : Problem) → AreSound at_rule enablement in_force ps
+      → NeverStarts at_rule enablement in_force p → AreSound at_rule enablement in_force (ps ++ p ∷ [])
   never_adds ps p all one =
-      subst (All (NeverStarts enablement in_force)) (sym (filter-append (λ q. says_never q.cause) ps (p ∷ [])))
+      subst (All (NeverStarts at_rule enablement in_force)) (sym (filter-append (λ q. says_never q.cause) ps (p ∷ [])))
       (onto (says_never p.cause) (never_said ps) p all one)
 
   pub shadowed_adds : (ps : List Problem) (p : Problem) (position by : ℕ) (rule : Rule)
-      → IsShadowed enablement in_force position by → AreSound enablement in_force ps
-      → slice_get in_force position ≡ Some rule → p.file ≡ file_in rule.origin
-      → AreSound enablement in_force (ps ++ p ∷ [])
-  shadowed_adds ps p position by rule shadowed all at is_in = never_adds ps p all (record {
+      → IsShadowed enablement in_force position by → AreSound at_rule enablement in_force ps
+      → slice_get in_force position ≡ Some rule → at_rule rule p
+      → AreSound at_rule enablement in_force (ps ++ p ∷ [])
+  shadowed_adds ps p position by rule shadowed all at placed = never_adds ps p all (record {
     position = position;
     by = by;
     rule = rule;
     at = at;
-    is_in = is_in;
+    placed = placed;
     never = inl shadowed;
   })
 
   pub cut_off_adds : (ps : List Problem) (p : Problem) (position by : ℕ) (rule : Rule)
-      → IsCutOff enablement in_force position by → AreSound enablement in_force ps
-      → slice_get in_force position ≡ Some rule → p.file ≡ file_in rule.origin
-      → AreSound enablement in_force (ps ++ p ∷ [])
-  cut_off_adds ps p position by rule cut all at is_in = never_adds ps p all (record {
+      → IsCutOff enablement in_force position by → AreSound at_rule enablement in_force ps
+      → slice_get in_force position ≡ Some rule → at_rule rule p
+      → AreSound at_rule enablement in_force (ps ++ p ∷ [])
+  cut_off_adds ps p position by rule cut all at placed = never_adds ps p all (record {
     position = position;
     by = by;
     rule = rule;
     at = at;
-    is_in = is_in;
+    placed = placed;
     never = inr (inl cut);
   })
 
   pub extended_adds : (ps : List Problem) (p : Problem) (position by : ℕ) (rule : Rule)
-      → IsExtended enablement in_force position by → AreSound enablement in_force ps
-      → slice_get in_force position ≡ Some rule → p.file ≡ file_in rule.origin
-      → AreSound enablement in_force (ps ++ p ∷ [])
-  extended_adds ps p position by rule extended all at is_in = never_adds ps p all (record {
+      → IsExtended enablement in_force position by → AreSound at_rule enablement in_force ps
+      → slice_get in_force position ≡ Some rule → at_rule rule p
+      → AreSound at_rule enablement in_force (ps ++ p ∷ [])
+  extended_adds ps p position by rule extended all at placed = never_adds ps p all (record {
     position = position;
     by = by;
     rule = rule;
     at = at;
-    is_in = is_in;
+    placed = placed;
     never = inr (inr extended);
   })
 
   -- the problems behind the first
-  pub others_sound : (p : Problem) (ps : List Problem) → AreSound enablement in_force (p ∷ ps)
-      → AreSound enablement in_force ps
+  pub others_sound : (p : Problem) (ps : List Problem) → AreSound at_rule enablement in_force (p ∷ ps)
+      → AreSound at_rule enablement in_force ps
   others_sound p ps all = rest (says_never p.cause) (never_said ps) all
     where
-      rest : (b : Bool) (said : List Problem) → All (NeverStarts enablement in_force) (cond b (p ∷ said) said)
-          → All (NeverStarts enablement in_force) said
+      rest : (b : Bool) (said : List Problem) → All (NeverStarts at_rule enablement in_force) (cond b (p ∷ said) said)
+          → All (NeverStarts at_rule enablement in_force) said
       rest true said all = λ k d below. all (suc k) d (omega (arith, below))
       rest false said all = all
 
   -- the first of some sound problems behind others
   pub sound_adds : (ps : List Problem) (p : Problem) (rest : List Problem)
-      → AreSound enablement in_force (p ∷ rest) → AreSound enablement in_force ps
-      → AreSound enablement in_force (ps ++ p ∷ [])
+      → AreSound at_rule enablement in_force (p ∷ rest) → AreSound at_rule enablement in_force ps
+      → AreSound at_rule enablement in_force (ps ++ p ∷ [])
   sound_adds ps p rest left all =
-      subst (All (NeverStarts enablement in_force)) (sym (filter-append (λ q. says_never q.cause) ps (p ∷ [])))
+      subst (All (NeverStarts at_rule enablement in_force)) (sym (filter-append (λ q. says_never q.cause) ps (p ∷ [])))
       (joined (says_never p.cause) (never_said rest) (never_said ps) left all)
     where
-      joined : (b : Bool) (said front : List Problem) → All (NeverStarts enablement in_force) (cond b (p ∷ said) said)
-          → All (NeverStarts enablement in_force) front → All (NeverStarts enablement in_force) (front ++ cond b (p ∷ []) [])
+      joined : (b : Bool) (said front : List Problem) → All (NeverStarts at_rule enablement in_force) (cond b (p ∷ said) said)
+          → All (NeverStarts at_rule enablement in_force) front → All (NeverStarts at_rule enablement in_force) (front ++ cond b (p ∷ []) [])
       joined true said front left all =
-          All-push (NeverStarts enablement in_force) front p all (left 0 p (omega arith))
-      joined false said front left all = subst (All (NeverStarts enablement in_force)) (sym (append-nil front)) all
+          All-push (NeverStarts at_rule enablement in_force) front p all (left 0 p (omega arith))
+      joined false said front left all = subst (All (NeverStarts at_rule enablement in_force)) (sym (append-nil front)) all
 
   -- warnings say nothing of rules
   warned_said : (ws : List Warning) (ps : List Problem) → map (λ p. p.cause) ps ≡ map Warned ws
@@ -111,15 +115,32 @@ module _ (enablement : Enabling) (in_force : List Rule) where
       ∙ warned_said ws ps others
 
   pub warnings_sound : (ps : List Problem) (ws : List Warning) → map (λ p. p.cause) ps ≡ map Warned ws
-      → AreSound enablement in_force ps
+      → AreSound at_rule enablement in_force ps
   warnings_sound ps ws e =
-      subst (All (NeverStarts enablement in_force)) (sym (warned_said ws ps e)) none_of
+      subst (All (NeverStarts at_rule enablement in_force)) (sym (warned_said ws ps e)) none_of
     where
-      none_of : All (NeverStarts enablement in_force) []
+      none_of : All (NeverStarts at_rule enablement in_force) []
       none_of k d below = absurd (omega (arith, below))
 
   -- none says so
-  pub none_said : AreSound enablement in_force []
+  pub none_said : AreSound at_rule enablement in_force []
   none_said k d below = absurd (omega (arith, below))
+
+-- the same rules in the files of which those that were opened are
+pub sound_in_files : (files : SourceFiles) (opened : OpenedFiles) (enablement : Enabling) (in_force : List Rule)
+    (ps : List Problem) → AreOpened files opened → AreSound (IsAtOpened opened) enablement in_force ps
+    → AreSound (IsAtRule files) enablement in_force ps
+sound_in_files files opened enablement in_force ps are all = λ k d below. moved (get_or (never_said ps) k d) (all k d below)
+  where
+    moved : (p : Problem) → NeverStarts (IsAtOpened opened) enablement in_force p
+        → NeverStarts (IsAtRule files) enablement in_force p
+    moved p one = record {
+      position = one.position;
+      by = one.by;
+      rule = one.rule;
+      at = one.at;
+      placed = one.placed.of_files files are;
+      never = one.never;
+    }
 
 pub ruleset warning = (warnings_told, warnings_wanted, warnings_sound)

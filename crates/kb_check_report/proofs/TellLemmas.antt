@@ -12,21 +12,25 @@ use Rattle.kb_files.specs.declared.fault.LoadFault.{LoadFault}
 use Rattle.kb_session.specs.Session.{Loads, Seen}
 use Rattle.kb_check_report.specs.declared.problem.Problem.{Problem}
 use Rattle.kb_check_report.specs.declared.choices.Choices.{Choices}
-use Rattle.kb_check_report.specs.Problems.{AreWanted, Checks, IsRefusal, Tells, warning_in}
+use Rattle.kb_check_report.specs.Placed.{IsAtRule}
+use Rattle.kb_check_report.specs.Problems.{AreWanted, Checks, IsRefusal, Tells, files_in, warning_in}
+use Rattle.kb_rules.specs.declared.rule.Rule.{Rule}
+use Rattle.kb_source_files.specs.declared.source_files.SourceFiles.{SourceFiles}
 use Rattle.kb_check_report.specs.Starts.{AreSound}
 
-pub tells_refusal : (files : Files) (fault : LoadFault) (problems : List Problem)
-    → Loads files natives (Err (Fault fault)) → IsRefusal fault problems → Tells files problems
-tells_refusal files fault problems refuses only = inl (record {
+pub tells_refusal : (at_rule : Rule → Problem → Type 0) (files : Files) (fault : LoadFault) (problems : List Problem)
+    → Loads files natives (Err (Fault fault)) → IsRefusal fault problems → Tells at_rule files problems
+tells_refusal at_rule files fault problems refuses only = inl (record {
   fault = fault;
   refuses = refuses;
   only = only;
 })
 
-pub tells_warnings : (files : Files) (session : Seen) (problems : List Problem)
+pub tells_warnings : (at_rule : Rule → Problem → Type 0) (files : Files) (session : Seen) (problems : List Problem)
     → Loads files natives (Ok session) → filter_map warning_in problems ≡ warnings_of session.state.sources
-    → AreSound (enablement session.state.sources) (rules_of session.state.sources) problems → Tells files problems
-tells_warnings files session problems accepts warnings sound = inr (record {
+    → AreSound at_rule (enablement session.state.sources) (rules_of session.state.sources) problems
+    → Tells at_rule files problems
+tells_warnings at_rule files session problems accepts warnings sound = inr (record {
   session = session;
   accepts = accepts;
   warnings = warnings;
@@ -39,10 +43,12 @@ none_if : (problems : List Problem) (clean : Bool) → clean ≡ is_none (slice_
 none_if [] clean e = (λ _. refl, λ _. e)
 none_if (p ∷ ps) clean e = (λ yes. absurd (false≢true (sym e ∙ yes)), λ (none : p ∷ ps ≡ []). cc)
 
-pub checked : (files : Files) (choices : Choices) (problems : List Problem) (clean : Bool) → Tells files problems
-    → AreWanted choices problems → clean ≡ is_none (slice_get problems 0) → Checks files choices clean
-checked files choices problems clean tells wanted e = record {
+pub checked : (sources : SourceFiles) (files : Files) (choices : Choices) (problems : List Problem) (clean : Bool)
+    → files_in sources ≡ files → Tells (IsAtRule sources) files problems → AreWanted choices problems → clean ≡ is_none (slice_get problems 0) → Checks files choices clean
+checked sources files choices problems clean are tells wanted e = record {
   problems = problems;
+  sources = sources;
+  are_files = are;
   tells = tells;
   wanted = wanted;
   none = none_if problems clean e;

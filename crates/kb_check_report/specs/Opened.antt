@@ -8,6 +8,9 @@ use Rattle.kb_source_files.specs.declared.source_files.SourceFile.{SourceFile}
 use Rattle.kb_source_files.specs.declared.source_files.SourceFiles.{SourceFiles}
 use Rattle.kb_check_report.specs.declared.opened.Opened.{Opened}
 use Rattle.kb_check_report.specs.declared.opened.OpenedFiles.{OpenedFiles}
+use Rattle.kb_check_report.specs.declared.problem.Problem.{Problem}
+use Rattle.kb_check_report.specs.Placed.{IsAtRule}
+use Rattle.kb_rules.specs.declared.rule.Rule.{Rule}
 
 -- a file of this name was opened, from these bytes
 pub record IsOpened (name : LoadFile) (from : Option SourceFile) (opened : Opened) : Type 0 where
@@ -26,3 +29,7 @@ pub record AreOpened (files : SourceFiles) (opened : OpenedFiles) : Type 0 where
   pub defaults : IfSome opened.defaults (IsOpened file.Defaults files.defaults)
   pub user : IfSome opened.user (IsOpened file.User files.user)
   pub packages : ArePackages files.extensions.now opened.packages.items
+
+-- a problem is at a rule of the files that were opened
+pub record IsAtOpened (opened : OpenedFiles) (rule : Rule) (problem : Problem) : Type 0 where
+  pub of_files : (files : SourceFiles) → AreOpened files opened → IsAtRule files rule problem

@@ -22,6 +22,7 @@ use Rattle.kb_places.specs.declared.path.Step.{Step}
 use Rattle.kb_places.specs.declared.position.Position.{Position}
 use Rattle.kb_places.specs.declared.source.Source.{Source}
 use Rattle.kb_places.specs.declared.span.Span.{Span}
+use Rattle.kb_rules.specs.declared.rule.Rule.{Rule}
 use Rattle.kb_source_files.specs.SourceFiles.{file_of}
 use Rattle.kb_source_files.specs.declared.source_files.SourceFile.{SourceFile}
 use Rattle.kb_source_files.specs.declared.source_files.SourceFiles.{SourceFiles}
@@ -83,7 +84,14 @@ pub record IsPlacedWarning (files : SourceFiles) (problem : Problem) (warning : 
   pub stands : IfSome problem.span
       (IsEntryIn (file_of files problem.file) (list_in problem.file warning.part) warning.place)
 
--- a refusal is in the file that the load names; what lints say of places is in no clause
+-- a problem of a rule is in the rule's file. Where a place in it is named, the rule's entry or a member of it
+-- begins there
+pub record IsAtRule (files : SourceFiles) (rule : Rule) (problem : Problem) : Type 0 where
+  pub is_in : problem.file ≡ file_in rule.origin
+  pub stands : IfSome problem.span
+      (IsEntryIn (file_of files (file_in rule.origin)) (list_in (file_in rule.origin) Keybindings) rule.place)
+
+-- a refusal is in the file that the load names; of other lints no clause says where they are
 abbrev pub IsPlacedBy : SourceFiles → Problem → Cause → Type 0
 IsPlacedBy files problem (Refused file number) = problem.file ≡ file
 IsPlacedBy files problem (Warned warning) = IsPlacedWarning files problem warning

@@ -19,7 +19,9 @@ use Rattle.kb_check_report.specs.declared.cause.Lint.{Lint}
 use Rattle.kb_check_report.specs.declared.choices.Choices.{Choices}
 use Rattle.kb_check_report.specs.declared.problem.Problem.{Problem}
 use Rattle.kb_check_report.specs.Choices.{wants}
+use Rattle.kb_check_report.specs.Placed.{IsAtRule}
 use Rattle.kb_check_report.specs.Starts.{AreSound}
+use Rattle.kb_rules.specs.declared.rule.Rule.{Rule}
 
 -- the files as a load takes them
 abbrev pub files_in : SourceFiles → Files
@@ -52,15 +54,16 @@ pub record TellsRefusal (files : Files) (problems : List Problem) : Type 0 where
   pub only : IsRefusal fault problems
 
 -- the load accepts the files, its warnings are among the problems, each once and in their order, and each
--- rule of which a problem says that it can never start can't
-pub record TellsWarnings (files : Files) (problems : List Problem) : Type 0 where
+-- problem that says that a rule can never start is at a rule that can't
+pub record TellsWarnings (at_rule : Rule → Problem → Type 0) (files : Files) (problems : List Problem)
+    : Type 0 where
   pub session : Seen
   pub accepts : Loads files natives (Ok session)
   pub warnings : filter_map warning_in problems ≡ warnings_of session.state.sources
-  pub sound : AreSound (enablement session.state.sources) (rules_of session.state.sources) problems
+  pub sound : AreSound at_rule (enablement session.state.sources) (rules_of session.state.sources) problems
 
-abbrev pub Tells : Files → List Problem → Type 0
-Tells files problems = TellsRefusal files problems ⊎ TellsWarnings files problems
+abbrev pub Tells : (Rule → Problem → Type 0) → Files → List Problem → Type 0
+Tells at_rule files problems = TellsRefusal files problems ⊎ TellsWarnings at_rule files problems
 
 -- the lint that a problem is, if it is one
 abbrev pub lint_of : Cause → Option Lint
@@ -84,6 +87,8 @@ AreWanted choices problems = All (λ lint. IsTrue (wants choices lint)) (filter_
 -- whether some files have no problem
 pub record Checks (files : Files) (choices : Choices) (clean : Bool) : Type 0 where
   pub problems : List Problem
-  pub tells : Tells files problems
+  pub sources : SourceFiles
+  pub are_files : files_in sources ≡ files
+  pub tells : Tells (IsAtRule sources) files problems
   pub wanted : AreWanted choices problems
   pub none : IsTrue clean ↔ (problems ≡ [])

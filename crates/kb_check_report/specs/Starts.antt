@@ -34,14 +34,15 @@ says_never (Refused file number) = false
 says_never (Warned warning) = false
 says_never (Linted lint) = is_never lint
 
--- the problem is in the file of a rule in force that no search chooses, as the laws of the lints say: a lower
--- rule takes its keystrokes, or the first of them, or has them and more
-pub record NeverStarts (enablement : Enabling) (rules : List Rule) (problem : Problem) : Type 0 where
+-- the problem is at a rule in force that no search chooses, as the laws of the lints say: a lower rule takes
+-- its keystrokes, or the first of them, or has them and more
+pub record NeverStarts (at_rule : Rule → Problem → Type 0) (enablement : Enabling) (rules : List Rule)
+    (problem : Problem) : Type 0 where
   pub position : ℕ
   pub by : ℕ
   pub rule : Rule
   pub at : slice_get rules position ≡ Some rule
-  pub is_in : problem.file ≡ file_in rule.origin
+  pub placed : at_rule rule problem
   pub never : IsShadowed enablement rules position by
       ⊎ (IsCutOff enablement rules position by ⊎ IsExtended enablement rules position by)
 
@@ -49,6 +50,6 @@ pub record NeverStarts (enablement : Enabling) (rules : List Rule) (problem : Pr
 abbrev pub never_said : List Problem → List Problem
 never_said = filter (λ problem. says_never problem.cause)
 
--- each of them is one of a rule that can never start
-abbrev pub AreSound : Enabling → List Rule → List Problem → Type 0
-AreSound enablement rules problems = All (NeverStarts enablement rules) (never_said problems)
+-- each of them is at a rule that can never start
+abbrev pub AreSound : (Rule → Problem → Type 0) → Enabling → List Rule → List Problem → Type 0
+AreSound at_rule enablement rules problems = All (NeverStarts at_rule enablement rules) (never_said problems)

@@ -1,6 +1,7 @@
 //! All lints.
 ghost use Rattle.std.specs.Prelude.{◌≡◌, IfOk, OnOk};
 ghost use Rattle.kb_bindings.specs.Sources.{enablement, rules_of};
+ghost use Rattle.kb_check_report.specs.Opened.{IsAtOpened};
 ghost use Rattle.kb_check_report.specs.Starts.{AreSound, never_said};
 
 use crate::cause::Lint;
@@ -42,8 +43,8 @@ pub(crate) fn linted_in(
     accepted: Loaded<'_>,
     choices: &Choices<'_>,
 ) -> Result<Vec<Problem>, NoMemory>
-    ensures { IfOk result (λ problems. AreSound (enablement accepted.entry.bindings.now)
-        (rules_of accepted.entry.bindings.now) problems.items) }
+    ensures { IfOk result (λ problems. AreSound (IsAtOpened files.now)
+        (enablement accepted.entry.bindings.now) (rules_of accepted.entry.bindings.now) problems.items) }
 {
     let mut problems = Vec::new(alloc);
     let mut known = KnownCommands::new(alloc, accepted.bindings, files.sources.extensions)?;
@@ -180,8 +181,9 @@ fn add_of_shadows(
     choices: &Choices<'_>,
     problems: &mut Vec<Problem>,
 ) -> Result<(), NoMemory>
-    ensures { AreSound (enablement bindings.now) (rules_of bindings.now) problems.old.items
-        → OnOk result (AreSound (enablement bindings.now) (rules_of bindings.now) problems.new.items) }
+    ensures { AreSound (IsAtOpened files.now) (enablement bindings.now) (rules_of bindings.now) problems.old.items
+        → OnOk result (AreSound (IsAtOpened files.now) (enablement bindings.now) (rules_of bindings.now)
+        problems.new.items) }
 {
     if !choices.wants(Lint::NeverStarts) && !choices.wants(Lint::Overridden) {
         return Ok(());
@@ -199,8 +201,9 @@ fn add_of_chords(
     choices: &Choices<'_>,
     problems: &mut Vec<Problem>,
 ) -> Result<(), NoMemory>
-    ensures { AreSound (enablement bindings.now) (rules_of bindings.now) problems.old.items
-        → OnOk result (AreSound (enablement bindings.now) (rules_of bindings.now) problems.new.items) }
+    ensures { AreSound (IsAtOpened files.now) (enablement bindings.now) (rules_of bindings.now) problems.old.items
+        → OnOk result (AreSound (IsAtOpened files.now) (enablement bindings.now) (rules_of bindings.now)
+        problems.new.items) }
 {
     if !choices.wants(Lint::ChordNeverOpens) {
         return Ok(());
@@ -218,8 +221,9 @@ fn add_of_openings(
     choices: &Choices<'_>,
     problems: &mut Vec<Problem>,
 ) -> Result<(), NoMemory>
-    ensures { AreSound (enablement bindings.now) (rules_of bindings.now) problems.old.items
-        → OnOk result (AreSound (enablement bindings.now) (rules_of bindings.now) problems.new.items) }
+    ensures { AreSound (IsAtOpened files.now) (enablement bindings.now) (rules_of bindings.now) problems.old.items
+        → OnOk result (AreSound (IsAtOpened files.now) (enablement bindings.now) (rules_of bindings.now)
+        problems.new.items) }
 {
     if !choices.wants(Lint::ChordHidesRule) {
         return Ok(());

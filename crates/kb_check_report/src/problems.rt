@@ -4,7 +4,7 @@ ghost use Rattle.std.specs.List.{filter_map};
 ghost use Rattle.kb_bindings.specs.Sources.{enablement, rules_of};
 ghost use Rattle.kb_bindings.specs.Warning.{warnings_of};
 ghost use Rattle.kb_source_files.specs.declared.source_files.SourceFiles.{SourceFiles};
-ghost use Rattle.kb_check_report.specs.Placed.{ArePlaced};
+ghost use Rattle.kb_check_report.specs.Placed.{ArePlaced, IsAtRule};
 ghost use Rattle.kb_check_report.specs.Problems.{AreWanted, IsRefusal, Tells};
 ghost use Rattle.kb_check_report.specs.Problems.{files_in, is_wanted, warning_in};
 ghost use Rattle.kb_check_report.specs.Starts.{AreSound};
@@ -37,8 +37,9 @@ pub fn find_problems(
     files: &SourceFiles<'_>,
     choices: &Choices<'_>,
 ) -> Result<Vec<Problem>, NoMemory>
-    // They refuse what the load refuses, or have each of its warnings once.
-    ensures tells { IfOk result (λ problems. Tells (files_in files.now) problems.items) }
+    // They refuse what the load refuses, or have each of its warnings once, and then those that say that a
+    // rule can never start are at rules that can't.
+    ensures tells { IfOk result (λ problems. Tells (IsAtRule files.now) (files_in files.now) problems.items) }
 
     // No lint among them is silenced, and those that are off by default are asked for.
     ensures wanted { IfOk result (λ problems. AreWanted choices.now problems.items) }
@@ -63,8 +64,8 @@ fn of_session(
 ) -> Result<Vec<Problem>, NoMemory>
     ensures warnings { IfOk result (λ problems.
         filter_map warning_in problems.items ≡ warnings_of session.state.sources) }
-    ensures sound { IfOk result (λ problems.
-        AreSound (enablement session.state.sources) (rules_of session.state.sources) problems.items) }
+    ensures sound { IfOk result (λ problems. AreSound (IsAtRule files.now)
+        (enablement session.state.sources) (rules_of session.state.sources) problems.items) }
     ensures wanted { IfOk result (λ problems. AreWanted choices.now problems.items) }
     ensures placed { IfOk result (λ problems. ArePlaced files.now problems.items) }
 {
@@ -107,8 +108,8 @@ fn of_accepted<'b>(
 ) -> Result<Vec<Problem>, NoMemory>
     ensures warnings { IfOk result (λ problems.
         filter_map warning_in problems.items ≡ warnings_of bindings.now) }
-    ensures sound { IfOk result (λ problems.
-        AreSound (enablement bindings.now) (rules_of bindings.now) problems.items) }
+    ensures sound { IfOk result (λ problems. AreSound (IsAtRule sources.now)
+        (enablement bindings.now) (rules_of bindings.now) problems.items) }
     ensures wanted { IfOk result (λ problems. AreWanted choices.now problems.items) }
     ensures placed { IfOk result (λ problems. ArePlaced sources.now problems.items) }
 {
@@ -143,9 +144,10 @@ fn add_lint(
         → OnOk result (AreWanted choices.now problems.new.items) }
     ensures placed { (files : SourceFiles) → ArePlaced files problems.old.items
         → OnOk result (ArePlaced files problems.new.items) }
-    ensures sound { (enablement : Enabling) (rules : List Rule) (rest : List Problem)
-        → AreSound enablement rules (lint ∷ rest) → AreSound enablement rules problems.old.items
-        → OnOk result (AreSound enablement rules problems.new.items) }
+    ensures sound { (files : SourceFiles) (enablement : Enabling) (rules : List Rule) (rest : List Problem)
+        → AreSound (IsAtRule files) enablement rules (lint ∷ rest)
+        → AreSound (IsAtRule files) enablement rules problems.old.items
+        → OnOk result (AreSound (IsAtRule files) enablement rules problems.new.items) }
 {
     if !is_wanted(lint.cause, choices) {
         return Ok(());
@@ -166,9 +168,10 @@ fn add_lints(
         → OnOk result (AreWanted choices.now problems.new.items) }
     ensures placed { (files : SourceFiles) → ArePlaced files problems.old.items
         → OnOk result (ArePlaced files problems.new.items) }
-    ensures sound { (enablement : Enabling) (rules : List Rule) → AreSound enablement rules lints.items
-        → AreSound enablement rules problems.old.items
-        → OnOk result (AreSound enablement rules problems.new.items) }
+    ensures sound { (files : SourceFiles) (enablement : Enabling) (rules : List Rule)
+        → AreSound (IsAtRule files) enablement rules lints.items
+        → AreSound (IsAtRule files) enablement rules problems.old.items
+        → OnOk result (AreSound (IsAtRule files) enablement rules problems.new.items) }
 {
     for lint in lints {
         add_lint(lint, choices, problems)?;

@@ -1,11 +1,16 @@
 //! Lints on the rules in force.
-ghost use Rattle.std.specs.Prelude.{◌≡◌, ◌-◌, IfOk, OnOk, length, map, option_map, slice_get};
+ghost use Rattle.std.specs.Prelude.{◌≡◌, ◌-◌, IfOk, IfSome, OnOk, length, map, option_map, slice_get};
+ghost use Rattle.kb_base.specs.declared.note.Part.TheVariants.{Keybindings};
+ghost use Rattle.kb_check_report.specs.Opened.{AreOpened, IsAtOpened};
+ghost use Rattle.kb_check_report.specs.Placed.{IsEntryIn, list_in};
 ghost use Rattle.kb_check_report.specs.Starts.{AreSound, file_in, never_said};
 ghost use Rattle.kb_check_report.specs.declared.cause.Cause.TheVariants.{Linted};
 ghost use Rattle.kb_lints.specs.CutOff.{IsCutOff};
 ghost use Rattle.kb_lints.specs.Extended.{IsExtended};
 ghost use Rattle.kb_lints.specs.Shadow.{IsShadowed};
 ghost use Rattle.kb_resolve.specs.Enablements.{Enabling, enablement_in};
+ghost use Rattle.kb_source_files.specs.SourceFiles.{file_of as file_in_sources};
+ghost use Rattle.kb_source_files.specs.declared.source_files.SourceFiles.{SourceFiles};
 
 use crate::cause::{Cause, Lint};
 use crate::commands::KnownCommands;
@@ -15,6 +20,7 @@ use crate::problem::{Problem, push_other};
 use kb_base::{NoMemory, Part};
 use kb_core::{Kind, Native, Signature};
 use kb_lints::{CutOff, Extended, Shadowed, cut_off, extended_rules, never_start};
+use kb_places::Span;
 use kb_resolve::Enablements;
 use kb_rules::Rule;
 use serde_json::Value;
@@ -41,7 +47,26 @@ pub(crate) fn spot_of(
     }
 }
 
+/// Where the value of a member of a rule is, or the rule where it has no such member.
+#[tactic(auto, using(crate::proofs::PlacedLemmas::part_there))]
+fn rule_span(
+    alloc: Global,
+    files: &OpenedFiles<'_>,
+    rule: &Rule,
+    member: &str,
+) -> Result<Option<Span>, NoMemory>
+    ensures { (sources : SourceFiles) → AreOpened sources files.now → IfOk result (λ span. IfSome span
+        (IsEntryIn (file_in_sources sources (file_in rule.now.origin)) (list_in (file_in rule.now.origin) Keybindings)
+        rule.now.place)) }
+{
+    match files.of(rule.origin) {
+        Some(opened) => Ok(opened.member(alloc, Part::Keybindings, rule.place, member)?),
+        None => Ok(None),
+    }
+}
+
 /// A problem of a rule, at a member of it.
+#[tactic(auto, using(crate::proofs::PlacedLemmas::at_rule))]
 pub(crate) fn rule_problem(
     alloc: Global,
     files: &OpenedFiles<'_>,
@@ -51,12 +76,9 @@ pub(crate) fn rule_problem(
     sentence: String,
 ) -> Result<Problem, NoMemory>
     ensures cause { IfOk result (λ problem. problem.cause ≡ Linted lint) }
-    ensures is_in { IfOk result (λ problem. problem.file ≡ file_in rule.now.origin) }
+    ensures placed { IfOk result (IsAtOpened files.now rule.now) }
 {
-    let span = match files.of(rule.origin) {
-        Some(opened) => opened.member(alloc, Part::Keybindings, rule.place, member)?,
-        None => None,
-    };
+    let span = rule_span(alloc, files, rule, member)?;
     Ok(Problem {
         cause: Cause::Linted(lint),
         file: file_of(rule.origin),
@@ -94,9 +116,10 @@ pub(crate) fn add_shadowed(
     enablements: &Enablements,
     problems: &mut Vec<Problem>,
 ) -> Result<(), NoMemory>
-    ensures { AreSound (enablement_in enablements.now) (map (λ r. r.value) rules.now) problems.old.items
-        → OnOk result (AreSound (enablement_in enablements.now) (map (λ r. r.value) rules.now)
-        problems.new.items) }
+    ensures { AreSound (IsAtOpened files.now) (enablement_in enablements.now) (map (λ r. r.value) rules.now)
+        problems.old.items
+        → OnOk result (AreSound (IsAtOpened files.now) (enablement_in enablements.now)
+        (map (λ r. r.value) rules.now) problems.new.items) }
 {
     let found = never_start(alloc, rules, enablements)?;
     for number in 0..found.len() {
@@ -144,8 +167,9 @@ fn add_one_shadowed(
 ) -> Result<(), NoMemory>
     ensures { (enablement : Enabling)
         → IsShadowed enablement (map (λ r. r.value) rules.now) shadowed.position shadowed.by
-        → AreSound enablement (map (λ r. r.value) rules.now) problems.old.items
-        → OnOk result (AreSound enablement (map (λ r. r.value) rules.now) problems.new.items) }
+        → AreSound (IsAtOpened files.now) enablement (map (λ r. r.value) rules.now) problems.old.items
+        → OnOk result (AreSound (IsAtOpened files.now) enablement (map (λ r. r.value) rules.now)
+        problems.new.items) }
 {
     let Some(rule) = rule_at(rules, shadowed.position) else {
         return Ok(());
@@ -178,9 +202,10 @@ pub(crate) fn add_cut_off(
     enablements: &Enablements,
     problems: &mut Vec<Problem>,
 ) -> Result<(), NoMemory>
-    ensures { AreSound (enablement_in enablements.now) (map (λ r. r.value) rules.now) problems.old.items
-        → OnOk result (AreSound (enablement_in enablements.now) (map (λ r. r.value) rules.now)
-        problems.new.items) }
+    ensures { AreSound (IsAtOpened files.now) (enablement_in enablements.now) (map (λ r. r.value) rules.now)
+        problems.old.items
+        → OnOk result (AreSound (IsAtOpened files.now) (enablement_in enablements.now)
+        (map (λ r. r.value) rules.now) problems.new.items) }
 {
     let found = cut_off(alloc, rules, enablements)?;
     for number in 0..found.len() {
@@ -211,8 +236,9 @@ fn add_one_cut_off(
 ) -> Result<(), NoMemory>
     ensures { (enablement : Enabling)
         → IsCutOff enablement (map (λ r. r.value) rules.now) cut.position cut.by
-        → AreSound enablement (map (λ r. r.value) rules.now) problems.old.items
-        → OnOk result (AreSound enablement (map (λ r. r.value) rules.now) problems.new.items) }
+        → AreSound (IsAtOpened files.now) enablement (map (λ r. r.value) rules.now) problems.old.items
+        → OnOk result (AreSound (IsAtOpened files.now) enablement (map (λ r. r.value) rules.now)
+        problems.new.items) }
 {
     let Some(rule) = rule_at(rules, cut.position) else {
         return Ok(());
@@ -245,9 +271,10 @@ pub(crate) fn add_extended(
     enablements: &Enablements,
     problems: &mut Vec<Problem>,
 ) -> Result<(), NoMemory>
-    ensures { AreSound (enablement_in enablements.now) (map (λ r. r.value) rules.now) problems.old.items
-        → OnOk result (AreSound (enablement_in enablements.now) (map (λ r. r.value) rules.now)
-        problems.new.items) }
+    ensures { AreSound (IsAtOpened files.now) (enablement_in enablements.now) (map (λ r. r.value) rules.now)
+        problems.old.items
+        → OnOk result (AreSound (IsAtOpened files.now) (enablement_in enablements.now)
+        (map (λ r. r.value) rules.now) problems.new.items) }
 {
     let found = extended_rules(alloc, rules, enablements)?;
     for number in 0..found.len() {
@@ -289,8 +316,9 @@ fn add_one_extended(
 ) -> Result<(), NoMemory>
     ensures { (enablement : Enabling)
         → IsExtended enablement (map (λ r. r.value) rules.now) extended.position extended.by
-        → AreSound enablement (map (λ r. r.value) rules.now) problems.old.items
-        → OnOk result (AreSound enablement (map (λ r. r.value) rules.now) problems.new.items) }
+        → AreSound (IsAtOpened files.now) enablement (map (λ r. r.value) rules.now) problems.old.items
+        → OnOk result (AreSound (IsAtOpened files.now) enablement (map (λ r. r.value) rules.now)
+        problems.new.items) }
 {
     let Some(rule) = rule_at(rules, extended.position) else {
         return Ok(());

@@ -1,10 +1,11 @@
 use Rattle.std.proofs.Common.{rules, ◌≡◌, ◌++◌, ◌∷◌, [], subst, sym}
+use Rattle.kb_check_report.specs.Placed.{IsAtRule}
 use Rattle.kb_check_report.specs.Starts.{AreSound}
 use Rattle.kb_check_report.proofs.StartLemmas.{sound_adds}
 use Rattle.kb_check_report.proofs.problems.add_lint.Goals as goal
 
 pub returns-clause-sound : goal.returns-clause-sound
-returns-clause-sound c = λ enablement in_force rest all before.
+returns-clause-sound c = λ files enablement in_force rest all before.
     let items : c.push.new.self.items ≡ c.args.problems.now.items ++ c.args.lint ∷ [] = search rules in
-    subst (AreSound enablement in_force) (sym items)
-    (sound_adds enablement in_force c.args.problems.now.items c.args.lint rest all before)
+    subst (AreSound (IsAtRule files) enablement in_force) (sym items)
+    (sound_adds (IsAtRule files) enablement in_force c.args.problems.now.items c.args.lint rest all before)

@@ -1,5 +1,6 @@
 use Rattle.std.proofs.Common.{◌≡◌, ◌∙◌, ◌∷◌, subst}
 use Rattle.std.specs.Vec.Iter.{into_iter_items}
+use Rattle.kb_check_report.specs.Placed.{IsAtRule}
 use Rattle.kb_check_report.specs.Starts.{AreSound}
 use Rattle.kb_check_report.proofs.StartLemmas.{others_sound}
 use Rattle.kb_check_report.proofs.problems.add_lints.Goals as goal
@@ -14,11 +15,11 @@ loop-lint-preserved c =
       warnings = added.warnings ∙ kept.warnings;
       wanted = λ before. added.wanted (kept.wanted before);
       placed = λ files before. added.placed files (kept.placed files before);
-      left = λ enablement rules all.
-          others_sound enablement rules c.in-Some.lint rest
-          (subst (AreSound enablement rules) steps (kept.left enablement rules all));
-      sound = λ enablement rules all before.
-          added.sound enablement rules rest
-          (subst (AreSound enablement rules) steps (kept.left enablement rules all))
-          (kept.sound enablement rules all before);
+      left = λ files enablement rules all.
+          others_sound (IsAtRule files) enablement rules c.in-Some.lint rest
+          (subst (AreSound (IsAtRule files) enablement rules) steps (kept.left files enablement rules all));
+      sound = λ files enablement rules all before.
+          added.sound files enablement rules rest
+          (subst (AreSound (IsAtRule files) enablement rules) steps (kept.left files enablement rules all))
+          (kept.sound files enablement rules all before);
     }

@@ -4,7 +4,7 @@ use Rattle.std.specs.Vec.Iter.{into_iter_items}
 use Rattle.kb_resolve.specs.Enablements.{Enabling}
 use Rattle.kb_rules.specs.declared.rule.Rule.{Rule}
 use Rattle.kb_source_files.specs.declared.source_files.SourceFiles.{SourceFiles}
-use Rattle.kb_check_report.specs.Placed.{ArePlaced}
+use Rattle.kb_check_report.specs.Placed.{ArePlaced, IsAtRule}
 use Rattle.kb_check_report.specs.Problems.{AreWanted, warning_in}
 use Rattle.kb_check_report.specs.Starts.{AreSound}
 use Rattle.kb_check_report.proofs.problems.add_lints.Given as goal
@@ -16,8 +16,11 @@ invariant-loop-lint l = record {
   warnings : filter_map warning_in l.problems.items ≡ filter_map warning_in l.fn.problems.items;
   wanted : AreWanted l.choices l.fn.problems.items → AreWanted l.choices l.problems.items;
   placed : (files : SourceFiles) → ArePlaced files l.fn.problems.items → ArePlaced files l.problems.items;
-  left : (enablement : Enabling) (rules : List Rule) → AreSound enablement rules l.fn.lints.items
-      → AreSound enablement rules (into_iter_items l.lint-iterator);
-  sound : (enablement : Enabling) (rules : List Rule) → AreSound enablement rules l.fn.lints.items
-      → AreSound enablement rules l.fn.problems.items → AreSound enablement rules l.problems.items;
+  left : (files : SourceFiles) (enablement : Enabling) (rules : List Rule)
+      → AreSound (IsAtRule files) enablement rules l.fn.lints.items
+      → AreSound (IsAtRule files) enablement rules (into_iter_items l.lint-iterator);
+  sound : (files : SourceFiles) (enablement : Enabling) (rules : List Rule)
+      → AreSound (IsAtRule files) enablement rules l.fn.lints.items
+      → AreSound (IsAtRule files) enablement rules l.fn.problems.items
+      → AreSound (IsAtRule files) enablement rules l.problems.items;
 }

@@ -1,9 +1,10 @@
 use Rattle.std.proofs.Common.{map}
 use Rattle.kb_resolve.specs.Enablements.{enablement_in}
+use Rattle.kb_check_report.specs.Opened.{IsAtOpened}
 use Rattle.kb_check_report.specs.Starts.{AreSound}
 use Rattle.kb_check_report.proofs.rule_lints.add_cut_off.Given as goal
 
 abbrev pub invariant-loop-number : goal.invariant-loop-number
 invariant-loop-number l =
-    AreSound (enablement_in l.fn.enablements) (map (λ r. r.value) l.fn.rules) l.fn.problems.items
-    → AreSound (enablement_in l.fn.enablements) (map (λ r. r.value) l.fn.rules) l.problems.items
+    AreSound (IsAtOpened l.fn.files) (enablement_in l.fn.enablements) (map (λ r. r.value) l.fn.rules) l.fn.problems.items
+    → AreSound (IsAtOpened l.fn.files) (enablement_in l.fn.enablements) (map (λ r. r.value) l.fn.rules) l.problems.items
