@@ -181,7 +181,8 @@ fn add_of_shadows(
     choices: &Choices<'_>,
     problems: &mut Vec<Problem>,
 ) -> Result<(), NoMemory>
-    ensures { AreSound (IsAtOpened files.now) (enablement bindings.now) (rules_of bindings.now) problems.old.items
+    ensures { AreSound (IsAtOpened files.now) (enablement bindings.now) (rules_of bindings.now)
+        problems.old.items
         → OnOk result (AreSound (IsAtOpened files.now) (enablement bindings.now) (rules_of bindings.now)
         problems.new.items) }
 {
@@ -201,7 +202,8 @@ fn add_of_chords(
     choices: &Choices<'_>,
     problems: &mut Vec<Problem>,
 ) -> Result<(), NoMemory>
-    ensures { AreSound (IsAtOpened files.now) (enablement bindings.now) (rules_of bindings.now) problems.old.items
+    ensures { AreSound (IsAtOpened files.now) (enablement bindings.now) (rules_of bindings.now)
+        problems.old.items
         → OnOk result (AreSound (IsAtOpened files.now) (enablement bindings.now) (rules_of bindings.now)
         problems.new.items) }
 {
@@ -221,7 +223,8 @@ fn add_of_openings(
     choices: &Choices<'_>,
     problems: &mut Vec<Problem>,
 ) -> Result<(), NoMemory>
-    ensures { AreSound (IsAtOpened files.now) (enablement bindings.now) (rules_of bindings.now) problems.old.items
+    ensures { AreSound (IsAtOpened files.now) (enablement bindings.now) (rules_of bindings.now)
+        problems.old.items
         → OnOk result (AreSound (IsAtOpened files.now) (enablement bindings.now) (rules_of bindings.now)
         problems.new.items) }
 {

@@ -56,8 +56,8 @@ fn rule_span(
     member: &str,
 ) -> Result<Option<Span>, NoMemory>
     ensures { (sources : SourceFiles) → AreOpened sources files.now → IfOk result (λ span. IfSome span
-        (IsEntryIn (file_in_sources sources (file_in rule.now.origin)) (list_in (file_in rule.now.origin) Keybindings)
-        rule.now.place)) }
+        (IsEntryIn (file_in_sources sources (file_in rule.now.origin))
+        (list_in (file_in rule.now.origin) Keybindings) rule.now.place)) }
 {
     match files.of(rule.origin) {
         Some(opened) => Ok(opened.member(alloc, Part::Keybindings, rule.place, member)?),
