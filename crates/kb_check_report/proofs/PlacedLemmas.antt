@@ -1,10 +1,9 @@
 -- What is read at the path to an entry is the entry, and problems with their places.
 use Rattle.std.proofs.Common.{◌≡◌, ◌∙◌, ◌++◌, ◌==◌, ◌&&◌, ◌<◌, ℕ, zero, suc, List, [], ◌∷◌, Bool, true, false}
 use Rattle.std.proofs.Common.{append-nil, cond, get_or, inl, inr, refl, sym, subst, ap, arith, map, length}
-use Rattle.std.specs.Prelude.{◌⊎◌, Option, None, Some, IfSome, IsTrue, codes, is_some, option_and_then}
+use Rattle.std.specs.Prelude.{◌⊎◌, Option, None, Some, IfSome, IsTrue, is_some, option_and_then}
 use Rattle.std.specs.Borrow.{Bor}
 use Rattle.std.specs.Prelude.{option_map, slice_get, string_bytes}
-use Rattle.std.specs.List.{All}
 use Rattle.std.proofs.lemmas.Bool.{eqb-true, false≢true}
 use Rattle.std.proofs.lemmas.List.{map-append}
 use Rattle.std.proofs.lemmas.Option.{slice_get-get_or}

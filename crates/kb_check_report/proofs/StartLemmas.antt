@@ -1,7 +1,7 @@
 -- One more problem, which says that a rule can never start or doesn't.
 use Rattle.std.proofs.Common.{◌≡◌, ◌∙◌, ap, refl, sym, subst, List, [], ◌∷◌, ◌++◌, Bool, true, false, cond, ℕ, arith}
 use Rattle.std.proofs.Common.{append-nil, get_or, inl, inr, map, suc}
-use Rattle.std.specs.Prelude.{All, Some, filter, slice_get}
+use Rattle.std.specs.Prelude.{All, Some, slice_get}
 use Rattle.std.proofs.lemmas.List.Elements.{All-push, filter-append}
 use Rattle.kb_base.specs.declared.note.Warning.{Warning}
 use Rattle.kb_lints.specs.CutOff.{IsCutOff}

@@ -1,7 +1,6 @@
 -- The number, the name and the kind of a problem.
 use Rattle.std.specs.Prelude.{ℕ, ◌==◌, List, Option, Some, None, codes, if◌then◌else◌}
 use Rattle.kb_base.specs.Faults.{fault_name}
-use Rattle.kb_base.specs.declared.note.Warning.{Warning}
 use Rattle.kb_check_report.specs.declared.cause.Cause.{Cause}
 use Rattle.kb_check_report.specs.declared.cause.Cause.TheVariants.{Refused, Warned, Linted}
 use Rattle.kb_check_report.specs.Choices.{lint_name}

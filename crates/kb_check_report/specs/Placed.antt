@@ -1,7 +1,7 @@
 -- Where problems are. A problem is in the file of its cause, and the place of a warning is that of the entry
 -- that the warning names by its part and its index.
 use Rattle.std.specs.Prelude.{◌≡◌, ◌⊎◌, ◌==◌, ◌&&◌, ◌++◌, ℕ, List, [], ◌∷◌, Bool, if◌then◌else◌, codes, map}
-use Rattle.std.specs.Prelude.{Option, None, Some, IfSome, is_some, length, min, option_and_then, option_map}
+use Rattle.std.specs.Prelude.{Option, Some, IfSome, is_some, length, min, option_and_then, option_map}
 use Rattle.std.specs.Prelude.{slice_get, string_bytes}
 use Rattle.std.specs.Option.{option_map_or}
 use Rattle.std.specs.List.{All}

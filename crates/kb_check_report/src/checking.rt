@@ -189,7 +189,6 @@ fn are_none(problems: &[Problem]) -> bool
 /// load accepts the files without a warning. What is written is tested, and in no clause.
 ///
 /// Errors: `NotWritten` where a write failed, or `NoMemory`; what was written stays.
-#[tactic(auto, using(crate::proofs::TellLemmas::checked))]
 pub fn check<W: Write + Drop>(
     alloc: Global,
     files: &SourceFiles<'_>,

@@ -1,4 +1,4 @@
-use Rattle.std.proofs.Common.{◌≡◌, ◌++◌, ◌∷◌, [], ◌+◌, ap, arith, length, length-append, rules, subst, sym}
+use Rattle.std.proofs.Common.{◌≡◌, ◌++◌, ◌∷◌, [], ap, arith, length, length-append, rules, subst, sym}
 use Rattle.kb_check_report.specs.Opened.{ArePackages}
 use Rattle.kb_check_report.proofs.PlacedLemmas.{package_adds}
 use Rattle.kb_check_report.proofs.opened.open_packages.Goals as goal

@@ -1,7 +1,6 @@
 use Rattle.std.proofs.Common.{◌≡◌, ◌∙◌, ap, length, refl, rules, sym, Some}
-use Rattle.std.specs.Prelude.{Option, slice_get}
+use Rattle.std.specs.Prelude.{slice_get}
 use Rattle.std.proofs.lemmas.Option.{slice_get_read}
-use Rattle.kb_check_report.specs.declared.opened.Opened.{Opened}
 use Rattle.kb_check_report.proofs.opened.OpenedFiles.of.Goals as goal
 
 pub returns-in-Some-Some : goal.returns-in-Some-Some
