@@ -4,6 +4,7 @@ documents. The status is 0 if there is none. tools/check-hosts runs it."""
 
 from __future__ import annotations
 
+import ctypes
 import gc
 import sys
 import threading
@@ -76,6 +77,10 @@ def values(engine: Engine) -> Iterator[tuple[str, bool]]:
     yield "a list of numbers", raises(ValueError, lambda: engine.set("window", "a", numbers_in_list))
     fraction: Any = 1.5
     yield "a fraction", raises(ValueError, lambda: engine.set("window", "a", fraction))
+    not_bytes: Any = "[]"
+    no_text: Any = 5
+    yield "a text as a file", raises(ctypes.ArgumentError, lambda: engine.file(File.USER, not_bytes))
+    yield "a number as a key", raises(TypeError, lambda: engine.press(no_text))
     yield "no UTF-8", raises(UnicodeEncodeError, lambda: engine.set("window", "a", "\ud800"))
     yield "an unset", engine.unset("window", "list").ending == Ending.DONE
 
@@ -106,7 +111,12 @@ def threads(engine: Engine) -> Iterator[tuple[str, bool]]:
     other.join()
     yield "calls from another thread", found == [True] * len(calls)
     left = [loaded()]
-    other = threading.Thread(target=lambda: left.clear() or gc.collect())
+
+    def release() -> None:
+        left.clear()
+        gc.collect()
+
+    other = threading.Thread(target=release)
     other.start()
     other.join()
     loaded().close()
@@ -134,7 +144,7 @@ def main() -> int:
             wrong += [name for name, is_right in test(engine) if not is_right]
     wrong += [name for name, is_right in ends() if not is_right]
     for name in wrong:
-        print(f"{name}: not as hosts/python/pafjirn.py documents")
+        print(f"{name}: not as hosts/python/pafjirn documents")
     return 1 if wrong else 0
 
 

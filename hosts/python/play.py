@@ -10,67 +10,23 @@ there is no library; 4 if the session stops, or the script or the output fails; 
 from __future__ import annotations
 
 import argparse
-import os
 import pathlib
 import sys
 import time
-from typing import TextIO
 
-from pafjirn import Engine, EngineError, File, LibraryNotFound, LoadRefused, Platform
-
-PLATFORMS = {"linux": Platform.LINUX, "mac": Platform.MAC, "win": Platform.WINDOWS}
-# The status for some answers of the engine. For any other answer it is 4.
-STATUSES = {10: 2, 103: 5}
-
-
-class Stop(Exception):
-    """The end of a run: a message with the reason, and the status."""
-
-    def __init__(self, why: str, status: int) -> None:
-        super().__init__(why)
-        self.status = status
+from pafjirn import Engine, EngineError
+from pafjirn.command_line import Stop, add_files, parser, status_of
 
 
 def read_words() -> argparse.Namespace:
-    parser = argparse.ArgumentParser(prog="play.py")
-    for name in ["--layout", "--defaults", "--user", "--script"]:
-        parser.add_argument(name, type=pathlib.Path)
-    parser.add_argument("--platform", choices=PLATFORMS)
-    parser.add_argument("--press", nargs=2, metavar=("N", "KEY"), help="press KEY N times instead")
-    parser.add_argument("folders", nargs="*", type=pathlib.Path, metavar="DIR")
-    words = parser.parse_args()
+    options = parser("play.py")
+    about = "the script: standard input if absent"
+    options.add_argument("--script", type=pathlib.Path, metavar="F", help=about)
+    options.add_argument("--press", nargs=2, metavar=("N", "KEY"), help="press KEY N times instead")
+    words = options.parse_args()
     if words.press and not (words.press[0].isdecimal() and int(words.press[0]) > 0):
-        parser.error(f"--press {words.press[0]}: give a number of presses of at least 1")
+        options.error(f"--press {words.press[0]}: give a number of presses of at least 1")
     return words
-
-
-def read(path: pathlib.Path) -> bytes:
-    """The bytes of a file."""
-    try:
-        return path.read_bytes()
-    except OSError:
-        raise Stop(f"cannot read {path}", 3) from None
-
-
-def read_if_there(path: pathlib.Path) -> bytes | None:
-    """The bytes of a file, or None if there is no file."""
-    try:
-        return path.read_bytes()
-    except FileNotFoundError:
-        return None
-    except OSError:
-        raise Stop(f"cannot read {path}", 3) from None
-
-
-def add_files(engine: Engine, given: argparse.Namespace) -> None:
-    """Passes the files that the arguments name to the engine."""
-    if given.platform:
-        engine.platform(PLATFORMS[given.platform])
-    for file, path in [(File.LAYOUT, given.layout), (File.DEFAULTS, given.defaults), (File.USER, given.user)]:
-        if path:
-            engine.file(file, read(path))
-    for folder in given.folders:
-        engine.extension(read(folder / "package.json"), read_if_there(folder / "handlers.json"))
 
 
 def read_script(path: pathlib.Path | None) -> list[bytes]:
@@ -114,50 +70,22 @@ def press(engine: Engine, presses: int, key: str) -> str:
     return f"{presses} presses, {each:.3f} microseconds each, {memory}\n"
 
 
-def run(given: argparse.Namespace, out: TextIO) -> None:
+def run() -> None:
     """Loads the files, and runs the script or presses the key."""
+    given = read_words()
     with Engine() as engine:
         add_files(engine, given)
         sys.stderr.write(engine.load())
         if given.press:
-            out.write(press(engine, int(given.press[0]), given.press[1]))
+            sys.stdout.write(press(engine, int(given.press[0]), given.press[1]))
             return
-        for record in engine.records(read_script(given.script)):
-            out.write(record.trace)
-
-
-def main() -> int:
-    given = read_words()
-    # (the defaults of the system may differ)
-    sys.stdout.reconfigure(encoding="utf-8", newline="\n")  # type: ignore[union-attr]
-    sys.stderr.reconfigure(encoding="utf-8", newline="\n")  # type: ignore[union-attr]
-    status = 0
-    try:
-        run(given, sys.stdout)
-    except Stop as stop:
-        print(stop, file=sys.stderr)
-        status = stop.status
-    except (LoadRefused, LibraryNotFound) as refused:
-        print(refused, file=sys.stderr)
-        status = 3
-    except EngineError as stopped:
-        print(stopped, file=sys.stderr)
-        status = STATUSES.get(stopped.answer, 4)
-    return status
-
-
-def main_that_writes() -> int:
-    """Runs `main`, and reports output that can't be written."""
-    try:
-        status = main()
-        sys.stdout.flush()
-        return status
-    except OSError:
-        print("script: write failed", file=sys.stderr)
-        # (otherwise the interpreter would try to write the rest again at its end)
-        os.dup2(os.open(os.devnull, os.O_WRONLY), sys.stdout.fileno())
-        return 4
+        try:
+            for record in engine.records(read_script(given.script)):
+                sys.stdout.write(record.trace)
+        except EngineError:
+            sys.stdout.write(engine.trace())
+            raise
 
 
 if __name__ == "__main__":
-    sys.exit(main_that_writes())
+    sys.exit(status_of(run))

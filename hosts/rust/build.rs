@@ -23,16 +23,18 @@ fn by_pkg_config() -> Option<PathBuf> {
 }
 
 fn main() -> ExitCode {
-    println!("cargo::rerun-if-env-changed=PAFJIRN_PREFIX");
-    println!("cargo::rerun-if-env-changed=PKG_CONFIG_PATH");
+    println!("cargo:rerun-if-env-changed=PAFJIRN_PREFIX");
+    println!("cargo:rerun-if-env-changed=PKG_CONFIG_PATH");
     let is_in = |folder: &PathBuf| folder.join("libpafjirn.a").is_file();
-    let Some(folder) = folders().into_iter().find(is_in) else {
+    let folder = if let Some(folder) = folders().into_iter().find(is_in) {
+        folder
+    } else {
         eprintln!("no libpafjirn.a: run tools/build-library, or set PAFJIRN_PREFIX to its prefix");
         return ExitCode::FAILURE;
     };
     let folder = folder.display();
-    println!("cargo::rerun-if-changed={folder}/libpafjirn.a");
-    println!("cargo::rustc-link-search=native={folder}");
-    println!("cargo::rustc-link-lib=static=pafjirn");
+    println!("cargo:rerun-if-changed={folder}/libpafjirn.a");
+    println!("cargo:rustc-link-search=native={folder}");
+    println!("cargo:rustc-link-lib=static=pafjirn");
     ExitCode::SUCCESS
 }

@@ -6,7 +6,7 @@
 //! With `--press` it runs no script: it presses the key N times, at least once, and prints the time of a
 //! press and the memory. The status is 0; 2 for wrong arguments; 3 if a file cannot be read or the load is
 //! refused; 4 if the session stops, or the script or the output fails; 5 if a handler traps.
-use pafjirn::{Engine, Error, File, Platform};
+use pafjirn::{Engine, Error, File, Platform, Record};
 use std::io::{self, ErrorKind, Read, Write};
 use std::num::NonZeroU32;
 use std::process::ExitCode;
@@ -95,7 +95,7 @@ fn press_often(engine: &mut Engine, presses: u32, key: &str) -> Result<(), Error
 /// the presses and after all.
 fn press(engine: &mut Engine, presses: NonZeroU32, key: &str) -> Result<String, Stop> {
     let presses = presses.get();
-    let (tenth, start) = (presses.div_ceil(10), Instant::now());
+    let (tenth, start) = ((presses + 9) / 10, Instant::now());
     press_often(engine, tenth, key)?;
     let early = most_memory();
     press_often(engine, presses - tenth, key)?;
@@ -128,8 +128,12 @@ fn lines(script: &[u8]) -> impl Iterator<Item = &[u8]> {
 /// Runs a script line by line, and writes what each line adds to the trace.
 fn play(engine: &mut Engine, script: &[u8], out: &mut impl Write) -> Result<(), Stop> {
     for record in engine.records(lines(script)) {
-        let trace = record?.trace;
+        let trace = match &record {
+            Ok(Record { trace, .. }) | Err(Error::Trapped { trace }) => trace,
+            Err(_) => "",
+        };
         out.write_all(trace.as_bytes()).map_err(|_| Stop::Write)?;
+        record?;
     }
     Ok(())
 }
@@ -179,7 +183,7 @@ fn report(stop: &Stop) -> u8 {
     match stop {
         Stop::Words | Stop::Engine(Error::NoKey) => 2,
         Stop::Unread(_) | Stop::Engine(Error::Refused(_)) => 3,
-        Stop::Engine(Error::Trapped) => 5,
+        Stop::Engine(Error::Trapped { .. }) => 5,
         Stop::Engine(_) | Stop::Script | Stop::Write => 4,
     }
 }

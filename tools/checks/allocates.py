@@ -13,7 +13,7 @@ import glob
 import os
 import re
 
-from gate.source import body_at, closing, module_of, words_of
+from shared.source import closing, functions_in
 
 # Types that report that memory was refused, or a failure that may be refused memory.
 MEMORY = {"NoMemory", "Failure", "AllocError", "Fail", "TryReserveError", "anyhow"}
@@ -37,7 +37,7 @@ EXCEPTIONS = {
     + ["obey_question", "obey_handlers", "say_stop", "reason_of", "unread_reason"],
     "kb_program": ["run_host", "run_program"],
     "kb_run": ["run_and_report", "run_on_system"],
-    **{it: ["main"] for it in ("kb_example_host", "kb_keycheck_main", "kb_main", "kb_rawrun")},
+    **{it: ["main"] for it in ("kb_example_host", "kb_keycheck_main", "kb_main", "kb_rawrun_main")},
     # They do the same in tests.
     "kb_golden_code": ["handlers_in"],
     "kb_refused_calls": ["main", "answer"],
@@ -48,23 +48,23 @@ EXCEPTIONS = {
     # A chord's keystrokes are inline.
     "kb_keys": ["Chord::copied"],
 }
-BEFORE_ITEMS = {"}", ";", "]", "pub", "unsafe", ")", "{"}
 TYPE = re.compile(r"(?ms)^(?:pub(?:\([^)]*\))? )?(?:enum|struct) (\w+)(.*?)(?:^}|;$)")
 ALIAS = re.compile(r"(?m)^(?:pub(?:\([^)]*\))? )?type (\w+)([^;]*);")
 ASKED = {"map_err", "ok", "is_ok", "is_err", "unwrap_or", "unwrap_or_else", "and_then"}
 
 
 class Function:
-    """A function with a body: its place, the type that defines it, and its result and body as words."""
+    """A function with a body, its result and body as words, and why it allocates."""
 
-    def __init__(self, crate, file, line, name, owner, signature, body):
-        self.crate, self.file, self.line, self.name, self.owner = crate, file, line, name, owner
+    def __init__(self, crate, file, found):
+        self.crate, self.file, self.line = crate, file, found.signature[0][0]
+        self.name, self.owner = found.name, found.owner
+        signature, self.body = joined(found.signature), joined(found.body)
         self.result = signature[signature.index("->") :] if "->" in signature else []
         self.takes_alloc = "alloc" in signature
-        self.body = body
         if "where" in self.result:
             self.result = self.result[: self.result.index("where")]
-        self.module = module_of("src/" + file.partition("/src/")[2]).rpartition("::")[2]
+        self.module = found.module.rpartition("::")[2]
         self.why = ""
 
     def full_name(self):
@@ -79,38 +79,6 @@ def joined(words):
             found[-1] = "->"
         else:
             found.append(word)
-    return found
-
-
-def owner_of(words, at):
-    """The type of the impl block whose first word is here."""
-    head = [it for _, it in words[at + 1 : body_at(words, at + 1)]]
-    if head[:1] == ["<"]:
-        head = head[closing([(0, it) for it in head], 0, "<", ">") + 1 :]
-    head = head[head.index("for") + 1 :] if "for" in head else head
-    return next((it for it in head if re.match(r"[A-Z]\w*$", it)), "")
-
-
-def functions_in(crate, file, top):
-    """The functions of a source, without those of its tests."""
-    words, blocks, found = words_of(os.path.join(top, file)), [], []
-    for at, (line, word) in enumerate(words):
-        while blocks and at > blocks[-1][0]:
-            blocks.pop()
-        after = words[at + 1][1] if at + 1 < len(words) else ""
-        if word == "mod" and after == "tests" and body_at(words, at + 1) is not None:
-            blocks.append((closing(words, body_at(words, at + 1)), None))
-        elif word in ("impl", "trait") and (at == 0 or words[at - 1][1] in BEFORE_ITEMS):
-            opened = body_at(words, at + 1)
-            if opened is not None:
-                blocks.append((closing(words, opened), owner_of(words, at) if word == "impl" else after))
-        elif word == "fn" and re.match(r"\w", after) and None not in [it for _, it in blocks]:
-            opened = body_at(words, at + 1)
-            if opened is not None:
-                closed = closing(words, opened)
-                owner = blocks[-1][1] if blocks else ""
-                signature, body = joined(words[at:opened]), joined(words[opened:closed])
-                found.append(Function(crate, file, line, after, owner, signature, body))
     return found
 
 
@@ -246,12 +214,13 @@ def violations(top):
     """A message for each function that allocates although its result can't report that memory was refused,
     and for each entry of EXCEPTIONS that isn't needed."""
     functions, texts, imports = [], [], {}
-    for file in sorted(glob.glob(os.path.join(top, "crates/*/src/**/*.rt"), recursive=True)):
-        with open(file, encoding="utf-8") as text:
+    for path in sorted(glob.glob("crates/*/src/**/*.rt", root_dir=top, recursive=True)):
+        with open(os.path.join(top, path), encoding="utf-8") as text:
             texts.append(text.read())
-        path = os.path.relpath(file, top)
         imports[path] = imports_of(texts[-1])
-        functions += functions_in(path.split("/")[1], path, top)
+        _, crate, file = path.split("/", 2)
+        found = functions_in(file, os.path.join(top, "crates", crate))
+        functions += [Function(crate, path, it) for it in sorted(found, key=lambda it: it.head)]
     mark(functions, imports)
     types = types_with_memory(texts)
     found = [it for it in functions if it.why and not says_memory(it, types)]

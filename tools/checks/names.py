@@ -15,8 +15,8 @@ import pathlib
 import re
 
 HERE = os.path.dirname(os.path.abspath(__file__))
-DOCUMENTS = ("README.md", "docs/*.md", "golden/README.md")
-CODE = (".rt", ".antt", ".edit", ".json", ".txt", ".py", ".c")
+DOCUMENTS = ("README.md", "docs/**/*.md", "golden/README.md", "tools/**/README.md", "bench/**/README.md")
+CODE = (".rt", ".antt", ".edit", ".json", ".txt", ".py", ".c", ".js", ".ts")
 ENDINGS = ("rt", "antt", "edit", "json", "txt", "py", "md", "c")
 
 SPAN = re.compile(r"(`+)(.+?)\1(?!`)")
@@ -180,7 +180,7 @@ def lacking_in_document(top, document, tree, known):
 
 def lacking(top, documents=()):
     """A message for each name that the tree lacks, in these documents or in all."""
-    found = [it for form in DOCUMENTS for it in sorted(glob.glob(form, root_dir=top))]
+    found = [it for form in DOCUMENTS for it in sorted(glob.glob(form, root_dir=top, recursive=True))]
     tree, known = Tree(top), known_names()
     lines = []
     for document in documents or found:

@@ -1,6 +1,7 @@
 pub mod Blank
+pub mod ExtensionId
 pub mod Failure
-pub mod Faults
+pub mod Fault
 pub mod HashedMap
 pub mod HashedText
 pub mod Note

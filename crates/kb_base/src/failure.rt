@@ -26,7 +26,8 @@ impl<F> Failure<F> {
         }
     }
 
-    /// The same failure, with its fault mapped by a `map` that may be refused memory.
+    /// The same failure, with its fault mapped by a `map` that may be refused memory. The fault is dropped
+    /// then.
     pub fn try_map_fault<G, M: FnOnce(F) -> Result<G, NoMemory>>(self, map: M) -> Failure<G>
         requires { ForFault self (M.pre map) }
         ensures { TriesFault (M.post map) self result }

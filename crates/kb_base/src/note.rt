@@ -2,8 +2,10 @@
 ghost use Rattle.std.specs.Prelude.{◌≡◌};
 ghost use Rattle.kb_base.specs.Note.{part_name};
 
+use crate::fault::FaultKind;
 use crate::memory::NoMemory;
 use crate::text::Text;
+use std::fmt;
 
 /// The file that an entry is read from.
 #[derive(Clone, Copy, Debug, PartialEq, Eq)]
@@ -49,12 +51,37 @@ pub struct Warning {
     pub origin: Origin,
     /// The part of the file that holds the entry.
     pub part: Part,
-    /// The number of the warning. For a dropped entry it is the number of its first fault: 10 to 12 for a
-    /// key text, 30 to 33 for the clause of a rule, else 40 or 41. It is 30 to 33 for an unreadable clause of
-    /// a command or of an item of the palette, and 34 for a clause with an unsupported pattern.
-    pub number: u32,
+    /// What is wrong. Of a dropped entry it is the first fault: 10 to 12 for a key text, 30 to 33 for the
+    /// clause of a rule, else 40 or 41. It is 30 to 33 for an unreadable clause of a command or of an item
+    /// of the palette, and 34 for a clause with an unsupported pattern.
+    pub kind: FaultKind,
     /// The place of the entry in its part: the number of entries above it, including dropped ones.
     pub place: usize,
+}
+
+/// Shows the line of a load's warning, without a line feed: its number, the name of its source (`defaults`,
+/// `user` or an extension's identifier), the part of the file that its entry is in, and the entry's place.
+#[derive(Clone, Copy, Debug)]
+pub struct WarningLine<'a> {
+    /// The name of the source.
+    pub source: &'a str,
+    /// The warning.
+    pub warning: &'a Warning,
+}
+
+impl fmt::Display for WarningLine<'_> {
+    ghost use Rattle.std.specs.Prelude.{Some};
+    ghost use Rattle.kb_base.specs.Note.{warning_line};
+
+    ghost output = { λ line. Some (warning_line line.source.now line.warning.now) };
+
+    fn fmt<W: fmt::Write>(&self, f: &mut fmt::Formatter<W>) -> fmt::Result {
+        let number = self.warning.kind.number();
+        let source = self.source;
+        let part = self.warning.part.name();
+        let place = self.warning.place;
+        write!(f, "warning {number} {source} {part} {place}")
+    }
 }
 
 /// A pattern of a clause that `regex` rejects. Such a comparison is always false (our decision).

@@ -69,15 +69,4 @@ impl<T: Drop> Seq<T> {
         self.items.push(item)?;
         Ok(())
     }
-
-    /// Adds two items at the end. Error: `NoMemory`; the list is then unchanged.
-    pub fn push_two(&mut self, first: T, second: T) -> Result<(), NoMemory>
-        ensures ok { OnOk result (self.new ≡ self.old ++ first ∷ second ∷ []) }
-        ensures err { OnErr result (self.new ≡ self.old) }
-    {
-        self.items.reserve(2)?;
-        self.items.push(first).unwrap();
-        self.items.push(second).unwrap();
-        Ok(())
-    }
 }

@@ -1,7 +1,7 @@
 -- The commands of a table in turn, and extensions that are enabled or disabled.
 use Rattle.std.proofs.Common.{◌≡◌, ◌<◌, ◌+◌, ℕ, List, [], ◌∷◌, map, drop, length, ap, arith, Some}
 use Rattle.std.proofs.Common.{zero, suc, ◌≤◌, Bool, false, refl, ◌++◌, get_or, set, subst}
-use Rattle.std.specs.Prelude.{Result, IfErr}
+use Rattle.std.specs.Prelude.{Result, IfErr, IfOk}
 use Rattle.std.specs.List.{slice_get, flat_map}
 use Rattle.kb_manifest.specs.declared.command_table.Named.{Named}
 use Rattle.kb_resolve.specs.declared.enablements.Contribution.{Contribution}
@@ -13,7 +13,9 @@ use Rattle.kb_bindings.specs.Warning.{of_extension, warnings_of}
 use Rattle.kb_context.specs.Scopes.{Keys}
 use Rattle.kb_keys.specs.declared.keystroke.Keystroke.{Keystroke}
 use Rattle.kb_resolve.specs.Enablements.{Enabling}
-use Rattle.kb_resolve.specs.Resolver.{MayAskPatterns}
+use Rattle.kb_resolve.specs.Resolved.{found_in}
+use Rattle.kb_resolve.specs.Resolver.{MayAskPatterns, resolved}
+use Rattle.kb_resolve.specs.declared.found.Found.{Found}
 use Rattle.kb_rules.specs.declared.rule.Rule.{Rule}
 
 -- one more command of a table, and then those that are left
@@ -83,3 +85,13 @@ pub asks_among : {X E : Type 0} (r : Result X E) (pressed : List Keystroke) (key
 asks_among r pressed keys e f rules all same are h =
     subst (λ (rs : List Rule). IfErr r (λ _. MayAskPatterns pressed keys f rs)) are
     (subst (λ (g : Enabling). IfErr r (λ _. MayAskPatterns pressed keys g rules)) same h)
+
+-- ---- what a search finds, for equal enablements and rules
+
+pub found_among : {X E : Type 0} (place : X → Found) (r : Result X E) (pressed : List Keystroke) (keys : Keys)
+    (e f : Enabling) (rules all : List Rule) → e ≡ f → rules ≡ all
+    → IfOk r (λ x. found_in rules (place x) ≡ Some (resolved pressed keys e rules))
+    → IfOk r (λ x. found_in all (place x) ≡ Some (resolved pressed keys f all))
+found_among place r pressed keys e f rules all same are h =
+    subst (λ (rs : List Rule). IfOk r (λ x. found_in rs (place x) ≡ Some (resolved pressed keys f rs))) are
+    (subst (λ (g : Enabling). IfOk r (λ x. found_in rules (place x) ≡ Some (resolved pressed keys g rules))) same h)

@@ -30,7 +30,8 @@ use Rattle.kb_rules.proofs.RuleListLemmas.{of_list, listed-same}
 use Rattle.kb_rules.specs.RuleList.{Listed, AreRightlyMarked}
 use Rattle.kb_when.proofs.PlacedLemmas.{AllFrom, AllOf, from_of, marks_at-append, marks_at-other_file}
 use Rattle.kb_when.specs.Placed.{marks_at}
-use Rattle.kb_bindings.specs.Load.{Files, Held, HeldLists, HeldRules}
+use Rattle.kb_bindings.specs.Load.{Held, HeldLists, HeldRules}
+use Rattle.kb_files.specs.Inputs.{Files}
 use Rattle.kb_bindings.specs.Load.{rules_held, loaded, sources_by, AreRules, AreLists, IsBound}
 use Rattle.kb_bindings.specs.declared.load.Loaded.{Loaded}
 use Rattle.kb_bindings.specs.Sources.{Sources}

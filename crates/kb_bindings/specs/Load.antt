@@ -7,7 +7,7 @@ use Rattle.kb_base.specs.Failure.{Fails}
 use Rattle.kb_base.specs.Reading.{◌>>=◌, seen}
 use Rattle.kb_base.specs.declared.failure.Failure.{Failure}
 use Rattle.kb_context.specs.Scopes.{RevisedScopes}
-use Rattle.kb_files.specs.Extensions.{ExtensionBytes, HeldExtension, extension_bytes, manifests}
+use Rattle.kb_files.specs.Extensions.{HeldExtension, manifests}
 use Rattle.kb_files.specs.Extensions.{extensions_held, extensions_by, outlines_of, handlers_of}
 use Rattle.kb_files.specs.Extensions.{AreExtensions, AllRightlyMarked}
 use Rattle.kb_files.specs.Fault.{refused_by}
@@ -15,7 +15,7 @@ use Rattle.kb_files.specs.Layout.{layout_scopes}
 use Rattle.kb_files.specs.RuleFile.{elements_held, rules_by}
 use Rattle.kb_files.specs.declared.fault.LoadFault.{LoadFault}
 use Rattle.kb_files.specs.declared.fault.LoadFile.TheVariants as file
-use Rattle.kb_files.specs.declared.inputs.Inputs.{Inputs}
+use Rattle.kb_files.specs.Inputs.{Files}
 use Rattle.kb_keys.specs.declared.platform.Platform.{Platform}
 use Rattle.kb_rules.specs.RuleList.{Listed, AreRightlyMarked}
 use Rattle.kb_base.specs.declared.note.Origin.{Origin}
@@ -24,23 +24,6 @@ use Rattle.kb_base.specs.declared.note.EntryPattern.{EntryPattern}
 use Rattle.kb_bindings.specs.Sources.{Sources}
 use Rattle.kb_bindings.specs.Unread.{unread_of}
 use Rattle.kb_bindings.specs.declared.load.Loaded.{Loaded}
-
--- all files, those of extensions in load order
-pub record Files : Type 0 where
-  pub layout : Option (List ℕ)
-  pub defaults : List ℕ
-  pub user : List ℕ
-  pub platform : Platform
-  pub extensions : List ExtensionBytes
-
-abbrev pub files_of : Inputs → Files
-files_of inputs = record {
-  layout = option_map (λ layout. layout.now) inputs.layout;
-  defaults = inputs.defaults.now;
-  user = inputs.user.now;
-  platform = inputs.platform;
-  extensions = map extension_bytes inputs.extensions.now;
-}
 
 -- ---- all files
 

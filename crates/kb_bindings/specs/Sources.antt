@@ -1,5 +1,5 @@
 -- What binds keys: the default rules, the extensions in load order, enabled or not, and the user's rules.
-use Rattle.std.specs.Prelude.{ℕ, Bool, List, [], map, Option, codes, slice_get}
+use Rattle.std.specs.Prelude.{◌≡◌, ℕ, Bool, List, [], ◌∷◌, ◌++◌, map, Option, Some, codes, slice_get}
 use Rattle.std.specs.Prelude.{if◌then◌else◌}
 use Rattle.std.specs.List.{flat_map}
 use Rattle.std.specs.Option.{option_map_or}
@@ -11,7 +11,10 @@ use Rattle.kb_manifest.specs.declared.command_table.Named.{Named}
 use Rattle.kb_resolve.specs.ChordState.{step, pressed_after}
 use Rattle.kb_resolve.specs.Enablements.{enablement_of}
 use Rattle.kb_resolve.specs.Pressed.{Step}
+use Rattle.kb_resolve.specs.Resolved.{Resolution, found_in}
+use Rattle.kb_resolve.specs.Resolver.{resolved}
 use Rattle.kb_resolve.specs.declared.enablements.Contribution.{Contribution}
+use Rattle.kb_resolve.specs.declared.found.Found.{Found}
 use Rattle.kb_rules.specs.RuleList.{Listed}
 use Rattle.kb_rules.specs.RuleSet.{rules_in_force}
 use Rattle.kb_base.specs.declared.note.Origin.{Origin}
@@ -61,3 +64,11 @@ pressed before key scopes s = step before key (context scopes) (enablement s) (r
 -- the keystrokes that are pressed after it
 abbrev pub still_pressed : List Keystroke → Keystroke → ScopesData → Sources → List Keystroke
 still_pressed before key scopes s = pressed_after before key (context scopes) (enablement s) (rules_of s)
+
+-- what the search of such a press finds
+abbrev pub found_behind : List Keystroke → Keystroke → ScopesData → Sources → Resolution
+found_behind before key scopes s = resolved (before ++ key ∷ []) (context scopes) (enablement s) (rules_of s)
+
+-- a position among the rules in force, or that there is none, is of what a search finds
+abbrev pub IsPlaceOf : Sources → Found → Resolution → Type 0
+IsPlaceOf s place resolution = found_in (rules_of s) place ≡ Some resolution

@@ -7,6 +7,7 @@ ghost use Rattle.kb_resolve.specs.Pressed.{step_of};
 ghost use Rattle.kb_resolve.specs.Resolved.{resolution_of};
 ghost use Rattle.kb_resolve.specs.Resolver.{MayAskPatterns, resolved};
 ghost use Rattle.kb_bindings.specs.Sources.{pressed, still_pressed, rules_of, with_user_rules, source_of};
+ghost use Rattle.kb_bindings.specs.Sources.{IsPlaceOf, found_behind};
 ghost use Rattle.kb_bindings.specs.Sources.{contribution_of, contributions_of, enablement, with_enabled};
 ghost use Rattle.kb_files.specs.Enabled.{is_enabled_at, switched_at};
 ghost use Rattle.kb_bindings.specs.Unread as unread;
@@ -23,7 +24,7 @@ use kb_keys::Keystroke;
 use kb_manifest::{Command, CommandTable};
 use kb_palette::PaletteCommand;
 use kb_palette_commands::palette_commands;
-use kb_resolve::{ChordState, Contribution, Enablements, Pressed, Resolved, Resolver};
+use kb_resolve::{ChordState, Contribution, Enablements, Press, Resolved, Resolver};
 use kb_rules::{Origin, RuleList, RuleSet};
 use std::alloc::Global;
 use std::marker::Model;
@@ -126,9 +127,11 @@ impl Bindings {
         chord: &mut ChordState,
         stroke: Keystroke,
         scopes: &Scopes,
-    ) -> Result<Pressed<'b>, NoMemory>
-        ensures step { IfOk result (λ does.
-            step_of does ≡ pressed chord.old stroke scopes.now.seen self.now) }
+    ) -> Result<Press<'b>, NoMemory>
+        ensures step { IfOk result (λ press.
+            step_of press.does ≡ pressed chord.old stroke scopes.now.seen self.now) }
+        ensures found { IfOk result (λ press. IsPlaceOf self.now press.found
+            (found_behind chord.old stroke scopes.now.seen self.now)) }
         ensures pressed { OnOk result (chord.new ≡ still_pressed chord.old stroke scopes.now.seen self.now) }
         ensures err { OnErr result (chord.new ≡ chord.old) }
         ensures memory { IfErr result (λ _. MayAskPatterns (chord.old ++ stroke ∷ [])
@@ -138,7 +141,7 @@ impl Bindings {
     }
 
     /// Looks up the rule of these keystrokes, over what the focus of the scopes sees. Nothing is pressed.
-    /// `NoMemory` only if a clause or an enablement with a pattern is evaluated.
+    /// Error: `NoMemory`.
     pub fn look_up<'b>(
         &'b self,
         strokes: &[Keystroke],
@@ -199,7 +202,7 @@ impl Bindings {
         self.palette.as_slice()
     }
 
-    /// The unread patterns of the entries of all files, in the order of the files.
+    /// The unread patterns of the entries of all files, in the order of the files. Error: `NoMemory`.
     pub fn unread(&self, alloc: Global) -> Result<Seq<EntryPattern>, NoMemory>
         ensures { IfOk result (λ all. all ≡ unread.unread_of self.now) }
     {
@@ -225,7 +228,8 @@ impl Bindings {
         }
     }
 
-    /// What other rules of the user make of the search, before anything changes.
+    /// What other rules of the user make of the search, before anything changes. Error: `NoMemory`; the new
+    /// rules are then dropped.
     pub fn renewed(&self, alloc: Global, user: RuleList) -> Result<Renewed, NoMemory>
         ensures { IfOk result (λ renewed. IsRenewed self.now user renewed) }
     {

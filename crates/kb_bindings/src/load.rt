@@ -6,7 +6,8 @@ ghost use Rattle.kb_files.specs.Layout.{layout_scopes};
 ghost use Rattle.kb_files.specs.Marked.{GivesOf};
 ghost use Rattle.kb_files.specs.RuleFile.{elements_held};
 ghost use Rattle.kb_rules.specs.RuleList.{AreRightlyMarked};
-ghost use Rattle.kb_bindings.specs.Load.{files_of, LoadsFiles, MarksAreRight, AreRules, AreLists, IsBound};
+ghost use Rattle.kb_bindings.specs.Load.{LoadsFiles, MarksAreRight, AreRules, AreLists, IsBound};
+ghost use Rattle.kb_files.specs.Inputs.{files_of};
 ghost use Rattle.kb_bindings.specs.Load.{lists_held, rules_held};
 
 use crate::bindings::Bindings;
@@ -32,15 +33,16 @@ pub struct Loaded {
 
 /// What these files give.
 ///
-/// Errors: the first file that is refused, and why, in this order (our decision): the layout (1 to 4, 40,
-/// 41, 21, 22), the default rules, the user's rules (1 to 4, 41 each), more than 100 extensions (44), for
-/// each extension in load order its manifest (1 to 4, 40, 41) and, if there is one, its file of handlers (1
-/// to 4, 40 to 44, 50 to 53), an extension that repeats the identifier of an earlier one (91), one that
-/// depends on an extension that isn't before it (90); or refused memory.
+/// Errors: the first file that is refused, and why, in this order (our decision): the layout (1 to 4, 40, 41,
+/// 21, 22), the default rules, the user's rules (1 to 4, 41 each), more than 100 extensions (44), for each
+/// extension in load order its manifest (1 to 4, 40, 41) and, if there is one, its file of handlers (1 to 4,
+/// 40 to 44, 50 to 53), an extension that repeats the identifier of an earlier one (91), one that depends on
+/// an extension that isn't before it (90); or refused memory.
 pub fn load_files(alloc: Global, inputs: Inputs<'_>) -> Result<Loaded, Failure<LoadFault>>
     ensures read { LoadsFiles (files_of inputs.entry) result }
 
-    // A pattern is listed as unread exactly where `regex` rejects it.
+    // A pattern is listed as unread only if the grammar of `regex` rejects it or it nests too deep. One that
+    // isn't listed is read by that grammar.
     ensures right { IfOk result (λ loaded. MarksAreRight (files_of inputs.entry) loaded.bindings) }
 {
     let scopes = load_scopes(alloc, inputs.layout)?;

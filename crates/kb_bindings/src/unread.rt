@@ -29,7 +29,7 @@ pub(crate) fn all_unread(
     Ok(all)
 }
 
-/// A copy of the unread patterns of a list of rules.
+/// A copy of the unread patterns of a list of rules. Error: `NoMemory`.
 pub fn unread_rules(alloc: Global, list: &RuleList) -> Result<Seq<EntryPattern>, NoMemory>
     ensures { IfOk result (λ all. all ≡ list.now.unread) }
 {

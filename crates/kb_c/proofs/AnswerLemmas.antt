@@ -2,9 +2,9 @@
 use Rattle.std.proofs.Common.{◌≡◌, refl, sym, subst}
 use Rattle.std.specs.Prelude.{Option, Some, None}
 use Rattle.kb_c.specs.Held.{Answers}
-use Rattle.kb_embed.specs.Values.{EngineData}
-use Rattle.kb_embed.specs.declared.outcome.Outcome.{Outcome}
-use Rattle.kb_embed.specs.declared.outcome.Outcome.TheVariants as outcome
+use Rattle.kb_engine.specs.Values.{EngineData}
+use Rattle.kb_engine.specs.declared.outcome.Outcome.{Outcome}
+use Rattle.kb_engine.specs.declared.outcome.Outcome.TheVariants as outcome
 
 pub answers_live : (P : EngineData → Outcome → EngineData → Type 0) (a b : Option EngineData) (n : Option Outcome)
     (old new : EngineData) (o : Outcome) → Some old ≡ a → n ≡ Some o → b ≡ Some new → P old o new

@@ -6,10 +6,10 @@ use denote.RawPtr.{Ptr}
 use mir.Syntax.{Ty}
 use Rattle.std.specs.contracts.impls.GlobalAllocator.TheImpl.{ghosts}
 use Rattle.std_alloc.specs.Box.Ownership.{box_owns}
-use Rattle.kb_embed.specs.Engine.{entries_of, entry_text, kind_number, new_engine, numbered_text}
-use Rattle.kb_embed.specs.Values.{EngineData}
-use Rattle.kb_embed.specs.declared.outcome.Outcome.{Outcome}
-use Rattle.kb_embed.specs.declared.outcome.Outcome.TheVariants as outcome
+use Rattle.kb_engine.specs.Engine.{entries_of, entry_text, kind_number, new_engine, numbered_text}
+use Rattle.kb_engine.specs.Values.{EngineData}
+use Rattle.kb_engine.specs.declared.outcome.Outcome.{Outcome}
+use Rattle.kb_engine.specs.declared.outcome.Outcome.TheVariants as outcome
 use Rattle.kb_session.specs.Palette.{entry_at}
 
 -- the right to give a block back to the C library's heap, whose handles are all one

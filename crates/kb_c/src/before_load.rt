@@ -1,11 +1,13 @@
-//! An engine, from its making to the load of a session, and its end.
+//! An engine, from its making to the load of a session, and its end. The answers are the numbers of
+//! outcomes: 0; 1 after the load, 2 for an unknown number, and 5 for refused memory, after each of which
+//! nothing changed.
 ghost use Rattle.std.specs.Prelude.{◌≡◌, Some, None, if◌then◌else◌};
 ghost use Rattle.kb_c.specs.Held.{Answers, Makes};
-ghost use Rattle.kb_embed.specs.Engine.{GivesExtension, GivesFile, GivesPlatform, LoadsBy};
-ghost use Rattle.kb_embed.specs.Outcome.{outcome_numbered};
+ghost use Rattle.kb_engine.specs.Engine.{GivesExtension, GivesFile, GivesPlatform, LoadsBy};
+ghost use Rattle.kb_engine.specs.Outcome.{outcome_numbered};
 
 use crate::handle::Handle;
-use kb_embed::{Engine, Outcome};
+use kb_engine::{Engine, Outcome};
 use std::alloc::Global;
 
 /// Makes an engine without files, in the place of what the handle holds. 0, or 5 where memory is refused:
@@ -23,7 +25,7 @@ pub extern "C" fn pafjirn_new(alloc: Global, h: &mut Handle) -> u32
     }
 }
 
-/// Ends the engine that the handle holds, if it holds one.
+/// Ends the engine that the handle holds, if it holds one. The handle holds nothing then.
 #[unsafe(no_mangle)]
 pub extern "C" fn pafjirn_free(alloc: Global, h: &mut Handle)
     ensures { h.new.value ≡ None }
@@ -88,7 +90,7 @@ pub extern "C" fn pafjirn_extension(
 }
 
 /// Loads a session of the files. The notice then has its warnings; or, with the answer 3, why the load was
-/// refused.
+/// refused. The files stay without a session, and further ones can be handed in.
 #[unsafe(no_mangle)]
 #[tactic(auto, using(crate::proofs::AnswerLemmas::answering))]
 pub extern "C" fn pafjirn_load(alloc: Global, h: &mut Handle) -> u32

@@ -1,10 +1,10 @@
-//! What C reads of an engine. No read changes it.
+//! What C reads of an engine. No read changes it. Without an engine a text is empty, and a number is 0.
 ghost use Rattle.std.specs.Prelude.{◌≡◌, length, take, drop};
 ghost use Rattle.kb_c.specs.Held.{entries_held, entry_held, kind_held, place_held, text_held};
-ghost use Rattle.kb_embed.specs.Engine.{over};
+ghost use Rattle.kb_engine.specs.Engine.{over};
 
 use crate::handle::Handle;
-use kb_embed::read_over;
+use kb_engine::read_over;
 use std::alloc::Global;
 
 /// Copies a text from a place on, as much as there is room for, and returns the length of the whole text: 0

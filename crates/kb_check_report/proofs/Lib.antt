@@ -1,4 +1,1 @@
-mod CauseLemmas
-mod StartLemmas
-mod TellLemmas
-mod PlacedLemmas
+mod CheckingLemmas

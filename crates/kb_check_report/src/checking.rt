@@ -1,43 +1,21 @@
 //! The check of some files, from their bytes to what is written.
 ghost use Rattle.std.specs.Prelude.{◌≡◌, [], IfOk, is_none, option_map, slice_get};
 ghost use Rattle.std.specs.Option.{option_map_or};
+ghost use Rattle.kb_check.specs.Problems.{files_in};
+ghost use Rattle.kb_check_report.specs.Checking.{Checks, IsPage, position_in, position_of_part};
 ghost use Rattle.kb_jsonc.specs.Reader.{without_mark as text_behind_mark};
-ghost use Rattle.kb_check_report.specs.Page.{IsPage};
-ghost use Rattle.kb_check_report.specs.Placed.{position_in, position_of_part, text_of};
-ghost use Rattle.kb_check_report.specs.Problems.{Checks, files_in};
 
-use crate::choices::{Choices, Form};
 use crate::json_lines::write_object;
-use crate::problem::Problem;
-use crate::problems::find_problems;
 use crate::text_lines::write_problem;
 use kb_base::NoMemory;
+use kb_check::find_problems;
 use kb_files::LoadFile;
 use kb_places::{Position, Span, Walker, without_mark};
+use kb_problems::{Choices, Problem};
+use kb_report::{Form, Stop, say};
 use kb_source_files::{SourceFile, SourceFiles};
-use kb_stream::write_whole;
 use std::alloc::Global;
 use std::io::{BufWriter, Write};
-
-/// Why a check stopped before its end.
-#[derive(Clone, Copy, Debug, PartialEq, Eq)]
-pub enum Stop {
-    /// Memory was refused.
-    NoMemory,
-    /// A write failed.
-    NotWritten,
-}
-
-impl From<NoMemory> for Stop {
-    ghost use Rattle.std.specs.Prelude.{◌≡◌};
-    ghost use Rattle.kb_check_report.specs.declared.checking.Stop.TheVariants as stop;
-
-    ghost from_gives = { λ _ made. made ≡ stop.NoMemory };
-
-    fn from(_refused: NoMemory) -> Self {
-        Stop::NoMemory
-    }
-}
 
 /// The path of a file, or the word that the load has for it.
 fn path_of<'a>(file: Option<SourceFile<'a>>, name: LoadFile) -> &'a str {
@@ -149,14 +127,6 @@ fn write_one<'a>(
     }
 }
 
-/// Writes a text.
-fn write_text<W: Write>(text: &str, out: &mut W) -> Result<(), Stop> {
-    match write_whole(out, text.as_bytes()) {
-        Ok(()) => Ok(()),
-        Err(_) => Err(Stop::NotWritten),
-    }
-}
-
 /// Writes problems in order.
 fn write_all<W: Write>(
     alloc: Global,
@@ -170,7 +140,7 @@ fn write_all<W: Write>(
     for problem in problems {
         text.clear();
         write_one(alloc, files, problem, &mut page, form, &mut text)?;
-        write_text(text.as_str(), out)?;
+        say(text.as_str(), out)?;
     }
     Ok(())
 }
@@ -185,20 +155,21 @@ fn are_none(problems: &[Problem]) -> bool
     }
 }
 
-/// Checks some files, writes their problems, flushes the buffer, and returns whether there is none: then the
-/// load accepts the files without a warning. What is written is tested, and in no clause.
+/// Checks some files, writes their problems in a form, flushes the buffer, and returns whether there is none:
+/// then the load accepts the files without a warning. What is written is tested, and in no clause.
 ///
 /// Errors: `NotWritten` where a write failed, or `NoMemory`; what was written stays.
 pub fn check<W: Write + Drop>(
     alloc: Global,
     files: &SourceFiles<'_>,
     choices: &Choices<'_>,
+    form: Form,
     out: &mut BufWriter<W>,
 ) -> Result<bool, Stop>
     ensures { IfOk result (Checks (files_in files.now) choices.now) }
 {
     let problems = find_problems(alloc, files, choices)?;
-    write_all(alloc, files, problems.as_slice(), choices.form, out)?;
+    write_all(alloc, files, problems.as_slice(), form, out)?;
     match out.flush() {
         Ok(()) => Ok(are_none(problems.as_slice())),
         Err(_) => Err(Stop::NotWritten),

@@ -1,32 +1,10 @@
 //! Problems as JSON, one object a line.
-use crate::problem::Problem;
 use kb_base::NoMemory;
 use kb_places::Position;
+use kb_problems::Problem;
+use kb_report::{add_number, add_text};
 use serde_json::{Map, Value};
 use std::alloc::Global;
-
-/// Adds a text as a member.
-fn add_text(
-    alloc: Global,
-    members: &mut Map<String, Value>,
-    name: &str,
-    text: &str,
-) -> Result<(), NoMemory> {
-    let value = Value::String(String::from_str(alloc, text)?);
-    members.insert(String::from_str(alloc, name)?, value)?;
-    Ok(())
-}
-
-/// Adds a number as a member.
-fn add_number(
-    alloc: Global,
-    members: &mut Map<String, Value>,
-    name: &str,
-    number: u64,
-) -> Result<(), NoMemory> {
-    members.insert(String::from_str(alloc, name)?, Value::from(number))?;
-    Ok(())
-}
 
 /// The object of a problem.
 fn object_of(
@@ -36,17 +14,17 @@ fn object_of(
     position: Option<Position>,
 ) -> Result<Value, NoMemory> {
     let mut members = Map::new(alloc);
-    add_text(alloc, &mut members, "path", path)?;
+    add_text(alloc, "path", path, &mut members)?;
     if let Some(Position { line, column }) = position {
-        add_number(alloc, &mut members, "line", line as u64)?;
-        add_number(alloc, &mut members, "column", column as u64)?;
+        add_number(alloc, "line", line as u64, &mut members)?;
+        add_number(alloc, "column", column as u64, &mut members)?;
     }
-    add_text(alloc, &mut members, "kind", problem.cause.kind())?;
-    if let Some(number) = problem.cause.number() {
-        add_number(alloc, &mut members, "number", u64::from(number))?;
+    add_text(alloc, "kind", problem.cause.kind(), &mut members)?;
+    if let Some(fault) = problem.cause.fault() {
+        add_number(alloc, "number", u64::from(fault.number()), &mut members)?;
     }
-    add_text(alloc, &mut members, "name", problem.cause.name())?;
-    add_text(alloc, &mut members, "message", problem.sentence.as_str())?;
+    add_text(alloc, "name", problem.cause.name(), &mut members)?;
+    add_text(alloc, "message", problem.sentence.as_str(), &mut members)?;
     Ok(Value::Object(members))
 }
 

@@ -1,9 +1,9 @@
 //! Problems as lines for people: a sentence with the place, and below it the line of the file with a caret.
 ghost use Rattle.std.specs.Prelude.{◌≡◌};
 
-use crate::problem::Problem;
 use kb_base::NoMemory;
 use kb_places::{Position, Walker};
+use kb_problems::Problem;
 
 /// The most characters of a line that are shown. A line of no more bytes is shown from its beginning on.
 const WIDTH: usize = 160;
@@ -23,7 +23,8 @@ pub(crate) fn write_headline(
         write!(text, ":{line}:{column}")?;
     }
     text.push_str(": ")?;
-    if let Some(number) = problem.cause.number() {
+    if let Some(fault) = problem.cause.fault() {
+        let number = fault.number();
         write!(text, "{number} ")?;
     }
     let name = problem.cause.name();

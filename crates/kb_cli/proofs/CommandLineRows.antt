@@ -4,7 +4,7 @@ use Rattle.std.proofs.Common.{◌≡◌, refl, true, false, List, [], ◌∷◌,
 use Rattle.std.specs.Borrow.{Bor}
 use Rattle.std.specs.Prelude.{Some, None, codes}
 use Rattle.clap.specs.Words.{App, Text, all_of, fault_of, first_of, matches_of, takes}
-use Rattle.clap.specs.declared.error.kind.ErrorKind.TheVariants.{ArgumentConflict, DisplayHelp}
+use Rattle.clap.specs.declared.error.kind.ErrorKind.TheVariants.{ArgumentConflict, DisplayHelp, DisplayVersion}
 use Rattle.clap.specs.declared.error.kind.ErrorKind.TheVariants.{InvalidValue, UnknownArgument}
 use Rattle.clap.proofs.OnLiterals.{clap_on_literals}
 use Rattle.kb_keys.specs.declared.platform.Platform.TheVariants.{Mac, Linux, Windows}
@@ -110,6 +110,14 @@ module _ (p mac linux win : ℕ × ℕ) where
   help_is_asked_for : fault_of keyrun (codes "keyrun" ∷ codes "--help" ∷ []) ≡ DisplayHelp ∷ []
   unfolding clap_on_literals
   help_is_asked_for = refl
+
+  version_is_asked_for : fault_of keyrun (codes "keyrun" ∷ codes "--version" ∷ []) ≡ DisplayVersion ∷ []
+  unfolding clap_on_literals
+  version_is_asked_for = refl
+
+  version_is_asked_for_by_a_letter : fault_of keyrun (codes "keyrun" ∷ codes "-V" ∷ []) ≡ DisplayVersion ∷ []
+  unfolding clap_on_literals
+  version_is_asked_for_by_a_letter = refl
 
   -- ---- platforms and directories
 

@@ -1,6 +1,6 @@
 -- The command line of a program: its command in clap's definitions, and what the words mean.
-use Rattle.std.specs.Prelude.{◌≡◌, ℕ, true, List, [], Option, Some, Result, Ok, Err, MatchResult, codes}
-use Rattle.std.specs.Prelude.{map, is_some, option_map, option_and_then, unwrap_or}
+use Rattle.std.specs.Prelude.{◌≡◌, ℕ, Bool, true, false, List, [], Option, Some, Result, Ok, Err}
+use Rattle.std.specs.Prelude.{MatchResult, codes, map, is_some, option_map, option_and_then, unwrap_or}
 use Rattle.std.specs.Borrow.{Bor}
 use Rattle.std.specs.declared.io.ErrorKind as io
 use Rattle.std.specs.declared.io.ErrorKind.TheVariants as io_kind
@@ -15,7 +15,7 @@ use Rattle.clap.specs.declared.parser.matches.ArgMatches.{ArgMatches}
 use Rattle.kb_keys.specs.Platform.{platforms, platform_name, platform_named}
 use Rattle.kb_keys.specs.declared.platform.Platform.{Platform}
 use Rattle.kb_keys.specs.declared.platform.Platform.TheVariants.{Linux}
-use Rattle.kb_options.specs.declared.given.Options.{Options}
+use Rattle.kb_disk.specs.declared.options.Options.{Options}
 use Rattle.kb_cli.specs.declared.given.OptionsFault.{OptionsFault}
 use Rattle.kb_cli.specs.declared.given.OptionsFault.TheVariants.{Line, NoMemory}
 use Rattle.kb_cli.specs.declared.given.WordsFault.{WordsFault}
@@ -39,11 +39,15 @@ platform_rule names = record (valued_rule (codes "platform")) { parser = Some (N
 abbrev pub dirs_rule : Rule
 dirs_rule = record (new_rule (codes "dir")) { action = Some Append; value_names = 1 }
 
+-- `PROGRAM`, which has `--help` and `--version`
+abbrev pub bare_app : Text → App
+bare_app program = record (new_app program) { top = record (new_app program).top { has_version = true } }
+
 -- `PROGRAM [--layout F] [--defaults F] [--user F] [--platform P] [--script F] [DIR]...`, for a program's name
 abbrev pub program_app : Text → Bor (List (Bor Text)) → App
-program_app program names = with_rule (with_rule (with_rule (with_rule (with_rule (with_rule (new_app program)
-    (valued_rule (codes "layout"))) (valued_rule (codes "defaults"))) (valued_rule (codes "user")))
-    (platform_rule names)) (valued_rule (codes "script"))) dirs_rule
+program_app program names = with_rule (with_rule (with_rule (with_rule (with_rule (with_rule
+    (bare_app program) (valued_rule (codes "layout"))) (valued_rule (codes "defaults")))
+    (valued_rule (codes "user"))) (platform_rule names)) (valued_rule (codes "script"))) dirs_rule
 
 -- ---- what the words mean
 
@@ -92,11 +96,16 @@ pub record Reads (program : Text) (words : List Text) (r : Result Options Option
   pub by_clap : Matched (program_app program names) words read
   pub answers : Answers read r
 
--- the exit status of a command line that gives no options
-abbrev pub line_status_of : ErrorKind → ℕ
-line_status_of DisplayHelp = 0
-line_status_of DisplayVersion = 0
-line_status_of _ = 2
+-- the exit status of a command line that gives no options, and whether its text could be written
+abbrev pub line_status_of : ErrorKind → Bool → ℕ
+line_status_of DisplayHelp true = 0
+line_status_of DisplayHelp false = 4
+line_status_of DisplayVersion true = 0
+line_status_of DisplayVersion false = 4
+line_status_of _ is_written = 2
+
+abbrev pub RefusesWith : ErrorKind → ℕ → Type 0
+RefusesWith kind status = (is_written : Bool) × (status ≡ line_status_of kind is_written)
 
 -- why the words of the command line could not be read, by the kind of the system's error
 abbrev pub words_fault_of : io.ErrorKind → WordsFault

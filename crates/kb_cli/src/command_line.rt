@@ -2,18 +2,18 @@
 //! make their commands of the same parts.
 ghost use Rattle.std.specs.Prelude.{◌≡◌, [], true, false, IfOk, IfErr, codes, map, is_some, option_map};
 ghost use Rattle.std.specs.Prelude.{unwrap_or};
-ghost use Rattle.clap.specs.Words.{app_of, rule_of, with_rule, new_app};
+ghost use Rattle.clap.specs.Words.{app_of, rule_of, with_rule};
 ghost use Rattle.clap.specs.Words.{found_of, rows_of, all_of, first_of, kind_of};
 ghost use Rattle.kb_cli.specs.CommandLine.{Matched, Gives, Answers, Reads, NamesPlatforms};
-ghost use Rattle.kb_cli.specs.CommandLine.{valued_rule, platform_rule, dirs_rule, program_app};
+ghost use Rattle.kb_cli.specs.CommandLine.{bare_app, valued_rule, platform_rule, dirs_rule, program_app};
 ghost use Rattle.kb_cli.specs.CommandLine.{platform_given};
 
-use crate::given::{OptionsFault, Program};
+use crate::given::{OptionsFault, Program, VERSION};
 use clap::error::ErrorKind;
 use clap::{Arg, ArgAction, ArgMatches, Command, Error};
 use kb_base::NoMemory;
+use kb_disk::Options;
 use kb_keys::Platform;
-use kb_options::Options;
 use std::alloc::Global;
 
 static PLATFORM_NAMES: [&str; 3] = ["mac", "linux", "win"];
@@ -46,9 +46,11 @@ pub fn file_option<'a>(alloc: Global, name: &'a str, help: &'a str) -> Arg<'a>
 
 /// The command without options. Help and error texts use the program's name, not the first word.
 fn bare<'a>(alloc: Global, program: Program<'a>) -> Result<Command<'a>, NoMemory>
-    ensures { IfOk result (λ made. app_of made ≡ new_app program.entry.name.now) }
+    ensures { IfOk result (λ made. app_of made ≡ bare_app program.entry.name.now) }
 {
-    let command = Command::new(alloc, program.name).about(program.about);
+    let command = Command::new(alloc, program.name)
+        .about(program.about)
+        .version(VERSION);
     command.bin_name(program.name)
 }
 

@@ -2,12 +2,15 @@
 ghost use Rattle.std.specs.Prelude.{◌≡◌};
 ghost use Rattle.std.specs.IoError.{error_kind};
 ghost use Rattle.clap.specs.Words.{kind_of};
-ghost use Rattle.kb_cli.specs.CommandLine.{line_status_of, words_fault_of};
+ghost use Rattle.kb_cli.specs.CommandLine.{RefusesWith, line_status_of, words_fault_of};
 
 use clap::error::ErrorKind;
 use kb_base::NoMemory;
 use std::io;
 use thiserror::Error;
+
+/// The version that `--version` prints, which the packages of the hosts have too.
+pub const VERSION: &str = "1.0.0";
 
 /// The program whose command line is parsed.
 #[derive(Clone, Copy, Debug)]
@@ -53,15 +56,30 @@ impl From<clap::Error> for OptionsFault {
     }
 }
 
-/// The exit status of a command line that gives no options: 0 if it asks for help, and 2 otherwise (our
-/// decision).
-pub fn line_status(error: &clap::Error) -> u8
-    ensures { result ≡ line_status_of (kind_of error.now) }
+/// The exit status of a command line that gives no options: 2 if it is refused. If it asks for help or the
+/// version, 0, or 4 if the text can't be written (our decision).
+fn line_status(error: &clap::Error, is_written: bool) -> u8
+    ensures { result ≡ line_status_of (kind_of error.now) is_written }
 {
-    match error.kind() {
-        ErrorKind::DisplayHelp | ErrorKind::DisplayVersion => 0,
+    match (error.kind(), is_written) {
+        (ErrorKind::DisplayHelp | ErrorKind::DisplayVersion, true) => 0,
+        (ErrorKind::DisplayHelp | ErrorKind::DisplayVersion, false) => 4,
         _ => 2,
     }
+}
+
+/// Prints why a command line is refused, or the help or the version that it asks for, and returns the exit
+/// status of the program.
+///
+/// Errors: if the text can't be written, `stopped: write failed` goes to the standard error.
+pub fn refuse_line<R: Print + Eprint>(rt: &R, error: &clap::Error) -> u8
+    ensures { RefusesWith (kind_of error.now) result }
+{
+    let is_written = error.print(rt).is_ok();
+    if !is_written {
+        let _ = rt.eprintln("stopped: write failed");
+    }
+    line_status(error, is_written)
 }
 
 /// Why the words of a command line could not be read.

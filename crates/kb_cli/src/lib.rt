@@ -8,4 +8,4 @@ pub use command_line::{
     all_texts, dirs_argument, file_option, not_text, options, options_in, platform_names,
     platform_option, text_given, valued_option,
 };
-pub use given::{OptionsFault, Program, WordsFault, line_status, words_fault};
+pub use given::{OptionsFault, Program, VERSION, WordsFault, refuse_line, words_fault};

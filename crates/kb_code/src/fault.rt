@@ -1,7 +1,8 @@
 //! Faults of encoded code.
 ghost use Rattle.std.specs.Prelude.{◌≡◌};
-ghost use Rattle.kb_code.specs.Fault.{number_of};
+ghost use Rattle.kb_code.specs.Fault.{kind_of};
 
+use kb_base::FaultKind;
 use thiserror::Error;
 
 /// Why bytes or instructions are not code. A place is the index of an instruction, counted from 0. The
@@ -24,15 +25,15 @@ pub enum CodeFault {
 }
 
 impl CodeFault {
-    /// The fault's number in messages: 50 to 53.
-    pub fn number(self) -> u32
-        ensures { result ≡ number_of self }
+    /// The fault in the table of all faults, which has its number and its name.
+    pub fn kind(self) -> FaultKind
+        ensures { result ≡ kind_of self }
     {
         match self {
-            CodeFault::BadLength => 50,
-            CodeFault::BadOpcode(_) => 51,
-            CodeFault::BadOperand(_) => 52,
-            CodeFault::BadBlock(_) => 53,
+            CodeFault::BadLength => FaultKind::BadLength,
+            CodeFault::BadOpcode(_) => FaultKind::BadOpcode,
+            CodeFault::BadOperand(_) => FaultKind::BadOperand,
+            CodeFault::BadBlock(_) => FaultKind::BadBlock,
         }
     }
 }

@@ -1,9 +1,10 @@
 //! Faults of calls on scopes.
 ghost use Rattle.std.specs.Prelude.{◌≡◌};
 
+use kb_base::FaultKind;
 use thiserror::Error;
 
-/// Why a call on scopes is refused. The numbers are our decision.
+/// Why a call on scopes is refused. The cases are our decision.
 #[derive(Clone, Copy, Debug, PartialEq, Eq, Error)]
 pub enum ScopeFault {
     /// No scope has the given name.
@@ -18,16 +19,16 @@ pub enum ScopeFault {
 }
 
 impl ScopeFault {
-    ghost use Rattle.kb_context.specs.ScopeFault.{number_of};
+    ghost use Rattle.kb_context.specs.ScopeFault.{kind_of};
 
-    /// The fault's number in traces and messages: 20 to 22.
-    pub fn number(self) -> u32
-        ensures { result ≡ number_of self }
+    /// The fault in the table of all faults, which has its number and its name.
+    pub fn kind(self) -> FaultKind
+        ensures { result ≡ kind_of self }
     {
         match self {
-            ScopeFault::UnknownScope => 20,
-            ScopeFault::BadLayout => 21,
-            ScopeFault::TooManyKeys => 22,
+            ScopeFault::UnknownScope => FaultKind::UnknownScope,
+            ScopeFault::BadLayout => FaultKind::BadLayout,
+            ScopeFault::TooManyKeys => FaultKind::TooManyKeys,
         }
     }
 }

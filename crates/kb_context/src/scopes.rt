@@ -164,7 +164,7 @@ impl Scopes {
     ///
     /// Errors: `UnknownScope` (20) if no scope has the name. `TooManyKeys` (22) if the scope lacks the key
     /// and all scopes together have `KEY_LIMIT` keys. `NoMemory` (5), only if the scope lacks the key and
-    /// neither of the others applies.
+    /// neither of the others applies. On an error nothing changes, the revision included.
     pub fn set(
         &mut self,
         scope: &str,
@@ -186,8 +186,8 @@ impl Scopes {
         Ok(())
     }
 
-    /// Sets a key in the outermost scope, which is the first one. Errors: `TooManyKeys` (22) and
-    /// `NoMemory` (5), as for `set`.
+    /// Sets a key in the outermost scope, which is the first one. Errors: `TooManyKeys` (22) and `NoMemory`
+    /// (5), as for `set`. On an error nothing changes, the revision included.
     pub fn set_root(&mut self, key: &str, value: ContextValue) -> Result<(), Failure<ScopeFault>>
         ensures allowed { OnOk result (set_fault_at self.old.seen 0 key.now ≡ None) }
         ensures ok { OnOk result (self.new ≡ revised self.old (with_value_at self.old.seen 0 key.now value)) }
@@ -203,7 +203,7 @@ impl Scopes {
     }
 
     /// Removes a key from the scope that is named `scope`. Changes no key if the scope lacks it. Error:
-    /// `UnknownScope` (20) if no scope has the name.
+    /// `UnknownScope` (20) if no scope has the name. On an error nothing changes, the revision included.
     pub fn unset(&mut self, scope: &str, key: &str) -> Result<(), UnknownScope>
         ensures known { OnOk result (IsSome (place_of scope.now self.old.seen.scopes)) }
         ensures ok { OnOk result
@@ -219,7 +219,7 @@ impl Scopes {
     }
 
     /// Gives the focus to the scope that is named `scope`. Error: `UnknownScope` (20) if no scope has the
-    /// name.
+    /// name. On an error nothing changes, the revision included.
     pub fn focus(&mut self, scope: &str) -> Result<(), UnknownScope>
         ensures known { OnOk result (IsSome (place_of scope.now self.old.seen.scopes)) }
         ensures ok { OnOk result (self.new ≡ revised self.old (with_focus self.old.seen scope.now)) }

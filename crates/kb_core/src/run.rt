@@ -42,7 +42,8 @@ pub fn plain(native: Native, core: Core, args: Args) -> Ran
     Ran { core, cost }
 }
 
-/// Runs a native command like [`plain`], at the cost of its whole budget (our decision).
+/// Runs a native command like [`plain`], at the cost of its whole budget (our decision). Error: `NoMemory`,
+/// at any time; the core is then unchanged.
 pub fn at_budget(native: Native, core: Core, args: Args) -> Ran
     requires { Fits native args }
     ensures does { Does native core args result }

@@ -51,3 +51,10 @@ pub unread_in : (file : DirFile) (held : Held) (dir : Bor (List ℕ)) (failure :
 unread_in file held dir failure fails =
     subst (FailsReadingIn file held dir) (sym fails.failure_is)
     (unread_as file held dir fails.failed fails.must_read fails.reading)
+
+-- memory may be refused behind what was read
+pub refused_behind : {B C : Type 0} (held : Held) (view : B → List ℕ) (other : C → List ℕ) (got : B)
+    → HasRead held view (Ok got) → HasRead {B = C} held other (Err NoMemory)
+refused_behind unknown view other got has = tt
+refused_behind (refuses kind) view other got has = absurd has
+refused_behind (holds bytes) view other got has = tt

@@ -1,1 +1,3 @@
+pub mod DirectoryLemmas
 pub mod FilesLemmas
+pub mod LoadFilesLemmas

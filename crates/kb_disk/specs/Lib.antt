@@ -1,2 +1,4 @@
 pub mod CannotRead
+pub mod Directory
 pub mod Files
+pub mod LoadFiles

@@ -6,7 +6,8 @@ ghost use Rattle.kb_disk.specs.declared.cannot_read.DirFile.TheVariants.{Package
 
 use crate::cannot_read::{CannotRead, DirFile};
 use crate::files::{FileSource, read_file, read_if_there};
-use kb_base::{Failure, NoMemory};
+use kb_base::{Failure, NoMemory, Seq, Text};
+use kb_files::SourceFile;
 use kb_stream::ReadFault;
 use std::alloc::Global;
 
@@ -18,6 +19,16 @@ pub fn path_in(alloc: Global, dir: &str, file: DirFile) -> Result<String, NoMemo
 {
     let name = file.name();
     format!(in alloc; "{dir}/{name}")
+}
+
+/// A file that was read.
+fn source_of(path: String, bytes: Vec<u8>) -> SourceFile
+    ensures { result.bytes ≡ bytes.items }
+{
+    SourceFile {
+        path: Text::from_string(path),
+        bytes: Seq::from_vec(bytes),
+    }
 }
 
 /// Adds to a failure which file of a directory could not be read.
@@ -69,7 +80,7 @@ fn handlers_at<'a, F: FileSource>(
     }
 }
 
-/// The bytes of the manifest of an extension's directory, which is the file `package.json` in it.
+/// The manifest of an extension's directory, which is the file `package.json` in it.
 ///
 /// Errors: `CannotRead::InDirectory` if the file does not open, cannot be read or is longer than
 /// `FILE_LIMIT`, or refused memory.
@@ -78,15 +89,18 @@ pub fn manifest_in<'a, F: FileSource>(
     files: &F,
     alloc: Global,
     dir: &'a str,
-) -> Result<Vec<u8>, Failure<CannotRead<'a>>>
-    ensures { HasManifest (F.held files.now) (λ bytes. bytes.items) dir.entry result }
+) -> Result<SourceFile, Failure<CannotRead<'a>>>
+    ensures { HasManifest (F.held files.now) (λ file. file.bytes) dir.entry result }
 {
     let path = path_in(alloc, dir, DirFile::Package)?;
-    manifest_at(files, alloc, dir, path.as_str())
+    match manifest_at(files, alloc, dir, path.as_str()) {
+        Ok(bytes) => Ok(source_of(path, bytes)),
+        Err(failure) => Err(failure),
+    }
 }
 
-/// The bytes of the handlers of an extension's directory, which are the file `handlers.json` in it, or
-/// `None` if no such file exists. A file that exists and does not open is an error (our decision).
+/// The handlers of an extension's directory, which are the file `handlers.json` in it, or `None` if no such
+/// file exists. A file that exists and does not open is an error (our decision).
 ///
 /// Errors: those of [`manifest_in`].
 #[tactic(auto, using(crate::proofs::FilesLemmas::unread_in))]
@@ -94,9 +108,13 @@ pub fn handlers_in<'a, F: FileSource>(
     files: &F,
     alloc: Global,
     dir: &'a str,
-) -> Result<Option<Vec<u8>>, Failure<CannotRead<'a>>>
-    ensures { HasHandlers (F.held files.now) (λ bytes. bytes.items) dir.entry result }
+) -> Result<Option<SourceFile>, Failure<CannotRead<'a>>>
+    ensures { HasHandlers (F.held files.now) (λ file. file.bytes) dir.entry result }
 {
     let path = path_in(alloc, dir, DirFile::Handlers)?;
-    handlers_at(files, alloc, dir, path.as_str())
+    match handlers_at(files, alloc, dir, path.as_str()) {
+        Ok(Some(bytes)) => Ok(Some(source_of(path, bytes))),
+        Ok(None) => Ok(None),
+        Err(failure) => Err(failure),
+    }
 }

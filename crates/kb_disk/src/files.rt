@@ -1,11 +1,12 @@
 //! Opens and reads the files that options name.
-ghost use Rattle.std.specs.Prelude.{◌≡◌, option_map};
+ghost use Rattle.std.specs.Prelude.{◌≡◌};
 ghost use Rattle.std.specs.IoError.{error_kind};
 ghost use Rattle.kb_disk.specs.Files.{Opens, HasRead, HasIfThere, NamesBytes, NamesFile};
 ghost use Rattle.kb_disk.specs.Files.{failure_of, file_failure, is_missing};
 
 use crate::cannot_read::CannotRead;
-use kb_base::Failure;
+use kb_base::{Failure, Seq, Text};
+use kb_files::SourceFile;
 use kb_stream::{ReadFault, read_within};
 use std::alloc::Global;
 use std::io::{ErrorKind, Read};
@@ -25,7 +26,7 @@ pub trait FileSource {
     /// What there is at a path, where that is known.
     ghost held: { Self → List ℕ → Held } = { λ _ _. unknown };
 
-    /// Opens the file at a path for reading.
+    /// Opens the file at a path for reading. Error: the system's.
     fn open(&self, path: &str) -> io::Result<Self::File>
         ensures { Opens Self.File.remaining (held self.now path.now) result };
 }
@@ -110,22 +111,45 @@ pub(crate) fn read_if_there<F: FileSource>(
     }
 }
 
-/// The bytes of the file that an option names, or `None` if the option names no file.
+/// All of the file at a path.
+///
+/// Errors: those of [`read_file`].
+#[tactic(auto, using(crate::proofs::FilesLemmas::refused_behind))]
+fn read_source<F: FileSource>(
+    files: &F,
+    alloc: Global,
+    path: &str,
+) -> Result<SourceFile, Failure<ReadFault>>
+    ensures { HasRead (F.held files.now path.now) (λ file. file.bytes) result }
+{
+    match read_file(files, alloc, path) {
+        Ok(bytes) => match Text::from_str(alloc, path) {
+            Ok(path) => Ok(SourceFile {
+                path,
+                bytes: Seq::from_vec(bytes),
+            }),
+            Err(_) => Err(Failure::NoMemory),
+        },
+        Err(failure) => Err(failure),
+    }
+}
+
+/// The file that an option names, read, or `None` if the option names no file.
 ///
 /// Errors: `CannotRead::File` if the file does not open, cannot be read or is longer than [`FILE_LIMIT`], or
 /// refused memory.
-pub fn bytes_named<'a, F: FileSource>(
+pub(crate) fn source_named<'a, F: FileSource>(
     files: &F,
     alloc: Global,
     path: Option<&'a str>,
-) -> Result<Option<Vec<u8>>, Failure<CannotRead<'a>>>
-    ensures { NamesBytes (F.held files.now) (λ bytes. bytes.items) path.entry result }
+) -> Result<Option<SourceFile>, Failure<CannotRead<'a>>>
+    ensures { NamesBytes (F.held files.now) (λ file. file.bytes) path.entry result }
 {
     let Some(path) = path else {
         return Ok(None);
     };
-    match read_file(files, alloc, path) {
-        Ok(bytes) => Ok(Some(bytes)),
+    match read_source(files, alloc, path) {
+        Ok(file) => Ok(Some(file)),
         Err(failure) => Err(file_failure(path, failure)),
     }
 }
@@ -145,15 +169,5 @@ pub fn file_named<'a, F: FileSource>(
     match files.open(path) {
         Ok(file) => Ok(Some(file)),
         Err(error) => Err(file_failure(path, open_failure(&error))),
-    }
-}
-
-/// The bytes of a file as a slice, if there is a file.
-pub fn lent(bytes: &Option<Vec<u8>>) -> Option<&[u8]>
-    ensures { option_map (λ lent. lent.now) result ≡ option_map (λ bytes. bytes.items) bytes.now }
-{
-    match bytes {
-        Some(bytes) => Some(bytes.as_slice()),
-        None => None,
     }
 }

@@ -3,7 +3,7 @@ use Rattle.std.proofs.Common.{◌≡◌, ◌⊎◌, inl, inr, List, [], ◌∷�
 use Rattle.std.specs.Prelude.{Result, Ok, Err}
 use Rattle.kb_base.specs.declared.failure.Failure.{Failure}
 use Rattle.kb_bindings.specs.Load as load
-use Rattle.kb_bindings.specs.Load.{Files}
+use Rattle.kb_files.specs.Inputs.{Files}
 use Rattle.kb_bindings.specs.declared.load.Loaded.{Loaded}
 use Rattle.kb_code.specs.Handler.{HandlerData}
 use Rattle.kb_core.specs.declared.native.Native.{Native}
@@ -11,11 +11,11 @@ use Rattle.kb_end_to_end.specs.Alike.{LoadsAlike, RawLoadsAlike}
 use Rattle.kb_files.specs.declared.extension_file.Extension.{Extension}
 use Rattle.kb_files.specs.declared.fault.LoadFault.{LoadFault}
 use Rattle.kb_handler_table.specs.Codes.{checked}
-use Rattle.kb_lifecycle.proofs.UpdatingLemmas.{verified_are}
-use Rattle.kb_load_commands.specs.Callable.{callable_of}
-use Rattle.kb_lifecycle.specs.Updating.{with_callees}
-use Rattle.kb_load_commands.specs.Checked.{Admits, AreVerified, JoinAll, LiveChecked}
-use Rattle.kb_load_commands.specs.Natives.{natives_held}
+use Rattle.kb_extension_code.proofs.UpdatingLemmas.{verified_are}
+use Rattle.kb_extension_code.specs.Callable.{callable_of}
+use Rattle.kb_extension_code.specs.Updating.{with_callees}
+use Rattle.kb_extension_code.specs.Checked.{Admits, AreVerified, JoinAll, LiveChecked}
+use Rattle.kb_extension_code.specs.Natives.{natives_held}
 use Rattle.kb_registry.specs.Live.{Live, with_code}
 use Rattle.kb_session.specs.Session.{IsOf, Seen, loaded_raw, loaded_session, marks_by}
 use Rattle.kb_verify.specs.Accepted.{CheckedHandler}

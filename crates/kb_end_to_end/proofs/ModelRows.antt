@@ -15,7 +15,7 @@ use Rattle.kb_rules.specs.Entry.{when_of, keystrokes_of, condition_of, args_of}
 use Rattle.kb_rules.specs.Entry.{binding_of, terms_of, element_of}
 use Rattle.kb_rules.specs.RuleList.{Listed, no_elements}
 use Rattle.kb_base.specs.declared.note.Origin.TheVariants.{User}
-use Rattle.kb_base.specs.Faults.{fault_name}
+use Rattle.kb_base.specs.Fault.{fault_name}
 use Rattle.kb_base.specs.declared.refusal.Refusal.{Refusal}
 use Rattle.kb_core.specs.Native.{natives}
 use Rattle.kb_registry.specs.Live.{Live, fresh, all_registered}

@@ -5,7 +5,7 @@ use Rattle.std.specs.Fmt.{digits}
 use Rattle.std.specs.Str.{is_utf8, chars}
 use lib.Utf8.{encode}
 use Rattle.serde_json.proofs.OnLiterals.{serde_json_on_literals}
-use Rattle.kb_base.specs.Faults.{fault_name}
+use Rattle.kb_base.specs.Fault.{fault_name}
 use Rattle.kb_context.specs.Scopes.{over}
 use Rattle.kb_jsonc.specs.Pieces.{first_piece}
 use Rattle.kb_jsonc.specs.Text.{plain_text}

@@ -11,7 +11,7 @@ use Rattle.kb_script.proofs.SafeScripts.{memory_alone_stops}
 use Rattle.kb_script.specs.Shelf.{Stand}
 use Rattle.kb_script.specs.declared.fault.ScriptFault.{ScriptFault}
 use Rattle.kb_script.specs.declared.fault.ScriptFault.TheVariants as script
-use Rattle.kb_bindings.specs.Load.{Files}
+use Rattle.kb_files.specs.Inputs.{Files}
 use Rattle.kb_session.specs.Session.{IsOf, Loads}
 use Rattle.kb_session.specs.State.{IsSafe, State}
 use Rattle.kb_stream.specs.Fold.{Traced}

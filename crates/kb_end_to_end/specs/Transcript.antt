@@ -10,7 +10,8 @@ use Rattle.kb_script.specs.Script.{said_of, bare}
 use Rattle.kb_script.specs.Shelf.{Said, move, stand}
 use Rattle.kb_script.specs.declared.fault.ScriptFault.{ScriptFault}
 use Rattle.kb_script.specs.declared.fault.ScriptFault.TheVariants as script
-use Rattle.kb_bindings.specs.Load.{Files, held_by}
+use Rattle.kb_bindings.specs.Load.{held_by}
+use Rattle.kb_files.specs.Inputs.{Files}
 use Rattle.kb_session.specs.Session.{CommandsFail, IsOf}
 use Rattle.kb_session.specs.State.{State}
 use Rattle.kb_stream.specs.Fold.{Traced}

@@ -1,16 +1,18 @@
 //! Sessions that differ only in their closures: they answer alike, and their traces are alike.
-ghost use Rattle.std.specs.Prelude.{◌≡◌, IfOk, OnOk};
+ghost use Rattle.std.specs.Prelude.{◌≡◌};
 ghost use Rattle.kb_end_to_end.specs.Alike.{OneBegins, LoadsAlike, RawLoadsAlike, ScriptsAlike, unread_rules};
+ghost use Rattle.kb_end_to_end.specs.Alike.{WithMemory, numbered, with_native};
 
+use kb_context::ContextValue;
 use kb_registry::{HostCommand, Ticket};
 use kb_session::{Session, SessionFault};
 use kb_trace::{Answer, Event};
 
-/// Handles an event in two sessions with equal states and traces. Where both succeed, they answer the same,
-/// and their states and traces are equal again, for any closures.
+/// Handles an event in two sessions with equal states and traces. They answer the same, and their states and
+/// traces are equal again, for any closures, unless one of them is refused memory.
 ///
 /// Errors: the first result is that of `first`, the second that of `second`; see `Session::handle`.
-#[tactic(auto, using(crate::proofs::AlikeLemmas::same_answer))]
+#[tactic(auto, using(crate::proofs::AlikeLemmas::answers_alike))]
 pub fn handle_alike<C: HostCommand, D: HostCommand>(
     first: &mut Session<C>,
     second: &mut Session<D>,
@@ -19,18 +21,18 @@ pub fn handle_alike<C: HostCommand, D: HostCommand>(
 ) -> (Result<Answer, SessionFault>, Result<Answer, SessionFault>)
     requires alike { first.old ≡ second.old }
     requires same { same ≡ event }
-    ensures answers { IfOk result.0 (λ one. IfOk result.1 (λ other. one ≡ other)) }
-    ensures sessions { OnOk result.0 (OnOk result.1 (first.new ≡ second.new)) }
+    ensures answers { WithMemory result.0 result.1 (result.0 ≡ result.1) }
+    ensures sessions { WithMemory result.0 result.1 (first.new ≡ second.new) }
 {
     (first.handle(event), second.handle(same))
 }
 
-/// Runs the same events in two sessions with equal states and traces. Where both succeed, their states and
-/// traces are equal again, for any closures. In any case one of the traces is the beginning of the other,
-/// also where memory was refused or a handler of a raw session trapped.
+/// Runs the same events in two sessions with equal states and traces. They end alike, and their states and
+/// traces are equal again, for any closures, unless one of them is refused memory. In any case one of the
+/// traces is the beginning of the other.
 ///
 /// Errors: the first result is that of `first`, the second that of `second`; see `Session::run`.
-#[tactic(auto, using(crate::proofs::AlikeLemmas::runs_alike))]
+#[tactic(auto, using(crate::proofs::AlikeLemmas::runs))]
 pub fn run_alike<C: HostCommand, D: HostCommand>(
     first: &mut Session<C>,
     second: &mut Session<D>,
@@ -39,17 +41,19 @@ pub fn run_alike<C: HostCommand, D: HostCommand>(
 ) -> (Result<(), SessionFault>, Result<(), SessionFault>)
     requires alike { first.old ≡ second.old }
     requires same { same.items ≡ events.items }
-    ensures sessions { OnOk result.0 (OnOk result.1 (first.new ≡ second.new)) }
+    ensures ends { WithMemory result.0 result.1 (result.0 ≡ result.1) }
+    ensures sessions { WithMemory result.0 result.1 (first.new ≡ second.new) }
     ensures traces { OneBegins first.new.trace second.new.trace }
 {
     (first.run(events), second.run(same))
 }
 
-/// Registers closures for the same native command in two sessions with equal states and traces. Where both
-/// succeed, their tickets are equal, and their states and traces are equal again.
+/// Registers closures for the same native command in two sessions with equal states and traces. They get
+/// equal tickets or refusals, and their states and traces are equal again, unless one of them is refused
+/// memory.
 ///
 /// Errors: the first result is that of `first`, the second that of `second`; see `Session::register`.
-#[tactic(auto, using(crate::proofs::AlikeLemmas::same_ticket))]
+#[tactic(auto, using(crate::proofs::AlikeLemmas::tickets_alike))]
 pub fn register_alike<C: HostCommand, D: HostCommand>(
     first: &mut Session<C>,
     second: &mut Session<D>,
@@ -61,56 +65,59 @@ pub fn register_alike<C: HostCommand, D: HostCommand>(
 )
     requires alike { first.old ≡ second.old }
     requires same { D.stands_for same ≡ C.stands_for command }
-    ensures tickets { IfOk result.0 (λ one. IfOk result.1 (λ other. one ≡ other)) }
-    ensures sessions { OnOk result.0 (OnOk result.1 (first.new ≡ second.new)) }
+    ensures tickets { WithMemory (numbered result.0) (numbered result.1)
+        (numbered result.0 ≡ numbered result.1) }
+    ensures sessions { WithMemory (numbered result.0) (numbered result.1)
+        (first.new ≡ second.new) }
 {
     (first.register(command), second.register(same))
 }
 
-/// Ends the registrations with the same ticket in two sessions with equal states and traces. Where both
-/// succeed, the closures that come back are for the same native command, and their states and traces are
-/// equal again.
+/// Ends the registrations with the same ticket in two sessions with equal states and traces. The closures
+/// that come back are for the same native command, or the refusals are equal; and the states and traces are
+/// equal again, unless one of the sessions is refused memory.
 ///
 /// Errors: the first result is that of `first`, the second that of `second`; see `Session::dispose`.
-#[tactic(auto, using(crate::proofs::AlikeLemmas::same_native))]
+#[tactic(auto, using(crate::proofs::AlikeLemmas::natives_alike))]
 pub fn dispose_alike<C: HostCommand, D: HostCommand>(
     first: &mut Session<C>,
     second: &mut Session<D>,
     ticket: Ticket,
 ) -> (Result<C, SessionFault>, Result<D, SessionFault>)
     requires alike { first.old ≡ second.old }
-    ensures natives { IfOk result.0 (λ one. IfOk result.1 (λ other.
-        C.stands_for one ≡ D.stands_for other)) }
-    ensures sessions { OnOk result.0 (OnOk result.1 (first.new ≡ second.new)) }
+    ensures natives { WithMemory result.0 result.1
+        (with_native C.stands_for result.0 ≡ with_native D.stands_for result.1) }
+    ensures sessions { WithMemory result.0 result.1 (first.new ≡ second.new) }
 {
     (first.dispose(ticket), second.dispose(ticket))
 }
 
-/// Reloads the same rules of the user in two sessions with equal states and traces. Where both succeed and
-/// report the same patterns as unread, they answer the same, and their states and traces are equal again.
+/// Reloads the same rules of the user in two sessions with equal states and traces. Where both report the
+/// same patterns as unread, they answer the same, and their states and traces are equal again, unless one of
+/// them is refused memory.
 ///
 /// Errors: the first result is that of `first`, the second that of `second`; see `Session::reload_user`.
-#[tactic(auto, using(crate::proofs::AlikeLemmas::same_answer))]
+#[tactic(auto, using(crate::proofs::AlikeLemmas::reloads_alike))]
 pub fn reload_alike<C: HostCommand, D: HostCommand>(
     first: &mut Session<C>,
     second: &mut Session<D>,
     bytes: &[u8],
 ) -> (Result<Answer, SessionFault>, Result<Answer, SessionFault>)
     requires alike { first.old ≡ second.old }
-    ensures answers { IfOk result.0 (λ one. IfOk result.1 (λ other.
-        unread_rules first.new ≡ unread_rules second.new → one ≡ other)) }
-    ensures sessions { OnOk result.0 (OnOk result.1
-        (unread_rules first.new ≡ unread_rules second.new → first.new ≡ second.new)) }
+    ensures answers { unread_rules first.new ≡ unread_rules second.new
+        → WithMemory result.0 result.1 (result.0 ≡ result.1) }
+    ensures sessions { unread_rules first.new ≡ unread_rules second.new
+        → WithMemory result.0 result.1 (first.new ≡ second.new) }
 {
     (first.reload_user(bytes), second.reload_user(bytes))
 }
 
-/// Updates the same extension by the same file in two sessions with equal states and traces. Where both
-/// succeed, they answer the same, and their states and traces are equal again.
+/// Updates the same extension by the same file in two sessions with equal states and traces. They answer the
+/// same, and their states and traces are equal again, unless one of them is refused memory.
 ///
 /// Errors: the first result is that of `first`, the second that of `second`; see
 /// `Session::update_extension`.
-#[tactic(auto, using(crate::proofs::AlikeLemmas::same_answer))]
+#[tactic(auto, using(crate::proofs::AlikeLemmas::answers_alike))]
 pub fn update_alike<C: HostCommand, D: HostCommand>(
     first: &mut Session<C>,
     second: &mut Session<D>,
@@ -118,12 +125,57 @@ pub fn update_alike<C: HostCommand, D: HostCommand>(
     bytes: &[u8],
 ) -> (Result<Answer, SessionFault>, Result<Answer, SessionFault>)
     requires alike { first.old ≡ second.old }
-    ensures answers { IfOk result.0 (λ one. IfOk result.1 (λ other. one ≡ other)) }
-    ensures sessions { OnOk result.0 (OnOk result.1 (first.new ≡ second.new)) }
+    ensures answers { WithMemory result.0 result.1 (result.0 ≡ result.1) }
+    ensures sessions { WithMemory result.0 result.1 (first.new ≡ second.new) }
 {
     (
         first.update_extension(id, bytes),
         second.update_extension(id, bytes),
+    )
+}
+
+/// Sets the same key in two sessions with equal states and traces. They answer the same, and their states and
+/// traces are equal again, unless one of them is refused memory.
+///
+/// Errors: the first result is that of `first`, the second that of `second`; see `Session::set_context`.
+#[tactic(auto, using(crate::proofs::AlikeLemmas::answers_alike))]
+pub fn set_alike<C: HostCommand, D: HostCommand>(
+    first: &mut Session<C>,
+    second: &mut Session<D>,
+    scope: &str,
+    key: &str,
+    value: ContextValue,
+    same: ContextValue,
+) -> (Result<Answer, SessionFault>, Result<Answer, SessionFault>)
+    requires alike { first.old ≡ second.old }
+    requires same { same ≡ value }
+    ensures answers { WithMemory result.0 result.1 (result.0 ≡ result.1) }
+    ensures sessions { WithMemory result.0 result.1 (first.new ≡ second.new) }
+{
+    (
+        first.set_context(scope, key, value),
+        second.set_context(scope, key, same),
+    )
+}
+
+/// Removes the same key in two sessions with equal states and traces. They answer the same, and their states
+/// and traces are equal again, unless one of them is refused memory.
+///
+/// Errors: the first result is that of `first`, the second that of `second`; see `Session::unset_context`.
+#[tactic(auto, using(crate::proofs::AlikeLemmas::answers_alike))]
+pub fn unset_alike<C: HostCommand, D: HostCommand>(
+    first: &mut Session<C>,
+    second: &mut Session<D>,
+    scope: &str,
+    key: &str,
+) -> (Result<Answer, SessionFault>, Result<Answer, SessionFault>)
+    requires alike { first.old ≡ second.old }
+    ensures answers { WithMemory result.0 result.1 (result.0 ≡ result.1) }
+    ensures sessions { WithMemory result.0 result.1 (first.new ≡ second.new) }
+{
+    (
+        first.unset_context(scope, key),
+        second.unset_context(scope, key),
     )
 }
 

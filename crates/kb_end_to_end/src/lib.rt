@@ -6,7 +6,7 @@
 
 ghost use Rattle.std.specs.Prelude.{◌≡◌, IfOk, IfErr, map};
 ghost use Rattle.kb_end_to_end.specs.Transcript.{IsTranscript, FailsToGive, of_load, of_script};
-ghost use Rattle.kb_bindings.specs.Load.{files_of};
+ghost use Rattle.kb_files.specs.Inputs.{files_of};
 
 mod alike;
 

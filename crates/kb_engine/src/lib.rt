@@ -1,33 +1,25 @@
-//! The engine for hosts, in one crate: all that a host names to load a session, to send events and to run
-//! scripts. This crate defines nothing. Each item is documented in the crate that defines it.
-//!
-//! The definitions that contracts of a host cite are available through this crate too, as in
-//! `ghost use Rattle.kb_engine.specs.Native.{Fits};`, and declared types as well, as in
-//! `Rattle.kb_engine.specs.declared.Native.{Native}`. `specs/Lib.antt` lists the files of definitions.
+//! The engine for hosts in other languages. A host hands in the bytes of its files, has a session loaded of
+//! them, and tells it events or lines of a script. After each call it reads the trace lines of this call, and
+//! what a key press or a choice took. It needs no closure of its own.
 #![tactic(auto)]
 
-// Sessions: files, events, and what a session returns.
-pub use kb_context::ContextValue;
-pub use kb_execute::Finish;
-pub use kb_files::{ExtensionFiles, Inputs, LoadFault, LoadFile, read_context_text};
-pub use kb_keys::{Chord, KeyFault, Keystroke, Platform};
-pub use kb_resolve::Resolved;
-pub use kb_session::{Handled, Session, SessionFault};
-pub use kb_stream::{Lines, WriteRefused, write_whole};
-pub use kb_trace::{Answer, Event};
+pub mod engine;
+pub mod events;
+pub mod files;
+pub mod notice;
+pub mod outcome;
+pub mod part;
+pub mod plain;
+pub mod reading;
+pub mod running;
+pub mod taken;
+mod telling;
 
-// Native commands: the closures of a host, and what they run on.
-pub use kb_core::{Arg, Args, Buffer, Core, NATIVES, Native, Ran, Signature, at_budget, plain};
-pub use kb_registry::{HostCommand, NativeCommand, Run, Ticket};
-
-// The command palette.
-pub use kb_palette::{Entry, History, PaletteCommand, list};
-
-// Scripts.
-pub use kb_script::{SCRIPT_LIMIT, ScriptFault, run_script, stream_script};
-
-// Texts, lists and faults.
-pub use kb_base::{Failure, NoMemory, Refusal, Seq, Text, fault_name};
-
-// Warnings and unread patterns of entries.
-pub use kb_base::{EntryPattern, Origin, Part, UnreadPattern, Warning};
+pub use engine::Engine;
+pub use files::HostFiles;
+pub use outcome::Outcome;
+pub use part::Part;
+pub use plain::{Cost, PlainCommand, commands};
+pub use reading::read_over;
+pub use running::Running;
+pub use taken::{Taken, TakenKind};

@@ -1,5 +1,5 @@
 //! Uses a session, for any type of command: everything of the host but its closures.
-use kb_engine::{
+use kb_host::{
     Event, Failure, HostCommand, Inputs, Keystroke, LoadFault, NoMemory, Session, SessionFault,
     Ticket, write_whole,
 };

@@ -2,13 +2,13 @@
 //! they ran, presses keys, disposes a closure and registers it again.
 #![tactic(auto)]
 
-ghost use Rattle.kb_engine.specs.Native.{Fits};
-ghost use Rattle.kb_engine.specs.Ran.{Does};
+ghost use Rattle.kb_host.specs.Native.{Fits};
+ghost use Rattle.kb_host.specs.Ran.{Does};
 
 mod host;
 
 use crate::host::{HostFault, run_session};
-use kb_engine::{Args, Core, Inputs, NATIVES, NativeCommand, NoMemory, Platform, Ran, Run, plain};
+use kb_host::{Args, Core, Inputs, NATIVES, NativeCommand, NoMemory, Platform, Ran, Run, plain};
 use std::alloc::Global;
 use std::cell::Cell;
 use std::process::ExitCode;

@@ -4,7 +4,7 @@ use Rattle.std.specs.Prelude.{bytes_eq, nat_lt, if◌then◌else◌}
 use Rattle.serde_json.specs.Data.{Data, null, boolean, number, string, array, object}
 use Rattle.serde_json.specs.Find.{get, as_str}
 use Rattle.serde_json.specs.View.{view}
-use Rattle.kb_json.specs.Parts.{each, elements_of}
+use Rattle.kb_jsonc.specs.Parts.{each, elements_of}
 use Rattle.kb_execute.specs.declared.run_commands.Step.{Step}
 
 -- the identifier of the command that runs a list

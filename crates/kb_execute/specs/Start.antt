@@ -1,5 +1,6 @@
 -- The execution of a command: the core afterwards, its trace lines, and how it ended.
-use Rattle.std.specs.Prelude.{ℕ, List, [], ◌∷◌, ◌++◌, Option, Some, None, bytes_eq, if◌then◌else◌}
+use Rattle.std.specs.Prelude.{ℕ, Bool, true, false, List, [], ◌∷◌, ◌++◌, Option, Some, None, bytes_eq}
+use Rattle.std.specs.Prelude.{if◌then◌else◌}
 use Rattle.serde_json.specs.Data.{Data}
 use Rattle.kb_code.specs.Commands.{Callee, Table, declared_by}
 use Rattle.kb_core.specs.Reading.{arguments_for}
@@ -12,7 +13,7 @@ use Rattle.kb_execute.specs.declared.start.Finish.TheVariants.{Done, NotFound, B
 use Rattle.kb_trace.specs.Lines as line
 use Rattle.kb_vm.specs.Meaning as answer
 use Rattle.kb_vm.specs.Meaning.{Answer, core_of, lines_of, first_world, run, run_callee}
-use Rattle.kb_vm.specs.Trap.{number_of}
+use Rattle.kb_vm.specs.Trap.{kind_of}
 
 pub record Started : Type 0 where
   pub core : Core
@@ -26,6 +27,13 @@ started core lines finish = record { core = core; lines = lines; finish = finish
 abbrev pub behind : List (List ℕ) → Started → Started
 behind lines p = started p.core (lines ++ p.lines) p.finish
 
+-- a trap of a handler stops the session
+abbrev pub stops : Finish → Bool
+stops Done = false
+stops NotFound = false
+stops BadArguments = false
+stops Trapped = true
+
 -- the arguments don't fit a command
 abbrev pub unfit : List ℕ → Core → Started
 unfit command core = started core (line.bad_arguments_line command ∷ []) BadArguments
@@ -34,7 +42,7 @@ unfit command core = started core (line.bad_arguments_line command ∷ []) BadAr
 abbrev pub ran : Answer → Started
 ran (answer.Done w) = started (core_of w) (lines_of w ++ line.done_line (core_of w).buffer ∷ []) Done
 ran (answer.Stuck trap command place w) =
-    started (core_of w) (lines_of w ++ line.trap_line (number_of trap) command place ∷ []) Trapped
+    started (core_of w) (lines_of w ++ line.trap_line (kind_of trap) command place ∷ []) Trapped
 
 -- a live command runs if the arguments fit it
 abbrev pub started_with : Table → List ℕ → Callee → Option (List Arg) → Core → Started

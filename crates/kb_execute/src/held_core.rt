@@ -87,7 +87,8 @@ impl HeldCore {
     }
 
     /// Runs a live command with arguments on this core, as `kb_soundness::start` does: it costs at most the
-    /// command's budget, and among verified handlers fitting arguments never end with a trap.
+    /// command's budget, and among verified handlers fitting arguments never end with a trap. Traps and
+    /// refused memory are as there; the core is then that of the instruction at which it ended.
     pub fn start<'r, L: Commands>(
         &mut self,
         alloc: Global,
@@ -117,7 +118,8 @@ impl HeldCore {
     }
 
     /// Runs a live handler with arguments that fit it on this core, as `kb_soundness::start_coded` does: it
-    /// costs at most the handler's budget, and among verified handlers it never ends with a trap.
+    /// costs at most the handler's budget, and among verified handlers it never ends with a trap. Traps and
+    /// refused memory are as there.
     pub fn start_coded<'r, L: Commands>(
         &mut self,
         alloc: Global,

@@ -3,7 +3,7 @@
 //! valid as a whole, are our decisions.
 ghost use Rattle.std.specs.Prelude.{◌≡◌, IfOk, OnErr, map, option_map};
 ghost use Rattle.serde_json.specs.View.{view, items_view};
-ghost use Rattle.kb_json.specs.Parts.{each, listed};
+ghost use Rattle.kb_jsonc.specs.Parts.{each, listed};
 ghost use Rattle.kb_execute.specs.RunCommands.{planned, planned_for, planned_in, few, elements_given};
 ghost use Rattle.kb_execute.specs.RunCommands.{plan_of};
 ghost use Rattle.kb_stream.specs.Lines.{Begins};
@@ -112,7 +112,7 @@ fn elements_in(given: Option<&Value>) -> Option<&[Value]>
 }
 
 /// The elements, or `None` if they are more than 32.
-#[tactic(auto, using(kb_json::proofs::PartsLemmas::as_many))]
+#[tactic(auto, using(kb_jsonc::proofs::PartsLemmas::as_many))]
 fn few(elements: &[Value]) -> Option<&[Value]>
     ensures { option_map (λ elements. listed (items_view elements.now)) result
         ≡ few (listed (items_view elements.now)) }

@@ -9,7 +9,7 @@ ghost use Rattle.kb_execute.specs.HeldCore.{outcome};
 ghost use Rattle.kb_vm.specs.Meaning.{Answer};
 ghost use Rattle.kb_vm.specs.Outcome.{Ends};
 ghost use Rattle.kb_stream.specs.Lines.{Begins};
-ghost use Rattle.kb_execute.specs.Start.{started, started_as, behind, ran, start_of, start_live};
+ghost use Rattle.kb_execute.specs.Start.{started, started_as, behind, ran, start_of, start_live, stops};
 
 use crate::held_core::{Ended, HeldCore};
 use crate::run_commands::start_list;
@@ -36,8 +36,20 @@ pub enum Finish {
     Trapped,
 }
 
-/// Runs a command with the arguments of a rule, as JSON, and adds its trace lines. On `NoMemory` the
-/// old lines are still there, before any new ones.
+impl Finish {
+    /// Whether a session stops behind this end: a handler trapped.
+    pub fn stops(self) -> bool
+        ensures { result ≡ stops self }
+    {
+        match self {
+            Finish::Trapped => true,
+            Finish::Done | Finish::NotFound | Finish::BadArguments => false,
+        }
+    }
+}
+
+/// Runs a command with the arguments of a rule, as JSON, and adds its trace lines. On `NoMemory` the core may
+/// be half done, and the old lines are still there, before any new ones.
 #[tactic(auto, using(kb_stream::proofs::Undoing::undoing), unfolding(crate::specs::Start::start_of))]
 pub fn start_command<C: HostCommand>(
     alloc: Global,
@@ -199,7 +211,7 @@ fn note_end(ended: &Ended<'_>, core: &Core, trace: &mut Lines) -> Result<Finish,
         }
         End::Trap(trap, command, place) => {
             trace.append(&ended.lines)?;
-            lines::trap_line(trace, trap.number(), command, place)?;
+            lines::trap_line(trace, trap.kind(), command, place)?;
             Ok(Finish::Trapped)
         }
     }

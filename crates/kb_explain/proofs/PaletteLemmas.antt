@@ -2,9 +2,9 @@
 use Rattle.std.proofs.Common.{◌≡◌, ℕ, List, [], ◌∷◌, Option, None, Some, refl, sym, ap, ◌∙◌, subst}
 use Rattle.std.specs.Prelude.{option_map}
 use Rattle.std.specs.Option.{unwrap_or}
-use Rattle.kb_causes.specs.Cause.{cause_data, literal, never, shown, CauseData, IsCauseOf}
-use Rattle.kb_causes.specs.declared.cause.Cause.{Cause}
-use Rattle.kb_causes.specs.declared.cause.Cause.TheVariants.{Never}
+use Rattle.kb_explain.specs.Cause.{cause_data, literal, never, shown, CauseData, IsCauseOf}
+use Rattle.kb_explain.specs.declared.cause.Cause.{Cause}
+use Rattle.kb_explain.specs.declared.cause.Cause.TheVariants.{Never}
 use Rattle.kb_context.specs.Scopes.{Keys}
 use Rattle.kb_explain.specs.Palette.{first_named, led, named_alone, IsCauseOfItems, IsWhy, IsWhyAbsent, IsWhyUnfound}
 use Rattle.kb_explain.specs.declared.palette.Unlisted.{Unlisted}

@@ -4,9 +4,9 @@ use Rattle.std.proofs.Common.{map, subst}
 use Rattle.std.specs.Prelude.{◌&&◌, is_none, option_map, filter, reverse, if◌then◌else◌}
 use Rattle.std.proofs.lemmas.List.{reverse-append, map-append}
 use Rattle.kb_context.specs.Scopes.{Keys}
-use Rattle.kb_causes.specs.Cause.{Fails, IsCauseOf, cause_data}
+use Rattle.kb_explain.specs.Cause.{Fails, IsCauseOf, cause_data}
 use Rattle.kb_explain.specs.Press.{before_first, passed_over, IsFirstObstacle}
-use Rattle.kb_causes.specs.declared.cause.Cause.{Cause}
+use Rattle.kb_explain.specs.declared.cause.Cause.{Cause}
 use Rattle.kb_explain.specs.declared.press.Passed.{Passed}
 use Rattle.kb_explain.specs.declared.press.Obstacle.TheVariants.{Clause, Enablement}
 use Rattle.kb_keys.specs.Chord.{begins_with}

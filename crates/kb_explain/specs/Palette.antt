@@ -3,9 +3,9 @@ use Rattle.std.specs.Prelude.{◌≡◌, true, false, List, [], ◌∷◌, ℕ, 
 use Rattle.std.specs.Prelude.{None, Some, is_some, if◌then◌else◌}
 use Rattle.std.specs.Borrow.{Bor}
 use Rattle.std.specs.Str.{bytes_eq}
-use Rattle.kb_causes.specs.declared.cause.Cause.{Cause}
+use Rattle.kb_explain.specs.declared.cause.Cause.{Cause}
 use Rattle.kb_context.specs.Scopes.{Keys}
-use Rattle.kb_causes.specs.Cause.{cause_data, literal, never, CauseData, Fails, IsCauseOf}
+use Rattle.kb_explain.specs.Cause.{cause_data, literal, never, CauseData, Fails, IsCauseOf}
 use Rattle.kb_explain.specs.declared.palette.Unlisted.{Unlisted}
 use Rattle.kb_explain.specs.declared.palette.Unlisted.TheVariants as why
 use Rattle.kb_files.specs.declared.extension_file.Extension.{Extension}

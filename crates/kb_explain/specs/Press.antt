@@ -2,7 +2,7 @@
 use Rattle.std.specs.Prelude.{◌≡◌, true, false, List, [], ◌∷◌, Bool, if◌then◌else◌, filter, reverse}
 use Rattle.std.specs.Prelude.{Option, None, Some}
 use Rattle.kb_context.specs.Scopes.{Keys}
-use Rattle.kb_causes.specs.Cause.{cause_data, Fails, IsCauseOf}
+use Rattle.kb_explain.specs.Cause.{cause_data, Fails, IsCauseOf}
 use Rattle.kb_explain.specs.declared.press.Obstacle.{Obstacle}
 use Rattle.kb_explain.specs.declared.press.Obstacle.TheVariants.{Clause, Enablement}
 use Rattle.kb_explain.specs.declared.press.Passed.{Passed}

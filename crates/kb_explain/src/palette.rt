@@ -1,7 +1,7 @@
 //! Why the palette doesn't list a command.
 ghost use Rattle.std.specs.Prelude.{◌≡◌, [], ◌∷◌, not, is_some, IfOk, IfSome};
 ghost use Rattle.std.specs.List.{list_any};
-ghost use Rattle.kb_causes.specs.Cause.{cause_data};
+ghost use Rattle.kb_explain.specs.Cause.{cause_data};
 ghost use Rattle.kb_context.specs.Scopes.{context};
 ghost use Rattle.kb_explain.specs.Palette.{contributor, named_alone, IsCauseOfItems, IsItemCause, IsNamed};
 ghost use Rattle.kb_explain.specs.Palette.{IsWhyAbsent, IsWhyNotShown, IsWhyUnfound, IsWhyUnlisted};
@@ -10,10 +10,10 @@ ghost use Rattle.kb_palette.specs.Listing.{is_found};
 ghost use Rattle.kb_palette.specs.Words.{folded_words};
 ghost use Rattle.kb_when.specs.Marks.{when_holds};
 
+use crate::cause::{Cause, cause_of_clause, first_shown};
 use crate::press::clause_of;
 use kb_base::NoMemory;
 use kb_bindings::Bindings;
-use kb_causes::{Cause, cause_of_clause, first_shown};
 use kb_context::Scopes;
 use kb_files::Extension;
 use kb_palette::{History, PaletteCommand, list};

@@ -6,9 +6,9 @@ ghost use Rattle.kb_explain.specs.Press.{passed_over, IsFirstObstacle, IsRightly
 ghost use Rattle.kb_resolve.specs.Enablements.{enablement_in};
 ghost use Rattle.kb_resolve.specs.Resolver.{chosen};
 
+use crate::cause::{Cause, cause_of_clause};
 use kb_base::NoMemory;
 use kb_bindings::Bindings;
-use kb_causes::{Cause, cause_of_clause};
 use kb_context::Scopes;
 use kb_keys::Keystroke;
 use kb_resolve::Enablements;

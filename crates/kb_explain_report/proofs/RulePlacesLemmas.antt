@@ -9,7 +9,7 @@ use Rattle.serde_json.specs.Data.{Data, null, boolean, number, string, array, ob
 use Rattle.serde_json.specs.Data.{item as item_of}
 use Rattle.serde_json.specs.Find.{as_object, at, get, get_item}
 use Rattle.serde_json.specs.View.{view}
-use Rattle.kb_json.specs.Parts.{elements_of, listed}
+use Rattle.kb_jsonc.specs.Parts.{elements_of, listed}
 use Rattle.kb_manifest.specs.Points.{entries_of}
 use Rattle.kb_places.specs.Place.{StandsAt, StepData, member, item, step_data, at_path}
 use Rattle.kb_places.specs.Position.{position_of}

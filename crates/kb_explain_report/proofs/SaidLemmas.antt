@@ -9,7 +9,8 @@ use Rattle.std.proofs.lemmas.List.{map-append, take_all}
 use Rattle.serde_json.specs.Data.{Data, string}
 use Rattle.serde_json.specs.View.{view}
 use Rattle.serde_json.specs.declared.value.Value.{Value}
-use Rattle.kb_explain_report.specs.Said.{WritesEach, WritesLine, WritesMore}
+use Rattle.kb_explain_report.specs.Said.{WritesEach, WritesMore}
+use Rattle.kb_report.specs.Output.{WritesLine}
 
 -- what is left of a list from a place on begins with the element there
 left_from : {A : Type 0} (xs : List A) (i : ℕ) (x : A) → slice_get xs i ≡ Some x

@@ -8,9 +8,9 @@ use Rattle.kb_explain.specs.Palette.{IsWhyUnlisted}
 use Rattle.kb_explain.specs.declared.palette.Unlisted.{Unlisted}
 use Rattle.kb_explain.specs.declared.palette.Unlisted.TheVariants as why
 use Rattle.kb_palette.specs.Command.{CommandData}
-use Rattle.kb_explain_report.specs.Said.{IsJson}
-use Rattle.kb_explain_report.specs.declared.output.Form.{Form}
-use Rattle.kb_explain_report.specs.declared.output.Form.TheVariants as form
+use Rattle.kb_report.specs.Output.{IsJson}
+use Rattle.kb_report.specs.declared.output.Form.{Form}
+use Rattle.kb_report.specs.declared.output.Form.TheVariants as form
 
 -- whether the palette lists a command, or why not, in words
 abbrev pub IsWhyText : Unlisted → List ℕ → Type 0

@@ -8,7 +8,7 @@ use Rattle.serde_json.specs.Find.{as_object, get}
 use Rattle.serde_json.specs.View.{view}
 use Rattle.kb_base.specs.declared.note.Origin.{Origin}
 use Rattle.kb_base.specs.declared.note.Origin.TheVariants as origin
-use Rattle.kb_json.specs.Parts.{elements_of}
+use Rattle.kb_jsonc.specs.Parts.{elements_of}
 use Rattle.kb_manifest.specs.Points.{entries_of}
 use Rattle.kb_places.specs.Open.{Opens}
 use Rattle.kb_places.specs.Place.{StandsAt, StepData, member, item, step_data}

@@ -8,10 +8,11 @@ use Rattle.kb_keys.specs.declared.keystroke.Keystroke.{Keystroke}
 use Rattle.kb_resolve.specs.Pressed as step
 use Rattle.kb_resolve.specs.Pressed.{Step}
 use Rattle.kb_rules.specs.declared.rule.Rule.{Rule}
-use Rattle.kb_explain_report.specs.Said.{IsJson, WritesEach, WritesLine, WritesMore}
+use Rattle.kb_explain_report.specs.Said.{WritesEach}
+use Rattle.kb_report.specs.Output.{IsJson}
 use Rattle.kb_explain_report.specs.declared.list_said.Row.{Row}
-use Rattle.kb_explain_report.specs.declared.output.Form.{Form}
-use Rattle.kb_explain_report.specs.declared.output.Form.TheVariants as form
+use Rattle.kb_report.specs.declared.output.Form.{Form}
+use Rattle.kb_report.specs.declared.output.Form.TheVariants as form
 
 -- the identifier of a command in words
 abbrev pub command_words : List ℕ → List ℕ
@@ -96,8 +97,3 @@ IsStepJson strokes does d = (get (codes "keys") d ≡ Some (string (chord_spelli
 abbrev pub SaysStep : Form → List Keystroke → Step → List ℕ → Type 0
 SaysStep form.Text strokes does said = IsStepText strokes does said
 SaysStep form.Json strokes does said = (d : Data) × IsStepJson strokes does d × IsJson d said
-
--- first a line for what the press does, and then more
-abbrev pub SaysPress : Form → List Keystroke → Step → Option (List ℕ) → Option (List ℕ) → Type 0
-SaysPress f strokes does old new = (between : Option (List ℕ))
-    × WritesLine (SaysStep f strokes does) old between × WritesMore between new

@@ -1,22 +1,16 @@
 -- What a writer gets of what is said: lines, as sentences or as JSON. Its bytes are known (`Some`) for a
 -- writer over memory, and unknown (`None`) for a file or a pipe.
-use Rattle.std.specs.Prelude.{◌≡◌, ◌≤◌, ◌++◌, ◌∷◌, [], ℕ, List, Option, Some, All, codes, map}
+use Rattle.std.specs.Prelude.{◌≡◌, ◌++◌, ◌∷◌, [], ℕ, List, Option, Some, All, codes, map}
 use Rattle.std.specs.Io.KnownBytes.{Appends, Keeps}
-use Rattle.serde_json.specs.Data.{Data, array, depth, member, no_members, object, string}
+use Rattle.serde_json.specs.Data.{Data, array, member, no_members, object, string}
 use Rattle.serde_json.specs.Find.{get}
-use Rattle.serde_json.specs.Read.{max_depth, read}
 use Rattle.serde_json.specs.View.{items_of}
-use Rattle.kb_causes.specs.Seen.{IsSeen}
-use Rattle.kb_causes.specs.declared.seen.Seen.{Seen}
+use Rattle.kb_explain.specs.Seen.{IsSeen}
+use Rattle.kb_explain.specs.declared.seen.Seen.{Seen}
 use Rattle.kb_context.specs.Scopes.{ScopesData}
-use Rattle.kb_explain_report.specs.declared.output.Form.{Form}
-use Rattle.kb_explain_report.specs.declared.output.Form.TheVariants as form
-
--- the writer got a line, and this is so of the line
-pub record WritesLine (Is : List ℕ → Type 0) (old new : Option (List ℕ)) : Type 0 where
-  pub line : List ℕ
-  pub is : Is line
-  pub got : Appends old new (line ++ 10 ∷ [])
+use Rattle.kb_report.specs.Output.{IsJson, WritesLine}
+use Rattle.kb_report.specs.declared.output.Form.{Form}
+use Rattle.kb_report.specs.declared.output.Form.TheVariants as form
 
 -- the writer got a line for each of these things, in their order
 abbrev pub WritesEach : {A : Type 0} → (A → List ℕ → Type 0) → List A → Option (List ℕ) → Option (List ℕ)
@@ -29,10 +23,6 @@ WritesEach Is (one ∷ rest) old new =
 pub record WritesMore (old new : Option (List ℕ)) : Type 0 where
   pub more : List ℕ
   pub got : Appends old new more
-
--- a line is the JSON of a value, unless that nests deeper than what is read
-unfoldable pub IsJson : Data → List ℕ → Type 0
-IsJson d line = depth d ≤ max_depth → read line ≡ Some d
 
 -- ---- the trace
 

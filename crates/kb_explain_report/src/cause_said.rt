@@ -2,8 +2,8 @@
 use crate::clauses::write_literal;
 use crate::value_said::{value_json, value_text};
 use kb_base::NoMemory;
-use kb_causes::{Cause, Literal, scope_of};
 use kb_context::Scopes;
+use kb_explain::{Cause, Literal, scope_of};
 use kb_when::Leaf;
 use serde_json::{Value, json};
 use std::alloc::Global;

@@ -2,13 +2,14 @@
 ghost use Rattle.std.specs.Prelude.{IfOk, OnOk, string_bytes};
 ghost use Rattle.serde_json.specs.View.{view};
 ghost use Rattle.kb_explain_report.specs.Said.{IsSeenJson, IsSeenText, SaysContext, SaysSeen};
-ghost use Rattle.kb_explain_report.specs.Said.{WritesEach, WritesLine};
+ghost use Rattle.kb_explain_report.specs.Said.{WritesEach};
+ghost use Rattle.kb_report.specs.Output.{WritesLine};
 
-use crate::output::{Form, Stop, say_object, say_text};
 use crate::value_said::{value_json, value_text};
 use kb_base::NoMemory;
-use kb_causes::{Seen, keys_seen};
 use kb_context::Scopes;
+use kb_explain::{Seen, keys_seen};
+use kb_report::{Form, Stop, say_object, say_text};
 use serde_json::{Value, json};
 use std::alloc::Global;
 use std::io::Write;

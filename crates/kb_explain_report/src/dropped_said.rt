@@ -2,18 +2,15 @@
 ghost use Rattle.std.specs.Prelude.{OnOk};
 ghost use Rattle.kb_explain_report.specs.Said.{WritesMore};
 
-use crate::output::{Form, Stop, say_object, say_text};
 use crate::rule_said::{Named, place_json, place_text};
-use kb_base::{NoMemory, Origin, Warning, fault_name};
+use kb_base::{NoMemory, Origin, Warning};
 use kb_keys::{Chord, Keystroke, Platform};
 use kb_places::{Source, open};
-use kb_rules::RuleList;
+use kb_report::{Form, Stop, say_object, say_text};
+use kb_rules::{RuleList, is_dropped};
 use serde_json::{Value, json};
 use std::alloc::Global;
 use std::io::Write;
-
-/// The number of the warning of an element that is kept, though a pattern of its clause isn't read.
-const UNREAD: u32 = 34;
 
 /// The element of a file at a place.
 fn element_at<'v>(value: &'v Value, origin: Origin, place: usize) -> Option<&'v Value> {
@@ -78,13 +75,10 @@ fn dropped_text(
 ) -> Result<String, NoMemory> {
     let place = place_text(alloc, named, warning.origin, warning.place)?;
     let source = named.bindings.source(warning.origin);
-    let number = warning.number;
-    let name = fault_name(number);
+    let fault = warning.kind;
     match keys {
-        Some(keys) => format!(in alloc;
-            "{place}: {source}: {keys}: is dropped, for {number} {name}"
-        ),
-        None => format!(in alloc; "{place}: {source}: is dropped, for {number} {name}"),
+        Some(keys) => format!(in alloc; "{place}: {source}: {keys}: is dropped, for {fault}"),
+        None => format!(in alloc; "{place}: {source}: is dropped, for {fault}"),
     }
 }
 
@@ -96,18 +90,13 @@ fn dropped_json(
     keys: Option<&str>,
 ) -> Result<Value, NoMemory> {
     let place = place_json(alloc, named, warning.origin, warning.place)?;
-    let number = warning.number as u64;
-    let name = fault_name(warning.number);
+    let number = u64::from(warning.kind.number());
+    let name = warning.kind.name();
     let rule = match keys {
         Some(keys) => json!(in alloc; {"keys": keys, "place": place})?,
         None => json!(in alloc; {"place": place})?,
     };
     json!(in alloc; {"rule": rule, "verdict": "dropped", "number": number, "name": name})
-}
-
-/// Whether an element was dropped for its fault.
-fn is_dropped(warning: &Warning) -> bool {
-    warning.number != UNREAD
 }
 
 /// Writes a line for each dropped element of a file that may be meant for these keystrokes.

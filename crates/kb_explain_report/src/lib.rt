@@ -7,7 +7,6 @@ mod clauses;
 pub mod context_said;
 pub mod dropped_said;
 pub mod list_said;
-pub mod output;
 pub mod palette_said;
 pub mod press_said;
 pub mod removed_said;
@@ -18,7 +17,6 @@ pub mod value_said;
 
 pub use context_said::say_context;
 pub use list_said::say_rules;
-pub use output::{Form, Stop};
 pub use palette_said::{say_command, say_commands};
 pub use press_said::{Press, Situation, explained_press, say_press};
 pub use rule_places::RulePlaces;

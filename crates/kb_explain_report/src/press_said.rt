@@ -4,10 +4,12 @@ ghost use Rattle.serde_json.specs.View.{view};
 ghost use Rattle.kb_bindings.specs.Sources.{enablement, rules_of};
 ghost use Rattle.kb_context.specs.Scopes.{context};
 ghost use Rattle.kb_explain.specs.Press.{passed_over, IsRightlyPassed};
-ghost use Rattle.kb_explain_report.specs.RulesSaid.{IsStepJson, IsStepText, SaysPress, SaysStep};
+ghost use Rattle.kb_explain_report.specs.PressSaid.{SaysPress};
+ghost use Rattle.kb_explain_report.specs.RulesSaid.{IsStepJson, IsStepText, SaysStep};
 ghost use Rattle.kb_explain_report.specs.RulesSaid as said;
 ghost use Rattle.kb_explain_report.specs.RulesSaid.{start_words, step_command, step_word, step_words};
-ghost use Rattle.kb_explain_report.specs.Said.{WritesLine, WritesMore};
+ghost use Rattle.kb_explain_report.specs.Said.{WritesMore};
+ghost use Rattle.kb_report.specs.Output.{WritesLine};
 ghost use Rattle.kb_keys.specs.Chord.{chord_spelling};
 ghost use Rattle.kb_keys.specs.declared.keystroke.Keystroke.{Keystroke};
 ghost use Rattle.kb_resolve.specs.ChordState.{step, step_by};
@@ -16,13 +18,13 @@ ghost use Rattle.kb_resolve.specs.Resolver.{resolution_by};
 
 use crate::cause_said::{cause_json, cause_said};
 use crate::dropped_said::say_dropped;
-use crate::output::{Form, Stop, say_object, say_text};
 use crate::removed_said::say_removed;
 use crate::rule_said::{Named, place_text, rule_json, rule_text};
 use kb_base::NoMemory;
 use kb_context::Scopes;
 use kb_explain::{Explained, Obstacle, Passed, explain};
 use kb_keys::{Keystroke, write_strokes};
+use kb_report::{Form, Stop, say_object, say_text};
 use kb_resolve::Pressed;
 use kb_rules::Rule;
 use serde_json::{Value, json};
@@ -347,10 +349,11 @@ pub fn say_press<W: Write>(
     form: Form,
     out: &mut W,
 ) -> Result<(), Stop>
-    // The first line says what the engine's step does.
+    // The first line says what the engine's step does, and of each rule that a removal took a line says where
+    // both stand.
     ensures { OnOk result ((before : List Keystroke) → (stroke : Keystroke)
         → situation.now.strokes.now ≡ before ++ stroke ∷ []
-        → SaysPress form situation.now.strokes.now
+        → SaysPress form situation.now.named situation.now.strokes.now
         (step before stroke (context situation.now.scopes.now.seen)
         (enablement situation.now.named.bindings.now) (rules_of situation.now.named.bindings.now))
         (W.contents out.old) (W.contents out.new)) }

@@ -1,6 +1,8 @@
 //! A rule, said.
 ghost use Rattle.std.specs.Prelude.{◌≡◌, IfOk, string_bytes};
 ghost use Rattle.serde_json.specs.View.{view};
+ghost use Rattle.kb_source_files.specs.SourceFiles.{file_of_origin};
+ghost use Rattle.kb_explain_report.specs.RemovedSaid.{IsPlaceJson, path_words, place_in};
 ghost use Rattle.kb_explain_report.specs.RulesSaid.{IsRuleJson, IsRuleText, command_words};
 
 use crate::clauses::clause_text;
@@ -26,7 +28,9 @@ pub struct Named<'s> {
 
 /// The path of a file of rules, as messages name it. Only rules of a script's reload are in force without a
 /// file.
-fn path_of<'s>(files: &SourceFiles<'s>, origin: Origin) -> &'s str {
+fn path_of<'s>(files: &SourceFiles<'s>, origin: Origin) -> &'s str
+    ensures { result.now ≡ path_words (file_of_origin files.entry.now origin) }
+{
     match files.file_of_origin(origin) {
         Some(file) => file.path,
         None => "reload",
@@ -39,14 +43,17 @@ pub(crate) fn place_text(
     named: &Named<'_>,
     origin: Origin,
     place: usize,
-) -> Result<String, NoMemory> {
+) -> Result<String, NoMemory>
+    ensures { IfOk result (λ made. string_bytes made ≡ place_in named.now origin place) }
+{
     let path = path_of(named.files, origin);
     let Some(position) = named.places.position(origin, place) else {
         return String::from_str(alloc, path);
     };
     let line = position.line;
     let column = position.column;
-    format!(in alloc; "{path}:{line}:{column}")
+    let text = format!(in alloc; "{path}:{line}:{column}")?;
+    Ok(text)
 }
 
 /// The place of the element of a file, as JSON.
@@ -55,7 +62,9 @@ pub(crate) fn place_json(
     named: &Named<'_>,
     origin: Origin,
     place: usize,
-) -> Result<Value, NoMemory> {
+) -> Result<Value, NoMemory>
+    ensures { IfOk result (λ made. IsPlaceJson named.now origin place (view made)) }
+{
     let path = path_of(named.files, origin);
     let source = named.bindings.source(origin);
     let Some(position) = named.places.position(origin, place) else {

@@ -3,8 +3,8 @@ ghost use Rattle.std.specs.Prelude.{◌≡◌, IfOk, OnOk};
 ghost use Rattle.serde_json.specs.View.{view};
 ghost use Rattle.kb_explain_report.specs.Said.{IsTraceLine, SaysTrace, WritesEach, texts_json};
 
-use crate::output::{Form, Stop, say_object, say_text};
 use kb_base::NoMemory;
+use kb_report::{Form, Stop, say_object, say_text};
 use kb_stream::Lines;
 use serde_json::{Value, json};
 use std::alloc::Global;

@@ -8,13 +8,14 @@ use Rattle.kb_base.specs.declared.note.Part.TheVariants.{Commands, Keybindings, 
 use Rattle.kb_base.specs.declared.note.EntryPattern.{EntryPattern}
 use Rattle.kb_base.specs.Failure.{Fails}
 use Rattle.kb_base.specs.Reading.{◌>>=◌, seen}
-use Rattle.kb_base.specs.Refusal.{numbered}
+use Rattle.kb_base.specs.Refusal.{refusing, refusing_failure}
+use Rattle.kb_base.specs.declared.fault.FaultKind.{FaultKind}
 use Rattle.kb_base.specs.declared.failure.Failure.{Failure}
 use Rattle.kb_base.specs.declared.failure.Failure.TheVariants.{NoMemory, Fault}
 use Rattle.kb_base.specs.declared.refusal.Refusal.{Refusal}
 use Rattle.kb_keys.specs.declared.platform.Platform.{Platform}
-use Rattle.kb_json.specs.declared.fault.FileFault.{FileFault}
-use Rattle.kb_json.specs.FileFault.{number_of}
+use Rattle.kb_jsonc.specs.declared.file_fault.FileFault.{FileFault}
+use Rattle.kb_jsonc.specs.FileFault.{kind_of}
 use Rattle.kb_manifest.specs.Command as command
 use Rattle.kb_manifest.specs.Manifest.{Outline, Stated, Told, contributed, package_of, outline_of, seen_package}
 use Rattle.kb_manifest.specs.Manifest.{told_in, told_by, IsRightBy}
@@ -31,7 +32,7 @@ use Rattle.kb_base.specs.declared.note.UnreadPattern.{UnreadPattern}
 use Rattle.kb_files.specs.declared.extension_file.Extension.{Extension}
 use Rattle.kb_files.specs.Extension.{outline_in, package_in, unread_in, extension_of, extension_by, extension_in}
 use Rattle.kb_files.specs.Marked.{FailsForAll}
-use Rattle.kb_files.specs.Value.{data_of, numbered_failure}
+use Rattle.kb_files.specs.Value.{data_of}
 
 -- ---- the unread patterns of three parts
 
@@ -207,27 +208,27 @@ right_still number platform bytes p e read is right =
     (subst (λ (told : Told). IsRightBy told (outline_in bytes))
     (sym (told_read number platform bytes p e read is)) right)
 
-seen_numbered : {F X Y : Type 0} (number_of : F → ℕ) (f : X → Y) (r : Result X F)
-    → seen f (numbered number_of r) ≡ numbered number_of (seen f r)
-seen_numbered number_of f (Ok x) = refl
-seen_numbered number_of f (Err e) = refl
+seen_refusing : {F X Y : Type 0} (kind_of : F → FaultKind) (f : X → Y) (r : Result X F)
+    → seen f (refusing kind_of r) ≡ refusing kind_of (seen f r)
+seen_refusing kind_of f (Ok x) = refl
+seen_refusing kind_of f (Err e) = refl
 
 -- what a file's value holds, the file holds
 of_value : (o : Origin) (told : Told) (bytes : List ℕ) (d : Data) → data_of bytes ≡ Ok d
-    → package_in o told bytes ≡ numbered number_of (package_of o told d)
+    → package_in o told bytes ≡ refusing kind_of (package_of o told d)
 of_value o told bytes d held =
     ap (λ (r : Result Data Refusal).
-    seen (contributed o told) (r >>= (λ v. numbered number_of (outline_of v)))) held
-    ∙ seen_numbered number_of (contributed o told) (outline_of d)
+    seen (contributed o told) (r >>= (λ v. refusing kind_of (outline_of v)))) held
+    ∙ seen_refusing kind_of (contributed o told) (outline_of d)
 
 pub package_read : (o : Origin) (told : Told) (bytes : List ℕ) (d : Data) (stated : Stated)
     → data_of bytes ≡ Ok d → package_of o told d ≡ Ok stated → package_in o told bytes ≡ Ok stated
 package_read o told bytes d stated held read =
-    of_value o told bytes d held ∙ ap (numbered number_of) read
+    of_value o told bytes d held ∙ ap (refusing kind_of) read
 
 pub package_fails : (o : Origin) (bytes : List ℕ) (d : Data) (failure : Failure FileFault) → data_of bytes ≡ Ok d
     → ((told : Told) → Fails failure (package_of o told d))
-    → (told : Told) → Fails (numbered_failure number_of failure) (package_in o told bytes)
+    → (told : Told) → Fails (refusing_failure kind_of failure) (package_in o told bytes)
 package_fails o bytes d NoMemory held fails told = tt
 package_fails o bytes d (Fault fault) held fails told =
-    of_value o told bytes d held ∙ ap (numbered number_of) (fails told)
+    of_value o told bytes d held ∙ ap (refusing kind_of) (fails told)

@@ -34,11 +34,11 @@ use Rattle.kb_jsonc.specs.Pieces.{quoted, single, bytes_of, first_piece, pieces,
 use Rattle.kb_jsonc.specs.Reader.{value_of, plain_value, without_mark}
 use Rattle.kb_jsonc.specs.Text.{plain_of, plain_text}
 use Rattle.kb_context.specs.declared.value.ContextValue.TheVariants.{Number, Text}
-use Rattle.kb_base.specs.Refusal.{numbered}
+use Rattle.kb_base.specs.Refusal.{refusing}
 use Rattle.kb_base.specs.declared.refusal.Refusal.{Refusal}
 use Rattle.kb_context.specs.declared.value.ContextValue.{ContextValue}
-use Rattle.kb_json.specs.FileFault.{number_of}
-use Rattle.kb_json.specs.declared.fault.FileFault.TheVariants.{WrongShape}
+use Rattle.kb_jsonc.specs.FileFault.{kind_of}
+use Rattle.kb_jsonc.specs.declared.file_fault.FileFault.TheVariants.{WrongShape}
 use Rattle.kb_jsonc.specs.declared.fault.JsoncFault.{JsoncFault}
 use Rattle.kb_jsonc.specs.Fault as jsonc
 use Rattle.kb_manifest.specs.Context.{context_of}
@@ -240,7 +240,7 @@ number_value z small utf8 =
 -- ---- context values
 
 abbrev context_by : Result Data JsoncFault → Result ContextValue Refusal
-context_by r = numbered jsonc.number_of r >>= (λ d. numbered number_of (context_of d))
+context_by r = refusing jsonc.kind_of r >>= (λ d. refusing kind_of (context_of d))
 
 pub quoted_read : (text s : List ℕ) → text ≡ 34 ∷ (s ++ 34 ∷ []) → list_all is_plain s ≡ true → IsUtf8 text
     → context_in text ≡ Ok (Text s)
@@ -254,6 +254,6 @@ pub number_read : (text : List ℕ) (z : ℤ) → text ≡ signed_decimal z → 
     → context_in text ≡ Ok (Number z)
 number_read text z is small utf8 =
     ap context_in is ∙ ap context_by (number_value z small (subst IsUtf8 is utf8))
-    ∙ ap (λ o. numbered number_of (or_fault WrongShape (option_map Number o))) (as_read z small)
+    ∙ ap (λ o. refusing kind_of (or_fault WrongShape (option_map Number o))) (as_read z small)
 
 pub ruleset reading = (number_read, quoted_read)

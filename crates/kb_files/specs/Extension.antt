@@ -6,9 +6,9 @@ use Rattle.kb_base.specs.declared.note.Origin.TheVariants as origin
 use Rattle.kb_base.specs.declared.note.EntryPattern.{EntryPattern}
 use Rattle.kb_base.specs.declared.refusal.Refusal.{Refusal}
 use Rattle.kb_base.specs.Reading.{◌>>=◌, seen}
-use Rattle.kb_base.specs.Refusal.{numbered}
+use Rattle.kb_base.specs.Refusal.{refusing}
 use Rattle.kb_keys.specs.declared.platform.Platform.{Platform}
-use Rattle.kb_json.specs.FileFault.{number_of}
+use Rattle.kb_jsonc.specs.FileFault.{kind_of}
 use Rattle.kb_manifest.specs.Manifest.{Outline, Stated, Told, contributed, outline_of, told_in, IsRightBy}
 use Rattle.kb_rules.specs.RuleList.{listed, AreRightlyMarked}
 use Rattle.kb_files.specs.declared.extension_file.Extension.{Extension}
@@ -16,7 +16,7 @@ use Rattle.kb_files.specs.Value.{data_of}
 
 -- the outline of a manifest, before its entries are read
 abbrev pub outline_in : List ℕ → Result Outline Refusal
-outline_in bytes = data_of bytes >>= (λ d. numbered number_of (outline_of d))
+outline_in bytes = data_of bytes >>= (λ d. refusing kind_of (outline_of d))
 
 -- the package, for the patterns of its entries that aren't read
 abbrev pub package_in : Origin → Told → List ℕ → Result Stated Refusal

@@ -4,6 +4,7 @@ use Rattle.std.specs.Prelude.{⊤, ◌≡◌, ℕ, ◌+◌, nat_lt, List, [], �
 use Rattle.std.specs.Prelude.{Option, Some, None, option_map, Result, Ok, Err, if◌then◌else◌}
 use Rattle.kb_base.specs.Reading.{◌>>=◌}
 use Rattle.kb_base.specs.Refusal.{refused_for}
+use Rattle.kb_base.specs.declared.fault.FaultKind.TheVariants.{TooLarge}
 use Rattle.kb_base.specs.declared.note.EntryPattern.{EntryPattern}
 use Rattle.kb_base.specs.declared.refusal.Refusal.{Refusal}
 use Rattle.kb_code.specs.Handler.{HandlerData}
@@ -70,7 +71,7 @@ names_in outline = record { id = outline.id; dependencies = outline.dependencies
 
 -- an extension's manifest is refused for its identifier or its dependencies
 abbrev pub refused_manifest : IdentifierFault → LoadFault
-refused_manifest fault = refused_file (file.Package fault.place) (refused_for fault.number)
+refused_manifest fault = refused_file (file.Package fault.place) (refused_for fault.kind)
 
 abbrev pub names_fault : List Names → Option LoadFault
 names_fault es = option_map refused_manifest (identifier_fault es)
@@ -82,7 +83,7 @@ unless_fault (Some fault) x = Err fault
 -- at most 100 extensions, then the faults of each one's files, and then those of identifiers
 abbrev pub extensions_held : List ExtensionBytes → Result (List HeldExtension) LoadFault
 extensions_held extensions =
-    if nat_lt 100 (length extensions) then Err (refused_file file.Extensions (refused_for 44))
+    if nat_lt 100 (length extensions) then Err (refused_file file.Extensions (refused_for TooLarge))
     else extensions_from 0 extensions
     >>= λ held. unless_fault (names_fault (map names_in (outlines_of held))) held
 

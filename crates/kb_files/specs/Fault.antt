@@ -1,5 +1,7 @@
--- The words for the files of a load, and its faults.
-use Rattle.std.specs.Prelude.{ℕ, List, ◌++◌, Result, Ok, Err, codes, decimal}
+-- The words for the files of a load, its faults, and the line of a fault.
+use Rattle.std.specs.Prelude.{ℕ, List, ◌++◌, Option, Some, None, Result, Ok, Err, codes, decimal}
+use Rattle.kb_base.specs.Fault.{fault_words}
+use Rattle.kb_base.specs.declared.fault.FaultKind.{FaultKind}
 use Rattle.kb_files.specs.declared.fault.LoadFile.{LoadFile}
 use Rattle.kb_files.specs.declared.fault.LoadFile.TheVariants.{Layout, Defaults, User, Extensions, Package}
 use Rattle.kb_files.specs.declared.fault.LoadFile.TheVariants.{Handlers, Natives}
@@ -16,6 +18,16 @@ load_file_word Extensions = codes "extensions"
 load_file_word (Package number) = codes "ext " ++ (decimal number ++ codes " package.json")
 load_file_word (Handlers number) = codes "ext " ++ (decimal number ++ codes " handlers.json")
 load_file_word Natives = codes "natives"
+
+-- the line of a load's fault: the file, the fault's number and name, and its detail, if it has one
+abbrev pub refusal_line : LoadFile → FaultKind → Option (List ℕ) → List ℕ
+refusal_line file fault None =
+    codes "load refused: " ++ (load_file_word file ++ (codes " " ++ fault_words fault))
+refusal_line file fault (Some detail) = codes "load refused: " ++ (load_file_word file ++ (codes " "
+    ++ (fault_words fault ++ (codes " " ++ detail))))
+
+abbrev pub load_line : LoadFault → List ℕ
+load_line fault = refusal_line fault.file fault.refusal.kind fault.refusal.detail
 
 -- a file is refused
 abbrev pub refused_file : LoadFile → Refusal → LoadFault

@@ -3,7 +3,9 @@ use Rattle.std.specs.Prelude.{ℕ, List, [], ◌∷◌, ◌++◌, length, Bool, 
 use Rattle.std.specs.Prelude.{if◌then◌else◌}
 use Rattle.std.specs.List.{list_any}
 use Rattle.std.specs.Option.{option_or}
-use Rattle.std.specs.Str.{str_eq_ignore_ascii_case}
+use Rattle.kb_base.specs.ExtensionId.{same_id}
+use Rattle.kb_base.specs.declared.fault.FaultKind.{FaultKind}
+use Rattle.kb_base.specs.declared.fault.FaultKind.TheVariants.{DuplicateExtension, MissingDependency}
 use Rattle.kb_files.specs.declared.identifiers.IdentifierFault.{IdentifierFault}
 
 -- the identifier of an extension, and those that it depends on
@@ -13,7 +15,7 @@ pub record Names : Type 0 where
 
 -- an identifier is among those of extensions, compared without the case of ASCII letters
 abbrev pub is_among : List ℕ → List Names → Bool
-is_among id others = list_any (λ other. str_eq_ignore_ascii_case id other.id) others
+is_among id others = list_any (λ other. same_id id other.id) others
 
 -- an extension repeats the identifier of an earlier one
 abbrev pub repeats : List Names → Names → Bool
@@ -29,11 +31,11 @@ first_failing fails earlier [] = None
 first_failing fails earlier (e ∷ es) =
     if fails earlier e then Some (length earlier) else first_failing fails (earlier ++ e ∷ []) es
 
-abbrev pub fault_at : ℕ → ℕ → IdentifierFault
-fault_at number place = record { number = number; place = place }
+abbrev pub fault_at : FaultKind → ℕ → IdentifierFault
+fault_at kind place = record { kind = kind; place = place }
 
 -- a repeated identifier comes before each missing dependency, whatever their places
 abbrev pub identifier_fault : List Names → Option IdentifierFault
 identifier_fault es =
-    option_or (option_map (fault_at 91) (first_failing repeats [] es))
-    (option_map (fault_at 90) (first_failing lacks [] es))
+    option_or (option_map (fault_at DuplicateExtension) (first_failing repeats [] es))
+    (option_map (fault_at MissingDependency) (first_failing lacks [] es))

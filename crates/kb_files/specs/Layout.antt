@@ -6,16 +6,16 @@ use Rattle.kb_context.specs.declared.fault.ScopeFault.{ScopeFault}
 use Rattle.kb_base.specs.declared.refusal.Refusal.{Refusal}
 use Rattle.kb_context.specs.Layout.{layout_fault, scopes_of}
 use Rattle.kb_base.specs.Reading.{◌>>=◌}
-use Rattle.kb_base.specs.Refusal.{numbered}
-use Rattle.kb_context.specs.ScopeFault.{number_of}
+use Rattle.kb_base.specs.Refusal.{refusing}
+use Rattle.kb_context.specs.ScopeFault.{kind_of}
 use Rattle.kb_context.specs.Scopes.{RevisedScopes, initial}
-use Rattle.kb_json.specs.FileFault.{number_of as shape_number}
+use Rattle.kb_jsonc.specs.FileFault.{kind_of as shape_kind}
 use Rattle.kb_manifest.specs.Layout.{layout_of}
 use Rattle.kb_files.specs.Value.{data_of}
 
 -- the layout that is read
 abbrev pub layout_in : List ℕ → Result Layout Refusal
-layout_in bytes = data_of bytes >>= (λ d. numbered shape_number (layout_of d))
+layout_in bytes = data_of bytes >>= (λ d. refusing shape_kind (layout_of d))
 
 -- the scopes are made where the layout has no fault
 abbrev pub made : Option ScopeFault → RevisedScopes → Result RevisedScopes ScopeFault
@@ -24,7 +24,7 @@ made (Some fault) scopes = Err fault
 
 -- the new scopes of a layout, or the refusal for its fault
 abbrev pub scopes_for : Layout → Result RevisedScopes Refusal
-scopes_for l = numbered number_of (made (layout_fault l) (initial (scopes_of l)))
+scopes_for l = refusing kind_of (made (layout_fault l) (initial (scopes_of l)))
 
 abbrev pub scopes_in : List ℕ → Result RevisedScopes Refusal
 scopes_in bytes = layout_in bytes >>= scopes_for

@@ -5,8 +5,10 @@ pub mod Extensions
 pub mod Fault
 pub mod HandlerFile
 pub mod Identifiers
+pub mod Inputs
 pub mod Layout
 pub mod Marked
 pub mod PlainValue
 pub mod RuleFile
+pub mod SourceFiles
 pub mod Value

@@ -4,10 +4,10 @@ use Rattle.std.specs.Prelude.{ℕ, List, None, Result}
 use Rattle.serde_json.specs.Data.{Data}
 use Rattle.kb_base.specs.declared.refusal.Refusal.{Refusal}
 use Rattle.kb_base.specs.Reading.{◌>>=◌, or_fault, seen}
-use Rattle.kb_base.specs.Refusal.{numbered}
-use Rattle.kb_json.specs.declared.fault.FileFault.TheVariants.{WrongShape}
-use Rattle.kb_json.specs.FileFault.{number_of}
-use Rattle.kb_json.specs.Parts.{elements_of}
+use Rattle.kb_base.specs.Refusal.{refusing}
+use Rattle.kb_jsonc.specs.declared.file_fault.FileFault.TheVariants.{WrongShape}
+use Rattle.kb_jsonc.specs.FileFault.{kind_of}
+use Rattle.kb_jsonc.specs.Parts.{elements_of}
 use Rattle.kb_rules.specs.RuleList.{Listed, listed}
 use Rattle.kb_base.specs.declared.note.Origin.{Origin}
 use Rattle.kb_base.specs.declared.note.EntryPattern.{EntryPattern}
@@ -15,7 +15,7 @@ use Rattle.kb_files.specs.Value.{data_of}
 
 -- the elements of a file, which has to be an array
 abbrev pub elements_in : Data → Result (List Data) Refusal
-elements_in d = numbered number_of (or_fault WrongShape (elements_of d))
+elements_in d = refusing kind_of (or_fault WrongShape (elements_of d))
 
 abbrev pub elements_held : List ℕ → Result (List Data) Refusal
 elements_held bytes = data_of bytes >>= elements_in

@@ -2,7 +2,7 @@
 ghost use Rattle.std.specs.Prelude.{◌≡◌, IfOk, Some};
 ghost use Rattle.serde_json.specs.View.{items_view};
 ghost use Rattle.kb_base.specs.declared.note.Origin.TheVariants as origin;
-ghost use Rattle.kb_json.specs.Parts.{listed};
+ghost use Rattle.kb_jsonc.specs.Parts.{listed};
 ghost use Rattle.kb_manifest.specs.Manifest.{seen_package, told_by, IsRead, IsRightBy};
 ghost use Rattle.kb_rules.specs.RuleList as rules;
 ghost use Rattle.kb_files.specs.Extension.{outline_in, package_in, unread_in, extension_of, extension_in};
@@ -46,7 +46,8 @@ pub fn read_extension(
 ) -> Result<Extension, Failure<Refusal>>
     ensures read { GivesByMarks unread_in (λ unread. extension_in unread number platform bytes.now) result }
 
-    // A pattern is listed as unread exactly where `regex` rejects it.
+    // A pattern is listed as unread only if the grammar of `regex` rejects it or it nests too deep. One that
+    // isn't listed is read by that grammar.
     ensures right { IfOk result (IsRightlyMarked bytes.now) }
 {
     let contents = read_package(alloc, bytes, Origin::Extension(number))?;

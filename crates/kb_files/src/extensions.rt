@@ -14,7 +14,7 @@ use crate::fault::{LoadFault, LoadFile, of_file};
 use crate::handler_file::read_handlers;
 use crate::identifiers::{Identified, identifier_fault};
 use crate::inputs::ExtensionFiles;
-use kb_base::{Failure, NoMemory, Refusal, Seq, Text};
+use kb_base::{ExtensionId, Failure, FaultKind, NoMemory, Refusal, Seq};
 use kb_code::Handler;
 use kb_keys::Platform;
 use std::alloc::Global;
@@ -31,7 +31,7 @@ impl Identified for Extension {
         self.manifest.id.as_str()
     }
 
-    fn dependencies(&self) -> &[Text] {
+    fn dependencies(&self) -> &[ExtensionId] {
         self.manifest.dependencies.as_slice()
     }
 }
@@ -81,7 +81,7 @@ pub fn read_extensions(
     if extensions.len() > EXTENSION_LIMIT {
         return Err(Failure::Fault(LoadFault {
             file: LoadFile::Extensions,
-            refusal: Refusal::of(44),
+            refusal: Refusal::of(FaultKind::TooLarge),
         }));
     }
     let all = read_each(alloc, extensions, platform)?;
@@ -186,7 +186,7 @@ fn names_fault(extensions: &[Extension]) -> Option<LoadFault>
     match identifier_fault(extensions) {
         Some(fault) => Some(LoadFault {
             file: LoadFile::Package(fault.place),
-            refusal: Refusal::of(fault.number),
+            refusal: Refusal::of(fault.kind),
         }),
         None => None,
     }

@@ -51,6 +51,27 @@ impl fmt::Display for LoadFile {
     }
 }
 
+/// Shows the line of a refused load, without a line feed: the file, the fault's number and name, and its
+/// detail, if it has one.
+impl fmt::Display for LoadFault {
+    ghost use Rattle.std.specs.Prelude.{Some};
+    ghost use Rattle.kb_files.specs.Fault.{load_line};
+
+    ghost output = { λ fault. Some (load_line fault) };
+
+    fn fmt<W: fmt::Write>(&self, f: &mut fmt::Formatter<W>) -> fmt::Result {
+        let file = self.file;
+        let kind = self.refusal.kind;
+        match &self.refusal.detail {
+            Some(detail) => {
+                let detail = detail.as_str();
+                write!(f, "load refused: {file} {kind} {detail}")
+            }
+            None => write!(f, "load refused: {file} {kind}"),
+        }
+    }
+}
+
 /// Why a load failed, by the failure of one of its files.
 pub fn failure_of(file: LoadFile, failure: Failure<Refusal>) -> Failure<LoadFault>
     ensures { result ≡ fault.failure_of file failure }
@@ -58,7 +79,7 @@ pub fn failure_of(file: LoadFile, failure: Failure<Refusal>) -> Failure<LoadFaul
     failure.map_fault(|refusal| LoadFault { file, refusal })
 }
 
-/// What was read of a file, or the failure of that file.
+/// What was read of a file, or the failure of that file: its fault with the file's name, or `NoMemory`.
 pub fn of_file<T: Drop>(
     file: LoadFile,
     read: Result<T, Failure<Refusal>>,

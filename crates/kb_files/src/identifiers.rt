@@ -3,7 +3,7 @@ ghost use Rattle.std.specs.Prelude.{◌≡◌, [], map};
 ghost use Rattle.kb_files.specs.Identifiers.{is_among, repeats, lacks, first_failing, fault_at};
 ghost use Rattle.kb_files.specs.Identifiers.{identifier_fault};
 
-use kb_base::Text;
+use kb_base::{ExtensionId, FaultKind, same_id};
 
 /// An extension, as far as its identifier and its dependencies matter.
 pub trait Identified {
@@ -17,16 +17,16 @@ pub trait Identified {
         ensures { result.now ≡ (names self.now).id };
 
     /// The identifiers of the extensions that it depends on.
-    fn dependencies(&self) -> &[Text]
+    fn dependencies(&self) -> &[ExtensionId]
         ensures { result.now ≡ (names self.now).dependencies };
 }
 
 /// Why a load refuses an extension for its identifier or its dependencies.
 #[derive(Clone, Copy, Debug, PartialEq, Eq)]
 pub struct IdentifierFault {
-    /// 91 where it repeats the identifier of an earlier extension, 90 where it depends on an extension that
-    /// isn't before it.
-    pub number: u32,
+    /// `DuplicateExtension` (91) where it repeats the identifier of an earlier extension, `MissingDependency`
+    /// (90) where it depends on an extension that isn't before it.
+    pub kind: FaultKind,
     /// The place of the extension in load order, from 0.
     pub place: usize,
 }
@@ -38,19 +38,19 @@ pub fn identifier_fault<E: Identified>(extensions: &[E]) -> Option<IdentifierFau
     ensures { result ≡ identifier_fault (map E.names extensions.now) }
 {
     if let Some(place) = first_repeating(extensions) {
-        return Some(fault_at(91, place));
+        return Some(fault_at(FaultKind::DuplicateExtension, place));
     }
     match first_lacking(extensions) {
-        Some(place) => Some(fault_at(90, place)),
+        Some(place) => Some(fault_at(FaultKind::MissingDependency, place)),
         None => None,
     }
 }
 
-/// The fault with this number of the extension at a place.
-fn fault_at(number: u32, place: usize) -> IdentifierFault
-    ensures { result ≡ fault_at number place }
+/// The fault of the extension at a place.
+fn fault_at(kind: FaultKind, place: usize) -> IdentifierFault
+    ensures { result ≡ fault_at kind place }
 {
-    IdentifierFault { number, place }
+    IdentifierFault { kind, place }
 }
 
 /// The place of the first extension that repeats the identifier of an earlier one.
@@ -94,7 +94,7 @@ fn is_among<E: Identified>(id: &str, others: &[E]) -> bool
     ensures { result ≡ is_among id.now (map E.names others.now) }
 {
     for other in others {
-        if id.eq_ignore_ascii_case(other.id()) {
+        if same_id(id, other.id()) {
             return true;
         }
     }

@@ -13,6 +13,7 @@ pub mod inputs;
 pub mod layout_file;
 mod plain_value;
 pub mod rule_file;
+pub mod source_files;
 mod value;
 
 pub use context_text::read_context_text;
@@ -24,3 +25,4 @@ pub use identifiers::{Identified, IdentifierFault, identifier_fault};
 pub use inputs::{ExtensionFiles, Inputs};
 pub use layout_file::read_scopes;
 pub use rule_file::read_rules;
+pub use source_files::{ExtensionSource, SourceFile, SourceFiles};

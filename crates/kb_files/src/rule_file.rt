@@ -8,8 +8,8 @@ ghost use Rattle.kb_files.specs.Marked.{ReadsBy};
 ghost use Rattle.kb_files.specs.RuleFile.{rules_in, rules_by, elements_in, elements_held};
 
 use crate::value::read_value;
-use kb_base::{Failure, NoMemory, Refusal};
-use kb_json::{FileFault, elements_in};
+use kb_base::{Failure, FaultKind, NoMemory, Refusal};
+use kb_jsonc::elements_in;
 use kb_rules::{Origin, RuleList, read_list};
 use serde_json::Value;
 use std::alloc::Global;
@@ -23,7 +23,8 @@ use std::alloc::Global;
 pub fn read_rules(alloc: Global, bytes: &[u8], origin: Origin) -> Result<RuleList, Failure<Refusal>>
     ensures read { ReadsBy (λ marks. rules_in marks origin bytes.now) result }
 
-    // A pattern is marked as unread exactly where `regex` rejects it.
+    // A pattern is marked as unread only if the grammar of `regex` rejects it or it nests too deep. One that
+    // isn't marked is read by that grammar.
     ensures right { IfOk result AreRightlyMarked }
 {
     let elements = read_elements(alloc, bytes)?;
@@ -53,6 +54,6 @@ fn rule_elements(value: Value) -> Result<Vec<Value>, Refusal>
 {
     match elements_in(value) {
         Some(elements) => Ok(elements),
-        None => Err(Refusal::of(FileFault::WrongShape.number())),
+        None => Err(Refusal::of(FaultKind::WrongShape)),
     }
 }

@@ -1,7 +1,7 @@
-//! A first key press: a host in Rattle over `kb_embed`, as `docs/EMBEDDING.md` shows it.
+//! A first key press: a host in Rattle over `kb_engine`, as `docs/EMBEDDING.md` shows it.
 #![tactic(auto)]
 
-use kb_embed::{Engine, Outcome, Part};
+use kb_engine::{Engine, Outcome, Part};
 use std::process::ExitCode;
 use std::str;
 

@@ -7,7 +7,7 @@ use std::alloc::{AllocError, Global};
 
 fn when_fault(alloc: Global, wrong: Failure<WhenFault>) -> Result<String, NoMemory> {
     match wrong {
-        Failure::Fault(wrong) => fault_text(alloc, wrong.number()),
+        Failure::Fault(wrong) => fault_text(alloc, wrong.kind()),
         Failure::NoMemory => Err(AllocError),
     }
 }
@@ -62,7 +62,7 @@ pub(crate) fn choices(
 fn add_fault(wrong: Failure<WhenFault>, output: &mut String) -> Result<(), NoMemory> {
     match wrong {
         Failure::Fault(wrong) => {
-            let number = wrong.number();
+            let number = wrong.kind().number();
             write!(output, "{number}")
         }
         Failure::NoMemory => Err(AllocError),

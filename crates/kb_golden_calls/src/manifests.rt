@@ -1,8 +1,7 @@
 //! Manifests: what is read from an extension's `package.json`, on one line.
-use kb_base::{Failure, NoMemory, Origin, Text};
+use kb_base::{ExtensionId, Failure, NoMemory, Origin};
 use kb_golden_text::fault_text;
-use kb_json::FileFault;
-use kb_jsonc::read;
+use kb_jsonc::{FileFault, read};
 use kb_manifest::{Command, Manifest, Notes, Package, PaletteItem};
 use kb_when::{Clause, SharedClause};
 use serde_json::Value;
@@ -73,7 +72,7 @@ fn add_items(alloc: Global, output: &mut String, items: &[PaletteItem]) -> Resul
 
 fn add_warnings(output: &mut String, notes: &Notes) -> Result<(), NoMemory> {
     for warning in notes.warnings.as_slice() {
-        let number = warning.number;
+        let number = warning.kind.number();
         let part = warning.part.name();
         let place = warning.place;
         write!(output, "; warning {number} {part} {place}")?;
@@ -92,7 +91,7 @@ fn add_unread(output: &mut String, notes: &Notes) -> Result<(), NoMemory> {
     Ok(())
 }
 
-fn add_head(output: &mut String, id: &str, dependencies: &[Text]) -> Result<(), NoMemory> {
+fn add_head(output: &mut String, id: &str, dependencies: &[ExtensionId]) -> Result<(), NoMemory> {
     output.push_str(id)?;
     for dependency in dependencies {
         let dependency = dependency.as_str();
@@ -125,7 +124,7 @@ fn manifest_text(alloc: Global, package: &Package) -> Result<String, NoMemory> {
 
 fn refused(alloc: Global, failure: Failure<FileFault>) -> Result<String, NoMemory> {
     match failure {
-        Failure::Fault(wrong) => fault_text(alloc, wrong.number()),
+        Failure::Fault(wrong) => fault_text(alloc, wrong.kind()),
         Failure::NoMemory => Err(AllocError),
     }
 }

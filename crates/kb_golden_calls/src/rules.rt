@@ -1,7 +1,6 @@
 //! The rules in force, of defaults, extensions and the user.
 use kb_base::{NoMemory, Warning};
-use kb_json::{elements_in, members_in, take_member};
-use kb_jsonc::read;
+use kb_jsonc::{elements_in, members_in, read, take_member};
 use kb_keys::{Keystroke, Platform};
 use kb_resolve::Resolver;
 use kb_rules::{Origin, Rule, RuleList, RuleSet, read_list};
@@ -98,7 +97,7 @@ fn add_rule(alloc: Global, rule: &Rule, output: &mut String) -> Result<(), NoMem
 
 fn add_warnings(warnings: &[Warning], output: &mut String) -> Result<(), NoMemory> {
     for warning in warnings {
-        let number = warning.number;
+        let number = warning.kind.number();
         let place = warning.place;
         write!(output, "warning {number} ")?;
         add_origin(warning.origin, output)?;

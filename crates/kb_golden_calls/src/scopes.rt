@@ -12,7 +12,7 @@ fn result_text(
 ) -> Result<String, NoMemory> {
     match outcome {
         Ok(()) => String::from_str(alloc, "ok"),
-        Err(Failure::Fault(wrong)) => fault_text(alloc, wrong.number()),
+        Err(Failure::Fault(wrong)) => fault_text(alloc, wrong.kind()),
         Err(Failure::NoMemory) => Err(AllocError),
     }
 }

@@ -9,7 +9,7 @@ use serde_json::Value;
 use std::alloc::{AllocError, Global};
 
 fn key_fault(alloc: Global, wrong: KeyFault) -> Result<String, NoMemory> {
-    fault_text(alloc, wrong.number())
+    fault_text(alloc, wrong.kind())
 }
 
 /// The canonical spelling of a chord, or its fault.
@@ -30,7 +30,7 @@ pub(crate) fn keystroke(alloc: Global, text: &str) -> Result<String, NoMemory> {
 
 fn json_fault(alloc: Global, wrong: Failure<JsoncFault>) -> Result<String, NoMemory> {
     match wrong {
-        Failure::Fault(wrong) => fault_text(alloc, wrong.number()),
+        Failure::Fault(wrong) => fault_text(alloc, wrong.kind()),
         Failure::NoMemory => Err(AllocError),
     }
 }
@@ -61,7 +61,7 @@ pub(crate) fn plain_json(alloc: Global, text: &str) -> Result<String, NoMemory> 
 /// The fault of a file.
 pub(crate) fn file_fault(alloc: Global, wrong: Failure<Refusal>) -> Result<String, NoMemory> {
     match wrong {
-        Failure::Fault(wrong) => fault_text(alloc, wrong.number),
+        Failure::Fault(wrong) => fault_text(alloc, wrong.kind),
         Failure::NoMemory => Err(AllocError),
     }
 }

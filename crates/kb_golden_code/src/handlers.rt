@@ -87,7 +87,7 @@ fn handlers_text(alloc: Global, handlers: &[Handler]) -> Result<String, NoMemory
 
 fn refused(alloc: Global, failure: Failure<HandlersFault>) -> Result<String, NoMemory> {
     match failure {
-        Failure::Fault(wrong) => fault_text(alloc, wrong.number()),
+        Failure::Fault(wrong) => fault_text(alloc, wrong.kind()),
         Failure::NoMemory => Err(AllocError),
     }
 }
@@ -108,7 +108,7 @@ fn code_fault(alloc: Global, failure: Failure<CodeFault>) -> Result<String, NoMe
         Failure::Fault(wrong) => wrong,
         Failure::NoMemory => return Err(AllocError),
     };
-    let mut output = fault_text(alloc, wrong.number())?;
+    let mut output = fault_text(alloc, wrong.kind())?;
     match wrong {
         CodeFault::BadLength => {}
         CodeFault::BadOpcode(place) => write!(output, " at {place}")?,

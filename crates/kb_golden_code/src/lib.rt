@@ -1,12 +1,19 @@
-//! Golden tests of handlers and of what they call: signatures, files of handlers, bytecode and the verifier.
+//! Golden tests of handlers and of what they call: signatures, files of handlers, bytecode and the verifier,
+//! the registry of closures, and the cost of commands that are started from it.
 #![tactic(auto)]
 
+mod boxed;
+mod codes;
 mod handlers;
+mod live;
+mod registries;
 mod signatures;
+mod spending;
 mod verifier;
 
 use kb_base::NoMemory;
 use kb_code::Version;
+pub use live::run_live_case;
 pub use signatures::signature_text;
 use std::alloc::Global;
 use std::str;

@@ -1,5 +1,5 @@
 //! What the verifier answers for a handler.
-use kb_base::{Failure, NoMemory, Seq, fault_name};
+use kb_base::{Failure, NoMemory, Seq};
 use kb_code::Handler;
 use kb_core::NATIVES;
 use kb_handler_file::HandlerFile;
@@ -48,10 +48,9 @@ fn add_path(output: &mut String, path: &[Step], nested: usize) -> Result<(), NoM
 }
 
 fn refused_by(alloc: Global, fault: &VerifyFault) -> Result<String, NoMemory> {
-    let number = fault.number();
+    let kind = fault.kind();
     let place = fault.place();
-    let name = fault_name(number);
-    let mut output = format!(in alloc; "{number} {name} {place}")?;
+    let mut output = format!(in alloc; "{kind} {place}")?;
     if let VerifyFault::OverBudget(path) = fault {
         add_path(&mut output, path.as_slice(), 0)?;
     }

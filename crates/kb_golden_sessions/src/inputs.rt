@@ -6,7 +6,6 @@
 //! such a line there is one for each native.
 use crate::host::{Command, Cost, all_commands, commands_named};
 use kb_base::NoMemory;
-use kb_disk::lent;
 use kb_files::ExtensionFiles;
 use kb_golden_text::unescape;
 use kb_keys::Platform;
@@ -21,6 +20,14 @@ pub(crate) struct Files {
     pub(crate) user: Option<Vec<u8>>,
     pub(crate) extensions: Option<Vec<u8>>,
     pub(crate) platform: Platform,
+}
+
+// The bytes of a file as a slice; `None` without a file.
+pub(crate) fn lent(bytes: &Option<Vec<u8>>) -> Option<&[u8]> {
+    match bytes {
+        Some(bytes) => Some(bytes.as_slice()),
+        None => None,
+    }
 }
 
 // The text of a line of this file; `None` for other lines.

@@ -5,17 +5,16 @@
 //! another call of the session (see `run_query`).
 use crate::host::{Command, Cost};
 use crate::inputs::{
-    Files, all_handlers, commands_in, extensions_of, files_in, is_of_file, manifests_in,
+    Files, all_handlers, commands_in, extensions_of, files_in, is_of_file, lent, manifests_in,
 };
 use crate::streams::{FailingReader, LimitedWriter};
-use kb_base::{EntryPattern, Failure, NoMemory, fault_name};
+use kb_base::{EntryPattern, Failure, NoMemory, WarningLine};
 use kb_core::Native;
-use kb_disk::lent;
-use kb_exit::{Stop, WarningLine, script_stop};
 use kb_files::{ExtensionFiles, Inputs, LoadFault};
 use kb_golden_text::{escape, unescape};
 use kb_keys::Keystroke;
 use kb_registry::Ticket;
+use kb_run::{Stop, script_stop};
 use kb_script::{ScriptFault, run_script};
 use kb_session::{Session, SessionFault};
 use kb_trace::Event;
@@ -202,9 +201,8 @@ fn events_of(alloc: Global, words: &str) -> Result<Vec<Event>, NoMemory> {
 }
 
 fn add_fault(fault: SessionFault, actual: &mut String) -> Result<(), NoMemory> {
-    let number = fault.number();
-    let name = fault_name(number);
-    write!(actual, "> {number} {name}\n")
+    let kind = fault.kind();
+    write!(actual, "> {kind}\n")
 }
 
 fn handle(session: &mut Session<Command>, word: &str, actual: &mut String) -> Result<(), NoMemory> {

@@ -10,7 +10,7 @@ use std::str;
 
 fn load_fault(alloc: Global, fault: &LoadFault) -> Result<String, NoMemory> {
     let file = fault.file;
-    let name = fault.refusal.name();
+    let name = fault.refusal.kind.name();
     format!(in alloc; "Load(Refused({file:?}, {name}))")
 }
 

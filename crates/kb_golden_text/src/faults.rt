@@ -1,9 +1,8 @@
 //! How a golden file writes a fault.
-use kb_base::{NoMemory, fault_name};
+use kb_base::{FaultKind, NoMemory};
 use std::alloc::Global;
 
-/// The number of a fault and its name in the table of faults.
-pub fn fault_text(alloc: Global, number: u32) -> Result<String, NoMemory> {
-    let name = fault_name(number);
-    format!(in alloc; "{number} {name}")
+/// The number of a fault and its name.
+pub fn fault_text(alloc: Global, fault: FaultKind) -> Result<String, NoMemory> {
+    format!(in alloc; "{fault}")
 }

@@ -11,7 +11,8 @@ use Rattle.kb_core.specs.declared.arg.Kind.TheVariants as kind
 use Rattle.kb_handler_file.specs.declared.fault.HandlersFault.{HandlersFault}
 use Rattle.kb_handler_file.specs.Code.{instrs_of}
 use Rattle.kb_handler_file.specs.Entry.{entry_of}
-use Rattle.kb_handler_file.specs.Fault.{number_of}
+use Rattle.kb_base.specs.Fault.{fault_number}
+use Rattle.kb_handler_file.specs.Fault.{kind_of}
 use Rattle.kb_handler_file.specs.HandlerFile.{handler_in, handlers_of, list_of}
 use Rattle.kb_handler_file.specs.Limits.{signature_of}
 use Rattle.kb_handler_file.specs.Parameters.{param_of}
@@ -19,7 +20,7 @@ use Rattle.kb_handler_file.specs.Parameters.{param_of}
 -- the number of the fault, or 0 where there is none
 abbrev fault_in : Result (List HandlerData) HandlersFault → ℕ
 fault_in (Ok handlers) = 0
-fault_in (Err fault) = number_of fault
+fault_in (Err fault) = fault_number (kind_of fault)
 
 -- the number of the first fault of a file, or 1 where it is no JSON text
 abbrev fault_of : List ℕ → ℕ

@@ -3,9 +3,9 @@ use Rattle.std.specs.Prelude.{ℤ, List, [], codes, Option, Some, None, option_a
 use Rattle.serde_json.specs.Data.{Data, Members}
 use Rattle.serde_json.specs.Find.{get_member, as_i64, as_number, as_object, as_str}
 use Rattle.kb_base.specs.Reading.{◌>>=◌, or_fault}
-use Rattle.kb_json.specs.declared.fault.FileFault.{FileFault}
-use Rattle.kb_json.specs.declared.fault.FileFault.TheVariants.{MissingMember, WrongShape}
-use Rattle.kb_json.specs.Parts.{optional, texts_of, word_of}
+use Rattle.kb_jsonc.specs.declared.file_fault.FileFault.{FileFault}
+use Rattle.kb_jsonc.specs.declared.file_fault.FileFault.TheVariants.{MissingMember, WrongShape}
+use Rattle.kb_jsonc.specs.Parts.{optional, texts_of, word_of}
 use Rattle.kb_handler_file.specs.declared.entry.Declared.{Declared}
 use Rattle.kb_handler_file.specs.declared.entry.Entry.{Entry}
 use Rattle.kb_handler_file.specs.declared.entry.Written.{Written}

@@ -9,9 +9,9 @@ use Rattle.kb_code.specs.declared.version.Version.{Version}
 use Rattle.kb_code.specs.declared.version.Version.TheVariants.{One, Two}
 use Rattle.kb_core.specs.Declaration.{Declaration}
 use Rattle.kb_base.specs.Reading.{◌>>=◌, ◌>>◌, guard, or_fault, seen}
-use Rattle.kb_json.specs.declared.fault.FileFault.{FileFault}
-use Rattle.kb_json.specs.declared.fault.FileFault.TheVariants.{WrongShape}
-use Rattle.kb_json.specs.Parts.{elements_of}
+use Rattle.kb_jsonc.specs.declared.file_fault.FileFault.{FileFault}
+use Rattle.kb_jsonc.specs.declared.file_fault.FileFault.TheVariants.{WrongShape}
+use Rattle.kb_jsonc.specs.Parts.{elements_of}
 use Rattle.kb_handler_file.specs.declared.entry.Entry.{Entry}
 use Rattle.kb_handler_file.specs.declared.entry.Written.{Written}
 use Rattle.kb_handler_file.specs.declared.fault.HandlersFault.{HandlersFault}

@@ -1,6 +1,6 @@
 -- The head of a handler file, as it is read.
 use Rattle.serde_json.specs.View.{items_view}
-use Rattle.kb_json.specs.Parts.{listed}
+use Rattle.kb_jsonc.specs.Parts.{listed}
 use Rattle.kb_handler_file.specs.declared.handler_file.Head.{Head}
 use Rattle.kb_handler_file.specs.HandlerFile.{Parts}
 

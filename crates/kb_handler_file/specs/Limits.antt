@@ -3,7 +3,7 @@ use Rattle.std.specs.Prelude.{ℕ, ℤ, pos, negsuc, Bool, ◌&&◌, nat_le, Lis
 use Rattle.std.specs.Prelude.{Option, Some, None, if◌then◌else◌}
 use Rattle.kb_core.specs.declared.parameter.Param.{Param}
 use Rattle.kb_core.specs.Declaration.{Declaration}
-use Rattle.kb_json.specs.Parts.{◌>>=◌}
+use Rattle.kb_jsonc.specs.Parts.{◌>>=◌}
 
 -- the list has at most `limit` elements
 abbrev pub are_few : {A : Type 0} → ℕ → List A → Bool

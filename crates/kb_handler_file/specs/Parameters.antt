@@ -5,7 +5,7 @@ use Rattle.serde_json.specs.Find.{get_member, as_object, as_str}
 use Rattle.kb_core.specs.declared.arg.Kind.{Kind}
 use Rattle.kb_core.specs.declared.arg.Kind.TheVariants as kind
 use Rattle.kb_core.specs.declared.parameter.Param.{Param}
-use Rattle.kb_json.specs.Parts.{◌>>=◌, each, elements_of, word_of}
+use Rattle.kb_jsonc.specs.Parts.{◌>>=◌, each, elements_of, word_of}
 use Rattle.kb_handler_file.specs.Names.{repeats}
 
 -- the kind with this name

@@ -4,15 +4,15 @@ ghost use Rattle.serde_json.specs.Find.{as_str, get_member};
 ghost use Rattle.serde_json.specs.View.{view, members_view};
 ghost use Rattle.kb_base.specs.Failure.{Gives};
 ghost use Rattle.kb_base.specs.Reading.{or_fault};
-ghost use Rattle.kb_json.specs.declared.fault.FileFault.TheVariants.{WrongShape};
-ghost use Rattle.kb_json.specs.Parts.{optional, texts_of, word_of};
+ghost use Rattle.kb_jsonc.specs.declared.file_fault.FileFault.TheVariants.{WrongShape};
+ghost use Rattle.kb_jsonc.specs.Parts.{optional, texts_of, word_of};
 ghost use Rattle.kb_handler_file.specs.Entry.{required, whole_of, declared_of, written_of, members_of};
 ghost use Rattle.kb_handler_file.specs.Entry.{entry_of};
 
 use crate::parameters::read_params;
 use kb_base::{Failure, Seq, Text};
 use kb_core::Param;
-use kb_json::{
+use kb_jsonc::{
     FileFault, elements_in, members_in, read_texts, required_text, take_member, word_in,
 };
 use serde_json::{Map, Value};

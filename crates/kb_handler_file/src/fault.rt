@@ -1,10 +1,10 @@
 //! Faults of handler files.
-use kb_base::Failure;
+use kb_base::{Failure, FaultKind};
 use kb_code::CodeFault;
-use kb_json::FileFault;
+use kb_jsonc::FileFault;
 use thiserror::Error;
 
-/// Why a JSON value is not a handler file. The numbers are our decision.
+/// Why a JSON value is not a handler file. The cases are our decision.
 #[derive(Clone, Copy, Debug, PartialEq, Eq, Error)]
 pub enum HandlersFault {
     /// A member is missing (40), or a value has the wrong shape (41).
@@ -26,18 +26,18 @@ pub enum HandlersFault {
 
 impl HandlersFault {
     ghost use Rattle.std.specs.Prelude.{◌≡◌};
-    ghost use Rattle.kb_handler_file.specs.Fault.{number_of};
+    ghost use Rattle.kb_handler_file.specs.Fault.{kind_of};
 
-    /// The fault's number in traces and messages: 40 to 44, or 50 to 53.
-    pub fn number(self) -> u32
-        ensures { result ≡ number_of self }
+    /// The fault in the table of all faults, which has its number and its name.
+    pub fn kind(self) -> FaultKind
+        ensures { result ≡ kind_of self }
     {
         match self {
-            HandlersFault::Shape(fault) => fault.number(),
-            HandlersFault::BadHex => 42,
-            HandlersFault::DuplicateHandler => 43,
-            HandlersFault::TooLarge => 44,
-            HandlersFault::Code(fault) => fault.number(),
+            HandlersFault::Shape(fault) => fault.kind(),
+            HandlersFault::BadHex => FaultKind::BadHex,
+            HandlersFault::DuplicateHandler => FaultKind::DuplicateHandler,
+            HandlersFault::TooLarge => FaultKind::TooLarge,
+            HandlersFault::Code(fault) => fault.kind(),
         }
     }
 }

@@ -4,7 +4,7 @@ ghost use Rattle.serde_json.specs.View.{view, items_view, members_view};
 ghost use Rattle.kb_base.specs.declared.failure.Failure.TheVariants.{NoMemory};
 ghost use Rattle.kb_base.specs.Failure.{Gives};
 ghost use Rattle.kb_base.specs.Reading.{seen};
-ghost use Rattle.kb_json.specs.Parts.{listed};
+ghost use Rattle.kb_jsonc.specs.Parts.{listed};
 ghost use Rattle.kb_handler_file.specs.HandlerFile.{head_of, list_in, list_of, handlers_of, version_of};
 ghost use Rattle.kb_handler_file.specs.Head.{parts_of};
 ghost use Rattle.kb_handler_file.specs.HandlerFile.{each_read, code_within, handler_by, handler_in};
@@ -18,7 +18,7 @@ use crate::names::repeats;
 use kb_base::{Failure, Seq, Text};
 use kb_code::{Code, Handler, Version};
 use kb_core::Signature;
-use kb_json::{FileFault, elements_in, members_in, take_member};
+use kb_jsonc::{FileFault, elements_in, members_in, take_member};
 use serde_json::{Map, Value};
 use std::alloc::Global;
 
@@ -75,7 +75,7 @@ struct Head {
 }
 
 /// The version and the list of handlers. Errors: `Shape` and `TooLarge`.
-#[tactic(auto, using(kb_json::proofs::PartsLemmas::as_many))]
+#[tactic(auto, using(kb_jsonc::proofs::PartsLemmas::as_many))]
 fn read_head(value: Value) -> Result<Head, HandlersFault>
     ensures { seen parts_of result ≡ head_of (view value) }
 {

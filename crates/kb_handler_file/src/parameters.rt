@@ -3,14 +3,14 @@ ghost use Rattle.std.specs.Prelude.{◌≡◌, [], option_map};
 ghost use Rattle.serde_json.specs.View.{view, items_view, members_view};
 ghost use Rattle.kb_base.specs.Failure.{Gives};
 ghost use Rattle.kb_base.specs.Reading.{or_fault};
-ghost use Rattle.kb_json.specs.declared.fault.FileFault.TheVariants.{WrongShape};
-ghost use Rattle.kb_json.specs.Parts.{each, listed, optional};
+ghost use Rattle.kb_jsonc.specs.declared.file_fault.FileFault.TheVariants.{WrongShape};
+ghost use Rattle.kb_jsonc.specs.Parts.{each, listed, optional};
 ghost use Rattle.kb_handler_file.specs.Parameters.{kind_named, kind_of, param_in, param_of, params_of};
 
 use crate::names::repeats;
 use kb_base::{Failure, Seq};
 use kb_core::{Kind, Param};
-use kb_json::{FileFault, elements_in, members_in, take_member, text_in, word_in};
+use kb_jsonc::{FileFault, elements_in, members_in, take_member, text_in, word_in};
 use serde_json::{Map, Value};
 use std::alloc::Global;
 

@@ -4,6 +4,7 @@ use Rattle.std.proofs.lemmas.List.{drop_more, drop_all, length-map}
 use Rattle.std.specs.Borrow.{Bor}
 use Rattle.std.specs.Prelude.{Option, Some, None, Result, Ok, Err, option_map, unwrap_or, if◌then◌else◌}
 use Rattle.std.specs.Option.{option_or}
+use Rattle.kb_base.specs.declared.fault.FaultKind.TheVariants.{DuplicateExtension, MissingDependency}
 use Rattle.kb_base.specs.Reading.{seen}
 use Rattle.kb_base.specs.declared.note.EntryPattern.{EntryPattern}
 use Rattle.kb_base.specs.declared.refusal.Refusal.{Refusal}
@@ -122,7 +123,7 @@ place_below fails earlier (e ∷ es) place is =
 -- by which of the two tests fails
 by_tests : (es : List Names) (fault : IdentifierFault) (repeating lacking : Option ℕ)
     → first_failing repeats [] es ≡ repeating → first_failing lacks [] es ≡ lacking
-    → option_or (option_map (fault_at 91) repeating) (option_map (fault_at 90) lacking) ≡ Some fault
+    → option_or (option_map (fault_at DuplicateExtension) repeating) (option_map (fault_at MissingDependency) lacking) ≡ Some fault
     → fault.place < length es
 by_tests es fault (Some place) lacking one two is =
     let same : place ≡ fault.place = ap (λ o. (unwrap_or o fault).place) is in

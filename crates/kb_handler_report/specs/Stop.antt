@@ -9,7 +9,7 @@ abbrev pub status_of : Result Bool Stop → ℕ
 status_of (Ok true) = 0
 status_of (Ok false) = 1
 status_of (Err (CannotRead path)) = 3
-status_of (Err (Refused path number)) = 3
+status_of (Err (Refused path kind)) = 3
 status_of (Err TooMany) = 3
 status_of (Err NoMemory) = 4
 status_of (Err NotWritten) = 4

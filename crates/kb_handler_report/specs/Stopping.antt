@@ -3,6 +3,7 @@
 use Rattle.std.specs.Prelude.{◌≡◌, ◌≤◌, ◌<◌, ◌⊎◌, ⊤, ℕ, List, [], ◌∷◌, Option, Some, None, Err, Ok}
 use Rattle.std.specs.Prelude.{length, map, slice_get}
 use Rattle.std.specs.Borrow.{Bor}
+use Rattle.kb_base.specs.declared.fault.FaultKind.{FaultKind}
 use Rattle.kb_base.specs.declared.failure.Failure.{Failure}
 use Rattle.kb_base.specs.declared.failure.Failure.TheVariants as failure
 use Rattle.kb_base.specs.declared.refusal.Refusal.{Refusal}
@@ -36,23 +37,23 @@ abbrev pub AreRefused : DirFile → List ℕ → Refusal → Type 0
 AreRefused Package bytes refusal = outline_in bytes ≡ Err refusal
 AreRefused Handlers bytes refusal = handlers_in bytes ≡ Err refusal
 
--- the same, by the number of the fault
-abbrev pub AreRefusedFor : DirFile → List ℕ → ℕ → Type 0
-AreRefusedFor file bytes number =
-    (refusal : Refusal) × AreRefused file bytes refusal × (number ≡ refusal.number)
+-- the same, by the kind of the fault
+abbrev pub AreRefusedFor : DirFile → List ℕ → FaultKind → Type 0
+AreRefusedFor file bytes kind =
+    (refusal : Refusal) × AreRefused file bytes refusal × (kind ≡ refusal.kind)
 
 -- a file in a directory, by what is at its path, was read, and is refused
-pub record IsRefused (file : DirFile) (held : Held) (number : ℕ) : Type 0 where
+pub record IsRefused (file : DirFile) (held : Held) (kind : FaultKind) : Type 0 where
   pub bytes : List ℕ
   pub reads : HasRead {B = List ℕ} held (λ got. got) (Ok bytes)
-  pub refused : AreRefusedFor file bytes number
+  pub refused : AreRefusedFor file bytes kind
 
 -- a file in a directory stops the reading, and is named by its path
 abbrev pub StopsAt : DirFile → (List ℕ → Held) → Bor (List ℕ) → Stop → Type 0
 StopsAt file held dir (CannotRead path) =
     (path ≡ path_in dir.now file) × IsUnreadable file (held (path_in dir.now file))
-StopsAt file held dir (Refused path number) =
-    (path ≡ path_in dir.now file) × IsRefused file (held (path_in dir.now file)) number
+StopsAt file held dir (Refused path kind) =
+    (path ≡ path_in dir.now file) × IsRefused file (held (path_in dir.now file)) kind
 StopsAt file held dir TooMany = ⊥
 StopsAt file held dir NoMemory = ⊤
 StopsAt file held dir NotWritten = ⊥
@@ -78,14 +79,14 @@ StopsInDirectories held (dir ∷ dirs) stop = StopsInDirectory held dir stop
 
 -- ---- all directories
 
--- the file at a path is refused for a number, or memory was refused
-abbrev pub IsRefusedAt : List ℕ → ℕ → Stop → Type 0
-IsRefusedAt path number stop = (stop ≡ Refused path number) ⊎ (stop ≡ NoMemory)
+-- the file at a path is refused for a fault, or memory was refused
+abbrev pub IsRefusedAt : List ℕ → FaultKind → Stop → Type 0
+IsRefusedAt path kind stop = (stop ≡ Refused path kind) ⊎ (stop ≡ NoMemory)
 
--- the manifest of an extension, if there is one, is refused for a number
-abbrev pub IsOfExtension : Option ExtensionCode → ℕ → Stop → Type 0
-IsOfExtension None number stop = ⊥
-IsOfExtension (Some e) number stop = IsRefusedAt (path_in e.dir Package) number stop
+-- the manifest of an extension, if there is one, is refused for a fault
+abbrev pub IsOfExtension : Option ExtensionCode → FaultKind → Stop → Type 0
+IsOfExtension None kind stop = ⊥
+IsOfExtension (Some e) kind stop = IsRefusedAt (path_in e.dir Package) kind stop
 
 -- all extensions were read, and the manifest of one is refused for the first fault of their identifiers
 pub record StopsAtNames (held : List ℕ → Held) (dirs : List (Bor (List ℕ))) (stop : Stop) : Type 0 where
@@ -93,7 +94,7 @@ pub record StopsAtNames (held : List ℕ → Held) (dirs : List (Bor (List ℕ))
   pub extensions : HasExtensions held dirs read
   pub fault : IdentifierFault
   pub fault_is : identifier_fault (map names_of read) ≡ Some fault
-  pub refuses : IsOfExtension (slice_get read fault.place) fault.number stop
+  pub refuses : IsOfExtension (slice_get read fault.place) fault.kind stop
 
 -- there are more than 100 directories, or a file in them stops the reading, or a fault of the identifiers
 abbrev pub StopsReading : (List ℕ → Held) → List (Bor (List ℕ)) → Stop → Type 0
@@ -110,13 +111,13 @@ IsOfUnread (failure.Fault file) stop = (stop ≡ CannotRead (path_of file)) ⊎ 
 -- the end for a file at a path whose bytes could not be parsed
 abbrev pub IsOfRefused : List ℕ → Failure Refusal → Stop → Type 0
 IsOfRefused path failure.NoMemory stop = stop ≡ NoMemory
-IsOfRefused path (failure.Fault refusal) stop = IsRefusedAt path refusal.number stop
+IsOfRefused path (failure.Fault refusal) stop = IsRefusedAt path refusal.kind stop
 
 -- the bytes of a file in a directory stop the reading
 abbrev pub StopsAtBytes : DirFile → List ℕ → List ℕ → Stop → Type 0
 StopsAtBytes file dir bytes (CannotRead path) = ⊥
-StopsAtBytes file dir bytes (Refused path number) =
-    (path ≡ path_in dir file) × AreRefusedFor file bytes number
+StopsAtBytes file dir bytes (Refused path kind) =
+    (path ≡ path_in dir file) × AreRefusedFor file bytes kind
 StopsAtBytes file dir bytes TooMany = ⊥
 StopsAtBytes file dir bytes NoMemory = ⊤
 StopsAtBytes file dir bytes NotWritten = ⊥

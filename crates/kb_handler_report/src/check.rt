@@ -5,10 +5,10 @@ ghost use Rattle.std.specs.Io.Buffered.{writer_buffer};
 ghost use Rattle.kb_handler_report.specs.Check.{HasChecked, Stops, unwritten};
 
 use crate::files::read_extensions;
-use crate::form::Form;
 use crate::report::report_extensions;
 use crate::stop::Stop;
 use kb_disk::FileSource;
+use kb_report::Form;
 use std::alloc::Global;
 use std::io::{BufWriter, Write};
 
@@ -16,7 +16,7 @@ use std::io::{BufWriter, Write};
 /// buffer, and returns whether all handlers are accepted.
 ///
 /// Errors: why the extensions were not read (first that there are more than 100 directories); then refused
-/// memory, or a report that was not written.
+/// memory, or a report that was not written. What was written stays.
 pub fn check_extensions<F: FileSource, W: Write + Drop>(
     alloc: Global,
     files: &F,

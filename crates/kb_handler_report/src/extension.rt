@@ -2,7 +2,7 @@
 ghost use Rattle.std.specs.Prelude.{◌≡◌};
 ghost use Rattle.kb_handler_report.specs.Extension.{handlers_of};
 
-use kb_base::{Seq, Text};
+use kb_base::{ExtensionId, Seq, Text};
 use kb_code::Handler;
 use kb_files::Identified;
 
@@ -12,9 +12,9 @@ pub struct ExtensionCode {
     /// The path of its directory, as the command line has it.
     pub dir: Text,
     /// Its identifier, as its manifest spells it.
-    pub id: Text,
+    pub id: ExtensionId,
     /// The identifiers of the extensions that it depends on.
-    pub dependencies: Seq<Text>,
+    pub dependencies: Seq<ExtensionId>,
     /// The handlers in its `handlers.json`, in the order of the file, or `None` if it has no such file.
     pub handlers: Option<Seq<Handler>>,
 }
@@ -28,7 +28,7 @@ impl Identified for ExtensionCode {
         self.id.as_str()
     }
 
-    fn dependencies(&self) -> &[Text] {
+    fn dependencies(&self) -> &[ExtensionId] {
         self.dependencies.as_slice()
     }
 }

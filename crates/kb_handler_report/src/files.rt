@@ -12,11 +12,12 @@ ghost use Rattle.kb_handler_report.specs.Stopping.{IsOfExtension, IsOfRefused, I
 
 use crate::extension::ExtensionCode;
 use crate::stop::Stop;
-use kb_base::{Failure, NoMemory, Refusal, Seq, Text};
+use kb_base::{ExtensionId, Failure, FaultKind, NoMemory, Refusal, Seq, Text};
 use kb_code::Handler;
 use kb_disk::{CannotRead, DirFile, FileSource, path_in};
 use kb_files::{
-    EXTENSION_LIMIT, Extension, IdentifierFault, identifier_fault, read_extension, read_handlers,
+    EXTENSION_LIMIT, Extension, IdentifierFault, SourceFile, identifier_fault, read_extension,
+    read_handlers,
 };
 use kb_keys::Platform;
 use std::alloc::Global;
@@ -83,13 +84,17 @@ fn read_directory<F: FileSource>(files: &F, alloc: Global, dir: &str) -> Result<
 
 /// Reads the identifier and the dependencies of the extension in a directory.
 #[tactic(auto, using(crate::proofs::FilesLemmas::has_names, crate::proofs::StoppingLemmas::files_stop))]
-fn read_names<F: FileSource>(files: &F, alloc: Global, dir: &str) -> Result<(Text, Seq<Text>), Stop>
+fn read_names<F: FileSource>(
+    files: &F,
+    alloc: Global,
+    dir: &str,
+) -> Result<(ExtensionId, Seq<ExtensionId>), Stop>
     ensures read { IfOk result (λ names. HasNames (F.held files.now) dir.entry names.0 names.1) }
     ensures stopped { IfErr result (StopsAt Package (F.held files.now) dir.entry) }
 {
     match kb_disk::manifest_in(files, alloc, dir) {
-        Ok(bytes) => {
-            let names = names_in(alloc, dir, bytes.as_slice())?;
+        Ok(file) => {
+            let names = names_in(alloc, dir, file.bytes.as_slice())?;
             Ok(names)
         }
         Err(failure) => Err(unread(alloc, failure)),
@@ -98,7 +103,7 @@ fn read_names<F: FileSource>(files: &F, alloc: Global, dir: &str) -> Result<(Tex
 
 /// The identifier and the dependencies that a manifest states.
 #[tactic(auto, using(crate::proofs::FilesLemmas::has_names_in))]
-fn names_in(alloc: Global, dir: &str, bytes: &[u8]) -> Result<(Text, Seq<Text>), Stop>
+fn names_in(alloc: Global, dir: &str, bytes: &[u8]) -> Result<(ExtensionId, Seq<ExtensionId>), Stop>
     ensures read { IfOk result (λ names. NamesIn bytes.now names.0 names.1) }
     ensures stopped { IfErr result (StopsAtBytes Package dir.now bytes.now) }
 {
@@ -109,12 +114,15 @@ fn names_in(alloc: Global, dir: &str, bytes: &[u8]) -> Result<(Text, Seq<Text>),
 }
 
 /// The identifier and the dependencies, moved out of an extension.
-fn take_names(alloc: Global, extension: Extension) -> (Text, Seq<Text>)
+fn take_names(alloc: Global, extension: Extension) -> (ExtensionId, Seq<ExtensionId>)
     ensures id { result.0 ≡ extension.manifest.id }
     ensures dependencies { result.1 ≡ extension.manifest.dependencies }
 {
     let mut extension = extension;
-    let id = mem::replace(&mut extension.manifest.id, Text::new(alloc));
+    let id = mem::replace(
+        &mut extension.manifest.id,
+        ExtensionId::new(Text::new(alloc)),
+    );
     let dependencies = mem::replace(&mut extension.manifest.dependencies, Seq::new(alloc));
     drop(extension);
     (id, dependencies)
@@ -131,8 +139,8 @@ fn handlers_in<F: FileSource>(
     ensures stopped { IfErr result (StopsAt Handlers (F.held files.now) dir.entry) }
 {
     match kb_disk::handlers_in(files, alloc, dir) {
-        Ok(bytes) => {
-            let handlers = listed(alloc, dir, &bytes)?;
+        Ok(file) => {
+            let handlers = listed(alloc, dir, &file)?;
             Ok(handlers)
         }
         Err(failure) => Err(unread(alloc, failure)),
@@ -141,14 +149,14 @@ fn handlers_in<F: FileSource>(
 
 /// The handlers that a file lists, or `None` if there is no file.
 #[tactic(auto, using(crate::proofs::StoppingLemmas::handlers_refused))]
-fn listed(alloc: Global, dir: &str, bytes: &Option<Vec<u8>>) -> Result<Option<Seq<Handler>>, Stop>
-    ensures read { IfOk result (HandlersIn (λ bytes. bytes.items) bytes.now) }
-    ensures stopped { IfErr result (StopsAtHandlers (λ bytes. bytes.items) dir.now bytes.now) }
+fn listed(alloc: Global, dir: &str, file: &Option<SourceFile>) -> Result<Option<Seq<Handler>>, Stop>
+    ensures read { IfOk result (HandlersIn (λ file. file.bytes) file.now) }
+    ensures stopped { IfErr result (StopsAtHandlers (λ file. file.bytes) dir.now file.now) }
 {
-    let Some(bytes) = bytes else {
+    let Some(file) = file else {
         return Ok(None);
     };
-    match read_handlers(alloc, bytes.as_slice()) {
+    match read_handlers(alloc, file.bytes.as_slice()) {
         Ok(handlers) => Ok(Some(handlers)),
         Err(failure) => Err(failed_file(alloc, dir, DirFile::Handlers, &failure)),
     }
@@ -170,18 +178,18 @@ fn unread(alloc: Global, failure: Failure<CannotRead<'_>>) -> Stop
 /// The error for the extension with this fault of its identifier or its dependencies.
 fn refused_extension(alloc: Global, extensions: &[ExtensionCode], fault: IdentifierFault) -> Stop
     requires { fault.place < length extensions.now }
-    ensures { IsOfExtension (slice_get extensions.now fault.place) fault.number result }
+    ensures { IsOfExtension (slice_get extensions.now fault.place) fault.kind result }
 {
     let dir = extensions[fault.place].dir.as_str();
-    refused_file(alloc, dir, DirFile::Package, fault.number)
+    refused_file(alloc, dir, DirFile::Package, fault.kind)
 }
 
-/// The error for a file in a directory that is refused, by the number of its fault.
-fn refused_file(alloc: Global, dir: &str, file: DirFile, number: u32) -> Stop
-    ensures { IsRefusedAt (paths.path_in dir.now file) number result }
+/// The error for a file in a directory that is refused, for this fault.
+fn refused_file(alloc: Global, dir: &str, file: DirFile, kind: FaultKind) -> Stop
+    ensures { IsRefusedAt (paths.path_in dir.now file) kind result }
 {
     match path_in(alloc, dir, file) {
-        Ok(path) => Stop::Refused(Text::from_string(path), number),
+        Ok(path) => Stop::Refused(Text::from_string(path), kind),
         Err(_) => Stop::NoMemory,
     }
 }
@@ -192,6 +200,6 @@ fn failed_file(alloc: Global, dir: &str, file: DirFile, failure: &Failure<Refusa
 {
     match failure {
         Failure::NoMemory => Stop::NoMemory,
-        Failure::Fault(refusal) => refused_file(alloc, dir, file, refusal.number),
+        Failure::Fault(refusal) => refused_file(alloc, dir, file, refusal.kind),
     }
 }

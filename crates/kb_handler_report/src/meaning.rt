@@ -1,29 +1,7 @@
-//! The meaning of each fault, in plain words.
+//! Sentences on the defects of handlers.
 use crate::instruction::callee_name;
 use kb_code::{Handler, Instr};
 use kb_verify::Defect;
-
-/// The meaning of a fault of a file, by its number.
-pub(crate) fn meaning_of(number: u32) -> &'static str {
-    match number {
-        1 => "its bytes are no UTF-8 text",
-        2 => "a block comment has no end",
-        3 => "a string has no closing quote",
-        4 => "it is no JSON text",
-        40 => "a member that must be there is absent",
-        41 => "a value is of another kind than it should be",
-        42 => "the code of a handler is no hexadecimal text",
-        43 => "two handlers are of one command",
-        44 => "a limit is passed",
-        50 => "the code of a handler is no whole number of instructions, of three bytes each",
-        51 => "the code of a handler has an opcode that no instruction has",
-        52 => "an instruction of a handler has an operand that it may not have",
-        53 => "the blocks of a handler are not well formed",
-        90 => "an extension that it depends on isn't given before it",
-        91 => "an extension that is given before it has its identifier",
-        _ => "it isn't as it should be",
-    }
-}
 
 /// A sentence on the defect of a handler at a place with this instruction.
 pub(crate) fn defect_sentence(

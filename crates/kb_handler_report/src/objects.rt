@@ -9,9 +9,10 @@ use crate::instruction::Spelled;
 use crate::judgement::Judgement;
 use crate::path::{Listing, Visit, visits_of};
 use crate::sentences::{depth_called, instr_at, reason};
-use kb_base::{NoMemory, fault_name};
+use kb_base::NoMemory;
 use kb_code::Handler;
 use kb_disk::{DirFile, path_in};
+use kb_report::{add_member, add_number, add_text};
 use kb_verify::{Callable, Step, VerifyFault};
 use serde_json::{Map, Value, json};
 use std::alloc::Global;
@@ -55,38 +56,6 @@ fn line_of(alloc: Global, members: Map<String, Value>) -> Result<String, NoMemor
     let mut line = Value::Object(members).to_string(alloc)?;
     line.push('\n')?;
     Ok(line)
-}
-
-/// Adds a member.
-fn add(
-    alloc: Global,
-    name: &str,
-    value: Value,
-    members: &mut Map<String, Value>,
-) -> Result<(), NoMemory> {
-    members.insert(String::from_str(alloc, name)?, value)?;
-    Ok(())
-}
-
-/// Adds a text as a member.
-fn add_text(
-    alloc: Global,
-    name: &str,
-    text: &str,
-    members: &mut Map<String, Value>,
-) -> Result<(), NoMemory> {
-    let value = Value::String(String::from_str(alloc, text)?);
-    add(alloc, name, value, members)
-}
-
-/// Adds a number as a member.
-fn add_number(
-    alloc: Global,
-    name: &str,
-    number: u64,
-    members: &mut Map<String, Value>,
-) -> Result<(), NoMemory> {
-    add(alloc, name, Value::from(number), members)
 }
 
 /// Adds the identifier of an extension, and the path of its file of handlers.
@@ -147,7 +116,7 @@ fn add_judgement(
 
 /// Adds what a handler costs that is accepted.
 fn add_cost(alloc: Global, cost: u64, members: &mut Map<String, Value>) -> Result<(), NoMemory> {
-    add(alloc, "accepted", Value::from(true), members)?;
+    add_member(alloc, "accepted", Value::from(true), members)?;
     add_number(alloc, "cost", cost, members)
 }
 
@@ -180,11 +149,11 @@ fn add_refusal(
     fault: &VerifyFault,
     members: &mut Map<String, Value>,
 ) -> Result<(), NoMemory> {
-    let number = fault.number();
+    let kind = fault.kind();
     let place = fault.place();
-    add(alloc, "accepted", Value::from(false), members)?;
-    add_number(alloc, "number", u64::from(number), members)?;
-    add_text(alloc, "name", fault_name(number), members)?;
+    add_member(alloc, "accepted", Value::from(false), members)?;
+    add_number(alloc, "number", u64::from(kind.number()), members)?;
+    add_text(alloc, "name", kind.name(), members)?;
     add_number(alloc, "place", place as u64, members)?;
     match instr_at(handler, place) {
         Some(instr) => {
@@ -223,7 +192,7 @@ fn add_path(
     let Listing { visits, cost } = visits_of(alloc, callable, handler, path)?;
     add_number(alloc, "cost", cost, members)?;
     let places = places_of(alloc, handler, visits.as_slice())?;
-    add(alloc, "places", Value::Array(places), members)
+    add_member(alloc, "places", Value::Array(places), members)
 }
 
 /// The objects of the places of a path.

@@ -6,13 +6,13 @@ ghost use Rattle.kb_verify.specs.Accepted.{IsAccepted};
 
 use crate::callable::callable_of;
 use crate::extension::{ExtensionCode, handlers_of};
-use crate::form::Form;
 use crate::judgement::{Judgement, judge};
 use crate::objects::{Entry, line_of_handler, line_of_none};
 use crate::sentences::sentences;
 use crate::stop::Stop;
 use kb_base::NoMemory;
 use kb_code::Handler;
+use kb_report::Form;
 use kb_stream::write_whole;
 use kb_verify::Callable;
 use std::alloc::Global;

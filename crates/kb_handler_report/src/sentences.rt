@@ -8,7 +8,7 @@ use crate::instruction::{Spelled, callee_name};
 use crate::judgement::Judgement;
 use crate::meaning::defect_sentence;
 use crate::path::{Listing, Visit, visits_of};
-use kb_base::{NoMemory, fault_name};
+use kb_base::NoMemory;
 use kb_code::{Handler, Instr};
 use kb_verify::{Callable, Step, VerifyFault};
 use std::alloc::Global;
@@ -80,19 +80,14 @@ pub(crate) fn reason(
 /// The line with the fault, the place and the instruction there.
 fn refusal(alloc: Global, handler: &Handler, fault: &VerifyFault) -> Result<String, NoMemory> {
     let command = handler.command().as_str();
-    let number = fault.number();
-    let name = fault_name(number);
+    let kind = fault.kind();
     let place = fault.place();
     match instr_at(handler, place) {
         Some(instr) => {
             let spelled = Spelled::new(handler, instr);
-            format!(in alloc;
-                "{command}: not accepted, for {number} {name} at place {place}, {spelled}.\n"
-            )
+            format!(in alloc; "{command}: not accepted, for {kind} at place {place}, {spelled}.\n")
         }
-        None => format!(in alloc;
-            "{command}: not accepted, for {number} {name} at place {place}.\n"
-        ),
+        None => format!(in alloc; "{command}: not accepted, for {kind} at place {place}.\n"),
     }
 }
 

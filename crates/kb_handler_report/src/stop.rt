@@ -2,8 +2,7 @@
 ghost use Rattle.std.specs.Prelude.{◌≡◌};
 ghost use Rattle.kb_handler_report.specs.Stop as stops;
 
-use crate::meaning::meaning_of;
-use kb_base::{NoMemory, Text, fault_name};
+use kb_base::{FaultKind, NoMemory, Text};
 use std::fmt;
 
 /// Why a check stopped before each handler was verified.
@@ -11,8 +10,8 @@ use std::fmt;
 pub enum Stop {
     /// The file at this path could not be read.
     CannotRead(Text),
-    /// The file at this path is refused, for the fault with this number.
-    Refused(Text, u32),
+    /// The file at this path is refused, for this fault.
+    Refused(Text, FaultKind),
     /// There are more than 100 extensions.
     TooMany,
     /// Memory was refused.
@@ -39,11 +38,10 @@ impl fmt::Display for Stop {
                 let path = path.as_str();
                 write!(f, "cannot read {path}")
             }
-            Stop::Refused(path, number) => {
+            Stop::Refused(path, fault) => {
                 let path = path.as_str();
-                let name = fault_name(*number);
-                let meaning = meaning_of(*number);
-                write!(f, "{path} is refused, for {number} {name}: {meaning}.")
+                let meaning = fault.meaning();
+                write!(f, "{path} is refused, for {fault}: {meaning}.")
             }
             Stop::TooMany => f.write_str(
                 "the extensions are refused, for 44 TooLarge: there are more than 100.",

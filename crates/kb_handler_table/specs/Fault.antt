@@ -1,7 +1,8 @@
--- The number of each fault of code that can't be added.
-use Rattle.std.specs.Prelude.{ℕ}
+-- The kind of each fault of code that can't be added.
+use Rattle.kb_base.specs.declared.fault.FaultKind.{FaultKind}
+use Rattle.kb_base.specs.declared.fault.FaultKind.TheVariants as kind
 use Rattle.kb_handler_table.specs.declared.fault.CodesFault.{CodesFault}
 use Rattle.kb_handler_table.specs.declared.fault.CodesFault.TheVariants.{AlreadyExists}
 
-abbrev pub number_of : CodesFault → ℕ
-number_of AlreadyExists = 70
+abbrev pub kind_of : CodesFault → FaultKind
+kind_of AlreadyExists = kind.AlreadyExists

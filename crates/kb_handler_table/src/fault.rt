@@ -1,23 +1,26 @@
 //! The fault of code that can't be added to the live handlers.
 ghost use Rattle.std.specs.Prelude.{◌≡◌};
-ghost use Rattle.kb_handler_table.specs.Fault.{number_of};
+ghost use Rattle.kb_handler_table.specs.Fault.{kind_of};
 
+use kb_base::FaultKind;
 use thiserror::Error;
 
-/// The reason why an extension's handlers can't be added. The numbers are our decision.
+/// The reason why an extension's handlers can't be added. The cases are our decision.
 #[derive(Clone, Copy, Debug, PartialEq, Eq, Error)]
 pub enum CodesFault {
     /// A handler has the name of a native command, of `runCommands`, of a live handler, or of another
     /// handler of the same extension.
     #[error("a command of this name is there already")]
-    AlreadyExists = 70,
+    AlreadyExists,
 }
 
 impl CodesFault {
-    /// The number of the fault in traces and messages.
-    pub fn number(self) -> u32
-        ensures { result ≡ number_of self }
+    /// The fault in the table of all faults, which has its number and its name.
+    pub fn kind(self) -> FaultKind
+        ensures { result ≡ kind_of self }
     {
-        self as u32
+        match self {
+            CodesFault::AlreadyExists => FaultKind::AlreadyExists,
+        }
     }
 }

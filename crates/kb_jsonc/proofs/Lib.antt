@@ -1,3 +1,4 @@
+pub mod PartsLemmas
 pub mod PassLemmas
 pub mod PieceLawsLemmas
 pub mod PiecesLemmas

@@ -1,3 +1,6 @@
+pub mod FileFault
+pub mod Parts
+pub mod Member
 pub mod Bytes
 pub mod Fault
 pub mod Pieces

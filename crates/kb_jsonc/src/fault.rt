@@ -1,11 +1,11 @@
 //! Faults of a text of JSON with comments.
-use kb_base::Failure;
+use kb_base::{Failure, FaultKind};
 use thiserror::Error;
 
 /// Why a file of JSON with comments cannot be read.
 ///
 /// The variants are listed in the order in which they are checked; a file with several faults gets the
-/// first of them. The order and the numbers are our decision.
+/// first of them. The order and the cases are our decision.
 #[derive(Clone, Copy, Debug, PartialEq, Eq, Error)]
 pub enum JsoncFault {
     /// The bytes are not UTF-8.
@@ -24,17 +24,17 @@ pub enum JsoncFault {
 
 impl JsoncFault {
     ghost use Rattle.std.specs.Prelude.{◌≡◌};
-    ghost use Rattle.kb_jsonc.specs.Fault.{number_of};
+    ghost use Rattle.kb_jsonc.specs.Fault.{kind_of};
 
-    /// The fault's number in traces and messages: 1 to 4, in the order of the variants.
-    pub fn number(self) -> u32
-        ensures { result ≡ number_of self }
+    /// The fault in the table of all faults, which has its number and its name.
+    pub fn kind(self) -> FaultKind
+        ensures { result ≡ kind_of self }
     {
         match self {
-            JsoncFault::NotUtf8 => 1,
-            JsoncFault::OpenComment => 2,
-            JsoncFault::OpenString => 3,
-            JsoncFault::Syntax => 4,
+            JsoncFault::NotUtf8 => FaultKind::NotUtf8,
+            JsoncFault::OpenComment => FaultKind::OpenComment,
+            JsoncFault::OpenString => FaultKind::OpenString,
+            JsoncFault::Syntax => FaultKind::Syntax,
         }
     }
 }

@@ -11,7 +11,7 @@ use Rattle.clap.specs.declared.parser.matches.ArgMatches.{ArgMatches}
 use Rattle.clap.specs.declared.parser.matches.ArgMatches.TheViews.{out-ArgMatches, out-SubCommand}
 use Rattle.clap.specs.declared.parser.matches.SubCommand.{SubCommand}
 use Rattle.kb_disk.specs.Files.{Held, unknown}
-use Rattle.kb_exit.specs.declared.outcome.Stop.TheVariants as run
+use Rattle.kb_run.specs.declared.outcome.Stop.TheVariants as run
 use Rattle.kb_handler_report.specs.Check as handlers
 use Rattle.kb_handler_report.specs.Stop as handlers_stop
 use Rattle.kb_handler_report.specs.declared.stop.Stop as handlers_end

@@ -4,27 +4,26 @@ use Rattle.std.specs.Borrow.{Bor}
 use Rattle.std.specs.Prelude.{Option, Some, None, Result, Ok, Err, IfErr, IfOk}
 use Rattle.kb_base.specs.declared.failure.Failure.{Failure}
 use Rattle.kb_base.specs.declared.failure.Failure.TheVariants as failure
-use Rattle.kb_bindings.specs.Load.{Files}
-use Rattle.kb_check_report.specs.Problems as problems
-use Rattle.kb_check_report.specs.declared.checking.Stop as checking
-use Rattle.kb_check_report.specs.declared.checking.Stop.TheVariants as checking_stop
-use Rattle.kb_check_report.specs.declared.choices.Choices.{Choices}
+use Rattle.kb_files.specs.Inputs.{Files}
+use Rattle.kb_check_report.specs.Checking as checking
+use Rattle.kb_problems.specs.declared.choices.Choices.{Choices}
 use Rattle.kb_core.specs.Native.{natives}
 use Rattle.kb_disk.specs.Files.{Held, NamesFile}
 use Rattle.kb_disk.specs.declared.cannot_read.CannotRead.{CannotRead}
-use Rattle.kb_exit.specs.Report.{load_stop, read_stop, script_stop}
-use Rattle.kb_exit.specs.declared.outcome.Stop as outcome
-use Rattle.kb_exit.specs.declared.outcome.Stop.TheVariants as run
-use Rattle.kb_explain_report.specs.declared.output.Stop as saying
-use Rattle.kb_explain_report.specs.declared.output.Stop.TheVariants as saying_stop
+use Rattle.kb_run.specs.ExitStatus.{load_stop, read_stop, script_stop}
+use Rattle.kb_run.specs.declared.outcome.Stop as outcome
+use Rattle.kb_run.specs.declared.outcome.Stop.TheVariants as run
 use Rattle.kb_files.specs.declared.fault.LoadFault.{LoadFault}
-use Rattle.kb_options.specs.declared.given.Options.{Options}
-use Rattle.kb_run.specs.Run.{FailsAtScript, FailsOpeningScript, FailsReadingFiles, HasFiles}
+use Rattle.kb_disk.specs.declared.options.Options.{Options}
+use Rattle.kb_disk.specs.LoadFiles.{FailsReadingFiles, HasFiles}
+use Rattle.kb_report.specs.declared.output.Stop as report
+use Rattle.kb_report.specs.declared.output.Stop.TheVariants as report_stops
+use Rattle.kb_run.specs.Run.{FailsAtScript, FailsOpeningScript}
 use Rattle.kb_script.specs.declared.fault.ScriptFault.{ScriptFault}
 use Rattle.kb_script.specs.declared.fault.ScriptFault.TheVariants as script
 use Rattle.kb_session.specs.Session.{Loads, Seen}
 use Rattle.kb_keycheck.specs.Ends.{AreAccepted, AreChecked, AreLoaded, IsBehindLoad, StopsAnswering, StopsChecking}
-use Rattle.kb_keycheck.specs.Ends.{StopsOver, checked_stop, said_stop}
+use Rattle.kb_keycheck.specs.Ends.{StopsOver, report_stop}
 use Rattle.kb_keycheck.specs.declared.ending.Stop.{Stop}
 use Rattle.kb_keycheck.specs.declared.ending.Stop.TheVariants.{Keys, Run, NotWritten}
 use Rattle.kb_keycheck.specs.declared.request.Question.{Question}
@@ -44,9 +43,9 @@ script_behind ran end is =
       stops (Err (failure.Fault script.WriteFailed)) = tt
       stops (Err (failure.Fault script.Trapped)) = tt
 
-pub said_behind : (stop : saying.Stop) (made : Stop) → made ≡ said_stop stop → IsBehindLoad made
-said_behind saying_stop.NoMemory made is = subst IsBehindLoad (sym is) tt
-said_behind saying_stop.NotWritten made is = subst IsBehindLoad (sym is) tt
+pub said_behind : (stop : report.Stop) (made : Stop) → made ≡ report_stop stop → IsBehindLoad made
+said_behind report_stops.NoMemory made is = subst IsBehindLoad (sym is) tt
+said_behind report_stops.NotWritten made is = subst IsBehindLoad (sym is) tt
 
 -- ---- over files
 
@@ -128,14 +127,14 @@ reading_checks held given failure.NoMemory made fails is = subst (StopsChecking 
 reading_checks held given (failure.Fault file) made fails is =
     subst (StopsChecking held given) (sym is) fails
 
-pub check_stops : (held : List ℕ → Held) (given : Options) (files : Files) (stop : checking.Stop) (made : Stop)
-    → HasFiles held given files → made ≡ checked_stop stop → StopsChecking held given made
-check_stops held given files checking_stop.NoMemory made had is = subst (StopsChecking held given) (sym is) tt
-check_stops held given files checking_stop.NotWritten made had is =
+pub check_stops : (held : List ℕ → Held) (given : Options) (files : Files) (stop : report.Stop) (made : Stop)
+    → HasFiles held given files → made ≡ report_stop stop → StopsChecking held given made
+check_stops held given files report_stops.NoMemory made had is = subst (StopsChecking held given) (sym is) tt
+check_stops held given files report_stops.NotWritten made had is =
     subst (StopsChecking held given) (sym is) (record { files = files; had = had })
 
 pub all_checked : (held : List ℕ → Held) (given : Options) (files seen : Files) (choices : Choices) (clean : Bool)
-    → HasFiles held given files → seen ≡ files → problems.Checks seen choices clean
+    → HasFiles held given files → seen ≡ files → checking.Checks seen choices clean
     → AreChecked held given (map (λ (name : Bor (List ℕ)). name.now) choices.allowed.now)
     (map (λ (name : Bor (List ℕ)). name.now) choices.asked.now) clean
 all_checked held given files seen choices clean had are checks = record {
@@ -144,7 +143,7 @@ all_checked held given files seen choices clean had are checks = record {
   choices = choices;
   allowed_are = refl;
   asked_are = refl;
-  checks = subst (λ (fs : Files). problems.Checks fs choices clean) are checks;
+  checks = subst (λ (fs : Files). checking.Checks fs choices clean) are checks;
 }
 
 pub ruleset checks = (reading_checks, check_stops, all_checked)

@@ -1,5 +1,5 @@
 -- The exit statuses of runs.
-use Rattle.std.proofs.Common.{◌≡◌, ◌∙◌, ℕ, List, ap, inl, inr}
+use Rattle.std.proofs.Common.{◌≡◌, ◌∙◌, ℕ, List, ap, inl, inr, subst}
 use Rattle.std.specs.Prelude.{Ok, Err}
 use Rattle.clap.specs.Words.{Text, subcommand_rows_of}
 use Rattle.clap.specs.declared.error.Error.{Error}
@@ -8,7 +8,7 @@ use Rattle.kb_cli.specs.CommandLine.{fault_by, line_status_of}
 use Rattle.kb_cli.specs.declared.given.OptionsFault.{OptionsFault}
 use Rattle.kb_cli.specs.declared.given.OptionsFault.TheVariants.{Line, NoMemory}
 use Rattle.kb_keycheck.specs.CommandLine.{IsMatched}
-use Rattle.kb_keycheck.specs.Ends.{HasNoWords, IsLineFault, Obeys, ObeysLine, RunsLine, RunsOnSystem, fault_status}
+use Rattle.kb_keycheck.specs.Ends.{EndsWithFault, HasNoWords, IsLineFault, Obeys, ObeysLine, RunsLine, RunsOnSystem}
 
 pub obeys_line : (words : List Text) (m : ArgMatches) (status : ℕ) → IsMatched words (Ok m)
     → Obeys (subcommand_rows_of m) status → ObeysLine words status
@@ -24,21 +24,21 @@ pub obeyed_status : (words : List Text) (status : ℕ) → ObeysLine words statu
 obeyed_status words status obeys = inr (inr obeys)
 
 pub refused_status : (words : List Text) (fault : OptionsFault) (status : ℕ) → IsLineFault words fault
-    → status ≡ fault_status fault → RunsLine words status
-refused_status words fault status (inl is) status_is = inl (status_is ∙ ap fault_status is)
-refused_status words fault status (inr (e, has, is)) status_is = inr (inl (record {
+    → EndsWithFault fault status → RunsLine words status
+refused_status words fault status (inl is) ends = inl (subst (λ f. EndsWithFault f status) is ends)
+refused_status words fault status (inr (e, has, is)) ends = inr (inl (record {
   error = e;
   by_clap = has;
-  status_is = status_is ∙ ap fault_status is;
+  ends = subst (λ f. EndsWithFault f status) is ends;
 }))
 
 pub ruleset line_status = (obeyed_status, refused_status)
 
 -- the words could not be read
-pub no_words_status : (fault : OptionsFault) (status : ℕ) → HasNoWords fault → status ≡ fault_status fault
+pub no_words_status : (fault : OptionsFault) (status : ℕ) → HasNoWords fault → EndsWithFault fault status
     → RunsOnSystem status
-no_words_status (Line e) status is status_is = inl (inl (status_is ∙ ap line_status_of is))
-no_words_status NoMemory status is status_is = inl (inr status_is)
+no_words_status (Line e) status is (w, status_is) = inl (inl (status_is ∙ ap (λ k. line_status_of k w) is))
+no_words_status NoMemory status is ends = inl (inr ends)
 
 pub words_status : (words : List Text) (status : ℕ) → RunsLine words status → RunsOnSystem status
 words_status words status runs = inr (words, runs)

@@ -14,8 +14,8 @@ use Rattle.clap.specs.declared.error.kind.ErrorKind.TheVariants.{OutOfMemory}
 use Rattle.clap.specs.declared.parser.matches.ArgMatches.{ArgMatches}
 use Rattle.clap.specs.Simple.{app_of}
 use Rattle.kb_cli.specs.CommandLine.{Gives, NamesPlatforms, dirs_rule, platform_rule, valued_rule}
-use Rattle.kb_explain_report.specs.declared.output.Form.{Form}
-use Rattle.kb_explain_report.specs.declared.output.Form.TheVariants as form
+use Rattle.kb_report.specs.declared.output.Form.{Form}
+use Rattle.kb_report.specs.declared.output.Form.TheVariants as form
 use Rattle.kb_keycheck.specs.declared.request.Given.{Given}
 use Rattle.kb_keycheck.specs.declared.request.Question.{Question}
 use Rattle.kb_keycheck.specs.declared.request.Question.TheVariants as question
@@ -88,10 +88,10 @@ palette_app platforms = with_script (with_rule (with_rule (new_app (codes "palet
 abbrev pub handlers_app : App
 handlers_app = with_rule (with_rule (new_app (codes "handlers")) json_rule) some_dirs_rule
 
--- `keycheck COMMAND`
+-- `keycheck COMMAND`, which has `--help` and `--version`
 abbrev pub bare_app : App
 bare_app = record (new_app (codes "keycheck")) {
-  top = record (new_app (codes "keycheck")).top { subcommand_required = true };
+  top = record (new_app (codes "keycheck")).top { has_version = true; subcommand_required = true };
 }
 
 abbrev pub keycheck_app : Bor (List (Bor Text)) → Bor (List (Bor Text)) → App

@@ -7,29 +7,28 @@ use Rattle.clap.specs.declared.error.Error.{Error}
 use Rattle.clap.specs.declared.error.kind.ErrorKind.TheVariants.{InvalidValue}
 use Rattle.clap.specs.declared.parser.matches.ArgMatches.{ArgMatches}
 use Rattle.kb_base.specs.declared.failure.Failure.TheVariants.{Fault}
-use Rattle.kb_bindings.specs.Load.{Files}
-use Rattle.kb_check_report.specs.Problems as problems
-use Rattle.kb_check_report.specs.declared.checking.Stop as checking
-use Rattle.kb_check_report.specs.declared.checking.Stop.TheVariants as checking_stop
-use Rattle.kb_check_report.specs.declared.choices.Choices.{Choices}
-use Rattle.kb_cli.specs.CommandLine.{fault_by, line_status_of}
+use Rattle.kb_files.specs.Inputs.{Files}
+use Rattle.kb_check_report.specs.Checking as checking
+use Rattle.kb_problems.specs.declared.choices.Choices.{Choices}
+use Rattle.kb_cli.specs.CommandLine.{RefusesWith, fault_by}
 use Rattle.kb_cli.specs.declared.given.OptionsFault.{OptionsFault}
 use Rattle.kb_cli.specs.declared.given.OptionsFault.TheVariants as options
 use Rattle.kb_cli.specs.declared.given.WordsFault.{WordsFault}
 use Rattle.kb_cli.specs.declared.given.WordsFault.TheVariants as words_fault
 use Rattle.kb_core.specs.Native.{natives}
 use Rattle.kb_disk.specs.Files.{Held, unknown}
-use Rattle.kb_exit.specs.declared.outcome.Stop.TheVariants as run
-use Rattle.kb_explain_report.specs.declared.output.Stop as saying
-use Rattle.kb_explain_report.specs.declared.output.Stop.TheVariants as saying_stop
+use Rattle.kb_run.specs.declared.outcome.Stop.TheVariants as run
 use Rattle.kb_files.specs.declared.fault.LoadFault.{LoadFault}
 use Rattle.kb_handler_report.specs.Check as handlers
 use Rattle.kb_handler_report.specs.Stop as handlers_stop
 use Rattle.kb_handler_report.specs.declared.stop.Stop as handlers_end
 use Rattle.kb_handler_report.specs.declared.stop.Stop.TheVariants as handlers_variants
 use Rattle.kb_keys.specs.Chord.{Strokes, chord_of}
-use Rattle.kb_options.specs.declared.given.Options.{Options}
-use Rattle.kb_run.specs.Run.{FailsOpeningScript, FailsReadingFiles, HasFiles, HasLoadFault}
+use Rattle.kb_disk.specs.declared.options.Options.{Options}
+use Rattle.kb_disk.specs.LoadFiles.{FailsReadingFiles, HasFiles}
+use Rattle.kb_report.specs.declared.output.Stop as report
+use Rattle.kb_report.specs.declared.output.Stop.TheVariants as report_stops
+use Rattle.kb_run.specs.Run.{FailsOpeningScript, HasLoadFault}
 use Rattle.kb_run.specs.declared.setup.Verification.TheVariants.{Verified}
 use Rattle.kb_session.specs.Session.{IsOf, Seen}
 use Rattle.kb_keycheck.specs.CommandLine.{IsAsked, IsGiven, IsMatched, subcommand_named}
@@ -63,13 +62,9 @@ abbrev pub answer_status : Result (Unit {0}) Stop → ℕ
 answer_status (Ok done) = 0
 answer_status (Err stop) = stop_status stop
 
-abbrev pub said_stop : saying.Stop → Stop
-said_stop saying_stop.NoMemory = Run run.NoMemory
-said_stop saying_stop.NotWritten = NotWritten
-
-abbrev pub checked_stop : checking.Stop → Stop
-checked_stop checking_stop.NoMemory = Run run.NoMemory
-checked_stop checking_stop.NotWritten = NotWritten
+abbrev pub report_stop : report.Stop → Stop
+report_stop report_stops.NoMemory = Run run.NoMemory
+report_stop report_stops.NotWritten = NotWritten
 
 -- ---- a check
 
@@ -96,7 +91,7 @@ pub record AreChecked (held : List ℕ → Held) (given : Options) (allowed aske
   pub choices : Choices
   pub allowed_are : map (λ name. name.now) choices.allowed.now ≡ allowed
   pub asked_are : map (λ name. name.now) choices.asked.now ≡ asked
-  pub checks : problems.Checks files choices clean
+  pub checks : checking.Checks files choices clean
 
 abbrev pub EndsChecking : (List ℕ → Held) → Options → List Text → List Text → Result Bool Stop → Type 0
 EndsChecking held given allowed asked (Ok clean) = AreChecked held given allowed asked clean
@@ -221,16 +216,16 @@ Obeys (Some named) status = Does (subcommand_named named.0) named.1 status
 
 -- ---- a run
 
--- the exit status of a command line that is refused or asks for help, or of refused memory
-abbrev pub fault_status : OptionsFault → ℕ
-fault_status (options.Line e) = line_status_of (kind_of e)
-fault_status options.NoMemory = 4
+-- the exit status of a command line that is refused, or asks for help or the version, or of refused memory
+abbrev pub EndsWithFault : OptionsFault → ℕ → Type 0
+EndsWithFault (options.Line e) status = RefusesWith (kind_of e) status
+EndsWithFault options.NoMemory status = status ≡ 4
 
--- clap refuses the words, or they ask for help
+-- clap refuses the words, or they ask for help or the version
 pub record RefusesLine (words : List Text) (status : ℕ) : Type 0 where
   pub error : Error
   pub by_clap : IsMatched words (Err error)
-  pub status_is : status ≡ fault_status (fault_by error)
+  pub ends : EndsWithFault (fault_by error) status
 
 -- clap gives the words a meaning, and the program does what it says
 pub record ObeysLine (words : List Text) (status : ℕ) : Type 0 where

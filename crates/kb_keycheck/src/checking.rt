@@ -3,21 +3,13 @@ ghost use Rattle.std.specs.Prelude.{IfErr, IfOk, map};
 ghost use Rattle.kb_keycheck.specs.Ends.{AreChecked, StopsChecking};
 
 use crate::ending::Stop;
-use crate::files::read_files;
+use crate::files::{extension_sources, sources};
 use crate::request::Given;
-use kb_check_report::{Choices, check};
-use kb_disk::FileSource;
-use kb_explain_report::Form;
+use kb_check_report::check;
+use kb_disk::{FileSource, read_files};
+use kb_problems::Choices;
 use std::alloc::Global;
 use std::io::{BufWriter, Write};
-
-/// How problems are written.
-fn form_of(form: Form) -> kb_check_report::Form {
-    match form {
-        Form::Text => kb_check_report::Form::Text,
-        Form::Json => kb_check_report::Form::Json,
-    }
-}
 
 /// Checks the files that a command line names, writes their problems, and returns whether there is none.
 /// Lints with these names aren't looked for, and those are looked for besides.
@@ -37,12 +29,8 @@ pub(crate) fn check_files<'m, F: FileSource, W: Write + Drop>(
     ensures stopped { IfErr result (StopsChecking (F.held files.now) given.now.options) }
 {
     let read = read_files(alloc, &given.options, files)?;
-    let extensions = read.extension_sources(alloc)?;
-    let sources = read.sources(extensions.as_slice());
-    let choices = Choices {
-        allowed,
-        asked,
-        form: form_of(given.form),
-    };
-    Ok(check(alloc, &sources, &choices, out)?)
+    let extensions = extension_sources(alloc, &read)?;
+    let sources = sources(&read, extensions.as_slice());
+    let choices = Choices { allowed, asked };
+    Ok(check(alloc, &sources, &choices, given.form, out)?)
 }

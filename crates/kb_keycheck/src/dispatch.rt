@@ -13,7 +13,6 @@ use crate::request::{Subcommand, Topic, form_asked, given_in, question_in, subco
 use clap::ArgMatches;
 use kb_cli::all_texts;
 use kb_disk::{FileSource, SystemFiles};
-use kb_explain_report::Form;
 use kb_handler_report::{check_extensions, status_of};
 use std::alloc::Global;
 use std::fmt::Display;
@@ -72,16 +71,8 @@ fn check_handlers<F: FileSource, W: Write + Drop>(
     ensures { HandlersBy (F.held files.now) (rows_of (found_of matches.now)) result }
 {
     let dirs = all_texts(alloc, matches, "dir")?;
-    let form = report_form(form_asked(matches));
+    let form = form_asked(matches);
     check_extensions(alloc, files, dirs.as_slice(), form, out)
-}
-
-/// The form of a report on handlers, by that of other lines.
-fn report_form(form: Form) -> kb_handler_report::Form {
-    match form {
-        Form::Text => kb_handler_report::Form::Text,
-        Form::Json => kb_handler_report::Form::Json,
-    }
 }
 
 /// Does `check`, says why it stopped, if it did, and returns the exit status.
@@ -174,7 +165,7 @@ fn say_mistakes<R: Eprint>(rt: &R, mistakes: &Mistakes) {
 /// Why a run that stopped could not read a file, if that is why.
 fn reason_of<R: Files>(rt: &R, alloc: Global, stop: &Stop<'_>) -> &'static str {
     match stop {
-        Stop::Run(kb_exit::Stop::Unread(file)) => unread_reason(rt, alloc, *file),
+        Stop::Run(kb_run::Stop::Unread(file)) => unread_reason(rt, alloc, *file),
         _ => "",
     }
 }

@@ -15,68 +15,55 @@ pub enum Stop<'a> {
     Keys(KeyFault),
     /// It stopped as a run of `keyrun` does: a file can't be read, the load was refused, the script did
     /// not run to its end, or memory was refused.
-    Run(kb_exit::Stop<'a>),
+    Run(kb_run::Stop<'a>),
     /// A write failed.
     NotWritten,
 }
 
 impl From<NoMemory> for Stop<'_> {
-    ghost use Rattle.kb_exit.specs.declared.outcome.Stop.TheVariants as run;
+    ghost use Rattle.kb_run.specs.declared.outcome.Stop.TheVariants as run;
     ghost use Rattle.kb_keycheck.specs.declared.ending.Stop.TheVariants as stop;
 
     ghost from_gives = { λ _ made. made ≡ stop.Run run.NoMemory };
 
     fn from(_refused: NoMemory) -> Self {
-        Stop::Run(kb_exit::Stop::NoMemory)
+        Stop::Run(kb_run::Stop::NoMemory)
     }
 }
 
 /// Stops for a file that could not be read, or for refused memory.
 impl<'a> From<Failure<CannotRead<'a>>> for Stop<'a> {
-    ghost use Rattle.kb_exit.specs.Report.{read_stop};
+    ghost use Rattle.kb_run.specs.ExitStatus.{read_stop};
     ghost use Rattle.kb_keycheck.specs.declared.ending.Stop.TheVariants as stop;
 
     ghost from_gives = { λ failure made. made ≡ stop.Run (read_stop failure) };
 
     fn from(failure: Failure<CannotRead<'a>>) -> Self {
-        Stop::Run(kb_exit::Stop::from(failure))
+        Stop::Run(kb_run::Stop::from(failure))
     }
 }
 
 /// Stops for a fault of a load, or for refused memory.
 impl From<Failure<LoadFault>> for Stop<'_> {
-    ghost use Rattle.kb_exit.specs.Report.{load_stop};
+    ghost use Rattle.kb_run.specs.ExitStatus.{load_stop};
     ghost use Rattle.kb_keycheck.specs.declared.ending.Stop.TheVariants as stop;
 
     ghost from_gives = { λ failure made. made ≡ stop.Run (load_stop failure) };
 
     fn from(failure: Failure<LoadFault>) -> Self {
-        Stop::Run(kb_exit::Stop::from(failure))
+        Stop::Run(kb_run::Stop::from(failure))
     }
 }
 
-impl From<kb_explain_report::Stop> for Stop<'_> {
-    ghost use Rattle.kb_keycheck.specs.Ends.{said_stop};
+impl From<kb_report::Stop> for Stop<'_> {
+    ghost use Rattle.kb_keycheck.specs.Ends.{report_stop};
 
-    ghost from_gives = { λ stop made. made ≡ said_stop stop };
+    ghost from_gives = { λ stop made. made ≡ report_stop stop };
 
-    fn from(stop: kb_explain_report::Stop) -> Self {
+    fn from(stop: kb_report::Stop) -> Self {
         match stop {
-            kb_explain_report::Stop::NoMemory => Stop::Run(kb_exit::Stop::NoMemory),
-            kb_explain_report::Stop::NotWritten => Stop::NotWritten,
-        }
-    }
-}
-
-impl From<kb_check_report::Stop> for Stop<'_> {
-    ghost use Rattle.kb_keycheck.specs.Ends.{checked_stop};
-
-    ghost from_gives = { λ stop made. made ≡ checked_stop stop };
-
-    fn from(stop: kb_check_report::Stop) -> Self {
-        match stop {
-            kb_check_report::Stop::NoMemory => Stop::Run(kb_exit::Stop::NoMemory),
-            kb_check_report::Stop::NotWritten => Stop::NotWritten,
+            kb_report::Stop::NoMemory => Stop::Run(kb_run::Stop::NoMemory),
+            kb_report::Stop::NotWritten => Stop::NotWritten,
         }
     }
 }
@@ -107,9 +94,9 @@ impl fmt::Display for Stop<'_> {
 }
 
 /// What stands behind the line of a run that stopped.
-fn advice(stop: &kb_exit::Stop<'_>) -> &'static str {
+fn advice(stop: &kb_run::Stop<'_>) -> &'static str {
     match stop {
-        kb_exit::Stop::Load(_) => " (keycheck check says where)",
+        kb_run::Stop::Load(_) => " (keycheck check says where)",
         _ => "",
     }
 }
@@ -121,10 +108,9 @@ fn stop_status(stop: &Stop<'_>) -> u8
 {
     match stop {
         Stop::Keys(_) => 2,
-        Stop::Run(kb_exit::Stop::Unread(_)) | Stop::Run(kb_exit::Stop::Load(_)) => 3,
-        Stop::Run(kb_exit::Stop::Script(_))
-        | Stop::Run(kb_exit::Stop::NoMemory)
-        | Stop::NotWritten => 4,
+        Stop::Run(kb_run::Stop::Unread(_)) | Stop::Run(kb_run::Stop::Load(_)) => 3,
+        Stop::Run(kb_run::Stop::Script(_)) | Stop::Run(kb_run::Stop::NoMemory) | Stop::NotWritten =>
+            4,
     }
 }
 

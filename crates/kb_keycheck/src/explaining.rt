@@ -1,8 +1,8 @@
 //! `explain`, `list`, `context` and `palette`: what a loaded session says.
 ghost use Rattle.std.specs.Prelude.{◌≡◌, ◌++◌, ◌∷◌, [], IfErr, IfOk, OnOk, map, option_map};
 ghost use Rattle.std.specs.Io.Buffered.{writer_buffer};
-ghost use Rattle.kb_bindings.specs.Load.{files_of};
-ghost use Rattle.kb_check_report.specs.Problems.{files_in};
+ghost use Rattle.kb_files.specs.Inputs.{files_of};
+ghost use Rattle.kb_check.specs.Problems.{files_in};
 ghost use Rattle.kb_core.specs.Native.{natives};
 ghost use Rattle.kb_files.specs.Extensions.{extension_bytes};
 ghost use Rattle.kb_session.specs.Session.{Loads};
@@ -11,23 +11,23 @@ ghost use Rattle.kb_source_files.specs.SourceFiles.{bytes_of_extension};
 ghost use Rattle.kb_stream.specs.Fold.{after_all};
 ghost use Rattle.kb_keycheck.specs.Ends.{AreAccepted, AreLoaded, IsBehindLoad, StopsAnswering, StopsOver};
 ghost use Rattle.kb_keycheck.specs.Ends.{keys_asked, strokes_in};
-ghost use Rattle.kb_keycheck.specs.Files.{files_held};
+ghost use Rattle.kb_files.specs.SourceFiles as owned;
 
 use crate::ending::Stop;
-use crate::files::{FileBytes, read_files};
+use crate::files::{extension_sources, sources};
 use crate::mistakes::Mistakes;
 use crate::request::{Given, Question};
 use kb_base::{Failure, NoMemory};
-use kb_disk::{FileSource, file_named};
-use kb_embed::{Cost, PlainCommand, commands};
-use kb_exit::script_stop;
+use kb_disk::{FileSource, Options, file_named, read_files};
+use kb_engine::{Cost, PlainCommand, commands};
 use kb_explain_report::{
-    Form, Named, RulePlaces, Situation, say_command, say_commands, say_context, say_press,
-    say_rules, say_trace,
+    Named, RulePlaces, Situation, say_command, say_commands, say_context, say_press, say_rules,
+    say_trace,
 };
 use kb_files::{ExtensionFiles, Inputs, LoadFault};
 use kb_keys::{Chord, KeyFault, Keystroke};
-use kb_options::Options;
+use kb_report::Form;
+use kb_run::script_stop;
 use kb_script::stream_script;
 use kb_session::Session;
 use kb_source_files::SourceFiles;
@@ -98,7 +98,7 @@ fn play<'a, S: Read>(
     script: &mut S,
     session: &mut Session<PlainCommand>,
     mistakes: &mut Mistakes,
-) -> Result<(), kb_exit::Stop<'a>>
+) -> Result<(), kb_run::Stop<'a>>
     ensures { IfErr result (λ stop. IsBehindLoad (Stop.Run stop)) }
 {
     let mut shelf = commands(alloc, Cost::Budget)?;
@@ -165,18 +165,8 @@ fn strokes_with(
     Ok(strokes)
 }
 
-/// What stopped a report.
-#[tactic(auto, using(crate::proofs::EndLemmas::said_behind))]
-fn reported<'a>(end: Result<(), kb_explain_report::Stop>) -> Result<(), Stop<'a>>
-    ensures { IfErr result IsBehindLoad }
-{
-    match end {
-        Ok(()) => Ok(()),
-        Err(stop) => Err(Stop::from(stop)),
-    }
-}
-
 /// Writes why a press does what it does that completes these keystrokes.
+#[tactic(auto, using(crate::proofs::EndLemmas::said_behind))]
 fn explain_press<'s, 'a, W: Write>(
     alloc: Global,
     session: &'s Session<PlainCommand>,
@@ -197,10 +187,11 @@ fn explain_press<'s, 'a, W: Write>(
             places,
         },
     };
-    reported(say_press(alloc, &situation, form, out))
+    Ok(say_press(alloc, &situation, form, out)?)
 }
 
 /// Presses a key, and writes what the trace gains.
+#[tactic(auto, using(crate::proofs::EndLemmas::said_behind))]
 fn press_last<'a, W: Write>(
     alloc: Global,
     session: &mut Session<PlainCommand>,
@@ -212,7 +203,7 @@ fn press_last<'a, W: Write>(
 {
     session.truncate_trace(0);
     press_all(alloc, session, &[stroke])?;
-    reported(say_trace(alloc, session.trace(), form, out))
+    Ok(say_trace(alloc, session.trace(), form, out)?)
 }
 
 /// Writes why a press of a key does what it does.
@@ -253,6 +244,7 @@ fn explain<'a, W: Write>(
 }
 
 /// Writes the rules in force.
+#[tactic(auto, using(crate::proofs::EndLemmas::said_behind))]
 fn list<'a, W: Write>(
     alloc: Global,
     session: &Session<PlainCommand>,
@@ -269,10 +261,11 @@ fn list<'a, W: Write>(
         files: &*files,
         places: &places,
     };
-    reported(say_rules(alloc, &named, strokes, form, out))
+    Ok(say_rules(alloc, &named, strokes, form, out)?)
 }
 
 /// Writes which commands the palette lists for a query, and why not, of one command or of all.
+#[tactic(auto, using(crate::proofs::EndLemmas::said_behind))]
 fn palette<'a, W: Write>(
     alloc: Global,
     session: &Session<PlainCommand>,
@@ -286,12 +279,13 @@ fn palette<'a, W: Write>(
     let bindings = session.bindings();
     let scopes = session.core().scopes();
     match command {
-        Some(command) => reported(say_command(alloc, bindings, query, command, scopes, form, out)),
-        None => reported(say_commands(alloc, bindings, query, scopes, form, out)),
+        Some(command) => Ok(say_command(alloc, bindings, query, command, scopes, form, out)?),
+        None => Ok(say_commands(alloc, bindings, query, scopes, form, out)?),
     }
 }
 
 /// Answers a question about a session.
+#[tactic(auto, using(crate::proofs::EndLemmas::said_behind))]
 fn answer<'a, W: Write>(
     alloc: Global,
     session: &mut Session<PlainCommand>,
@@ -309,7 +303,7 @@ fn answer<'a, W: Write>(
     match question {
         Question::Press(_) => explain(alloc, session, files, strokes, form, out),
         Question::Rules(_) => list(alloc, session, files, strokes, form, out),
-        Question::Context => reported(say_context(alloc, session.core().scopes(), form, out)),
+        Question::Context => Ok(say_context(alloc, session.core().scopes(), form, out)?),
         Question::Palette(query, command) => palette(alloc, session, query, command, form, out),
     }
 }
@@ -374,17 +368,17 @@ fn answer_over<'a, S: Read + Drop, W: Write>(
 /// The same over the bytes of files that were read.
 fn answer_read<'a, S: Read + Drop, W: Write>(
     alloc: Global,
-    read: &FileBytes<'_>,
+    read: &kb_files::SourceFiles,
     script: Option<S>,
     asked: Asked<'_>,
     mistakes: &mut Mistakes,
     out: &mut W,
 ) -> Result<(), Stop<'a>>
-    ensures answered { IfOk result (λ _. AreAccepted (files_held read.now)) }
-    ensures stopped { IfErr result (StopsOver (files_held read.now)) }
+    ensures answered { IfOk result (λ _. AreAccepted (owned.files_in read.now)) }
+    ensures stopped { IfErr result (StopsOver (owned.files_in read.now)) }
 {
-    let extensions = read.extension_sources(alloc)?;
-    let sources = read.sources(extensions.as_slice());
+    let extensions = extension_sources(alloc, read)?;
+    let sources = sources(read, extensions.as_slice());
     answer_over(alloc, &sources, script, asked, mistakes, out)
 }
 

@@ -6,8 +6,8 @@ ghost use Rattle.kb_keycheck.specs.CommandLine.{IsAsked, IsForm, IsGiven, subcom
 use clap::ArgMatches;
 use kb_base::NoMemory;
 use kb_cli::{options_in, text_given};
-use kb_explain_report::Form;
-use kb_options::Options;
+use kb_disk::Options;
+use kb_report::Form;
 use std::alloc::Global;
 
 /// What a command that loads a session says.

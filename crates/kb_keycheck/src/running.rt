@@ -1,13 +1,13 @@
 //! The program, from its command line to its exit status.
 ghost use Rattle.std.specs.Prelude.{◌≡◌, ◌≤◌, IfErr, IfOk, map, string_bytes};
 ghost use Rattle.std.specs.Process.{exit_status};
-ghost use Rattle.kb_keycheck.specs.Ends.{HasNoWords, IsLineFault, IsNoWords, ObeysLine, RunsLine};
-ghost use Rattle.kb_keycheck.specs.Ends.{RunsOnSystem, fault_status};
+ghost use Rattle.kb_keycheck.specs.Ends.{EndsWithFault, HasNoWords, IsLineFault, IsNoWords, ObeysLine};
+ghost use Rattle.kb_keycheck.specs.Ends.{RunsLine, RunsOnSystem};
 
 use crate::dispatch::obey;
 use crate::words::{matched, not_text};
 use kb_base::NoMemory;
-use kb_cli::{OptionsFault, WordsFault, line_status, words_fault};
+use kb_cli::{OptionsFault, WordsFault, refuse_line, words_fault};
 use std::alloc::Global;
 use std::env;
 use std::process::ExitCode;
@@ -118,16 +118,13 @@ fn obey_texts<R: Files + Print + Eprint>(
     Ok(obey(rt, alloc, &matches))
 }
 
-/// Prints the error of a command line that is refused, or the help, and returns the exit status.
+/// Prints the error of a command line that is refused, the help or the version, and returns the exit status.
 fn refuse<R: Print + Eprint>(rt: &R, fault: OptionsFault) -> u8
-    ensures status { result ≡ fault_status fault }
+    ensures status { EndsWithFault fault result }
     ensures table { result ≤ 4 }
 {
     match fault {
-        OptionsFault::Line(error) => {
-            let _ = error.print(rt);
-            line_status(&error)
-        }
+        OptionsFault::Line(error) => refuse_line(rt, &error),
         OptionsFault::NoMemory => {
             let _ = rt.eprintln("stopped: out of memory");
             4

@@ -11,8 +11,8 @@ ghost use Rattle.kb_keycheck.specs.CommandLine.{with_files, with_script, word_ru
 use clap::error::ErrorKind;
 use clap::{Arg, ArgAction, ArgMatches, Command, Error};
 use kb_base::NoMemory;
-use kb_check_report::LINT_NAMES;
-use kb_cli::{dirs_argument, file_option, platform_names, platform_option, valued_option};
+use kb_cli::{VERSION, dirs_argument, file_option, platform_names, platform_option, valued_option};
+use kb_problems::LINT_NAMES;
 use std::alloc::Global;
 
 /// The names of the lints.
@@ -234,6 +234,7 @@ fn bare<'a>(alloc: Global) -> Result<Command<'a>, NoMemory>
 {
     Command::new(alloc, "keycheck")
         .about("Explains files of key rules, key presses and handlers.")
+        .version(VERSION)
         .subcommand_required(true)
         .bin_name("keycheck")
 }

@@ -1,9 +1,10 @@
--- The numbers of the faults of key texts and chord texts.
-use Rattle.std.specs.Prelude.{ℕ}
+-- The kinds of the faults of key texts and chord texts.
+use Rattle.kb_base.specs.declared.fault.FaultKind.{FaultKind}
+use Rattle.kb_base.specs.declared.fault.FaultKind.TheVariants as kind
 use Rattle.kb_keys.specs.declared.key_fault.KeyFault.{KeyFault}
 use Rattle.kb_keys.specs.declared.key_fault.KeyFault.TheVariants.{UnknownKey, TooManySteps, EmptyKey}
 
-abbrev pub number_of : KeyFault → ℕ
-number_of UnknownKey = 10
-number_of TooManySteps = 11
-number_of EmptyKey = 12
+abbrev pub kind_of : KeyFault → FaultKind
+kind_of UnknownKey = kind.UnknownKey
+kind_of TooManySteps = kind.TooManySteps
+kind_of EmptyKey = kind.EmptyKey

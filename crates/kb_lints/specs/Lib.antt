@@ -2,5 +2,5 @@ pub mod Condition
 pub mod Shadow
 pub mod CutOff
 pub mod Extended
+pub mod Hidden
 pub mod Taken
-pub mod Near

@@ -5,6 +5,7 @@ ghost use Rattle.kb_resolve.specs.Enablements.{enablement_in};
 ghost use Rattle.kb_lints.specs.CutOff.{IsCutOff, IsLonger, IsTakenAt, IsTaking, TakesAll};
 
 use crate::condition::covers;
+use crate::hidden::Hidden;
 use kb_base::NoMemory;
 use kb_keys::{Keystroke, write_strokes};
 use kb_resolve::Enablements;
@@ -15,16 +16,6 @@ use std::rc::Rc;
 
 /// The most keystrokes that are found to be taken (each is asked of all rules).
 const LIMIT: usize = 200;
-
-/// A rule that can never start, and one that takes its first keystrokes, by their positions among the rules
-/// in force.
-#[derive(Clone, Copy, Debug, PartialEq, Eq)]
-pub struct CutOff {
-    /// The position of the rule.
-    pub position: usize,
-    /// The position of the lower rule.
-    pub by: usize,
-}
 
 /// The lowest rule of each beginning of longer keystrokes.
 type Longer = HashMap<String, usize>;
@@ -37,13 +28,13 @@ struct Taking {
     by_keys: HashMap<String, usize>,
 }
 
-/// The rules that can never start, from the top down: a lower rule has the first of their keystrokes alone,
-/// and may start whenever any rule may that these keystrokes begin, all of which are above it.
-pub fn cut_off(
+/// The rules that can never start, from the top down, since a lower rule has the first of their keystrokes
+/// alone, and may start whenever any rule may that these keystrokes begin, all of which are above it.
+pub(crate) fn cut_off(
     alloc: Global,
     rules: &[Rc<Rule>],
     enablements: &Enablements,
-) -> Result<Vec<CutOff>, NoMemory>
+) -> Result<Vec<Hidden>, NoMemory>
     ensures { IfOk result (λ found. All (λ c. IsCutOff (enablement_in enablements.now)
         (map (λ r. r.value) rules.now) c.position c.by) found.items) }
 {
@@ -55,7 +46,7 @@ pub fn cut_off(
     }
     for position in 0..rules.len() {
         if let Some(by) = taken_by(alloc, rules, position, enablements, &taking)? {
-            found.push(CutOff { position, by })?;
+            found.push(Hidden { position, by })?;
         }
     }
     Ok(found)

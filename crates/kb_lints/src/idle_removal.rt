@@ -138,7 +138,8 @@ impl RuleTargets {
         self.rules.as_slice().get(place)
     }
 
-    /// What a removal takes of the rules.
+    /// What a removal takes of the rules. What it answers holds; no clause says that a removal takes nothing
+    /// where it finds no rule. Error: `NoMemory`.
     pub fn taken_by(&self, removal: &Removal) -> Result<Taking, NoMemory>
         ensures { IfOk result (IsSaid removal.now (map (λ r. r.value) self.now.rules.items)) }
     {

@@ -87,7 +87,7 @@ module _ {X : Type 0} (judged_at : List UnreadPattern → ℕ → Data → Judge
   -- the notes of one entry more
   abbrev noted : ℕ → Judged X → Notes → Notes
   noted place j notes =
-      with_unread origin part place j.unread (with_warning origin part place j.number notes)
+      with_unread origin part place j.unread (with_warning origin part place j.fault notes)
 
   gives_on : (told : ℕ → List UnreadPattern) (place : ℕ) (d : Data) (ds : List Data) (kept : List X)
       (notes : Notes) (j : Judged X) → judged_at (told place) place d ≡ j → Right (told place) d
@@ -101,8 +101,8 @@ module _ {X : Type 0} (judged_at : List UnreadPattern → ℕ → Data → Judge
         kept_are = append_assoc kept (kept_in j.kept) items
             ∙ ap (λ (i : Judged X). kept ++ (kept_in i.kept ++ items)) (sym is)
             ∙ gives.kept_are;
-        warnings_are = append_assoc notes.warnings (warning_in origin part place j.number) warnings
-            ∙ ap (λ (i : Judged X). notes.warnings ++ (warning_in origin part place i.number ++ warnings))
+        warnings_are = append_assoc notes.warnings (warning_in origin part place j.fault) warnings
+            ∙ ap (λ (i : Judged X). notes.warnings ++ (warning_in origin part place i.fault ++ warnings))
             (sym is)
             ∙ gives.warnings_are;
         unread_are = append_assoc notes.unread (placed origin part place j.unread) unread

@@ -18,10 +18,10 @@ use Rattle.serde_json.specs.View.{members_view}
 use Rattle.kb_context.specs.declared.value.ContextValue.{ContextValue}
 use Rattle.kb_base.specs.Reading.{or_fault}
 use Rattle.kb_context.specs.Scopes.{Keys}
-use Rattle.kb_json.specs.declared.fault.FileFault.{FileFault}
-use Rattle.kb_json.specs.declared.fault.FileFault.TheVariants.{WrongShape}
+use Rattle.kb_jsonc.specs.declared.file_fault.FileFault.{FileFault}
+use Rattle.kb_jsonc.specs.declared.file_fault.FileFault.TheVariants.{WrongShape}
 use Rattle.kb_manifest.specs.Context.{value_of}
-use Rattle.kb_json.specs.Parts.{◌>>=◌, each, pairs_of}
+use Rattle.kb_jsonc.specs.Parts.{◌>>=◌, each, pairs_of}
 use Rattle.kb_manifest.specs.Layout.{key_of}
 
 abbrev pub Pair : Type 0

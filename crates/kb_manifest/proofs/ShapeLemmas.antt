@@ -4,7 +4,7 @@ use Rattle.std.proofs.Common.{option_map, refl, codes, ◌∙◌}
 use Rattle.std.specs.FinMap.{empty}
 use Rattle.serde_json.specs.Data.{Data, null, boolean, number, string, array, object}
 use Rattle.serde_json.specs.Find.{get, get_member, as_str, as_object}
-use Rattle.kb_json.specs.Parts.{◌>>=◌, each, optional}
+use Rattle.kb_jsonc.specs.Parts.{◌>>=◌, each, optional}
 use Rattle.kb_manifest.specs.Context.{value_of}
 use Rattle.kb_manifest.specs.Layout.{first_name, key_of, keys_of, list_of, record_of, scope_of, scopes_at, text_at}
 use Rattle.kb_manifest.specs.Layout.{some_text}

@@ -3,9 +3,9 @@ use Rattle.std.specs.Prelude.{ℕ, List, [], Option, Some, None, Result, Ok, Err
 use Rattle.serde_json.specs.Data.{Data, Members}
 use Rattle.serde_json.specs.Find.{as_object, get_member}
 use Rattle.kb_base.specs.Reading.{◌>>=◌, or_fault}
-use Rattle.kb_json.specs.declared.fault.FileFault.{FileFault}
-use Rattle.kb_json.specs.declared.fault.FileFault.TheVariants.{WrongShape}
-use Rattle.kb_json.specs.FileFault.{number_of}
+use Rattle.kb_jsonc.specs.declared.file_fault.FileFault.{FileFault}
+use Rattle.kb_jsonc.specs.declared.file_fault.FileFault.TheVariants.{WrongShape}
+use Rattle.kb_jsonc.specs.FileFault.{kind_of}
 use Rattle.kb_manifest.specs.declared.judged.Judged.{Judged}
 use Rattle.kb_manifest.specs.declared.notes.Notes.{Notes}
 use Rattle.kb_base.specs.declared.note.Origin.{Origin}
@@ -13,7 +13,7 @@ use Rattle.kb_base.specs.declared.note.Part.TheVariants.{Commands}
 use Rattle.kb_base.specs.declared.note.UnreadPattern.{UnreadPattern}
 use Rattle.kb_manifest.specs.declared.command_table.Named.{Named}
 use Rattle.kb_manifest.specs.declared.command.Texts.{Texts}
-use Rattle.kb_json.specs.Member.{required_text, optional_text}
+use Rattle.kb_jsonc.specs.Member.{required_text, optional_text}
 use Rattle.kb_manifest.specs.Condition.{optional_condition, IsOptionalRight}
 use Rattle.kb_manifest.specs.CommandTable.{firsts_behind}
 use Rattle.kb_manifest.specs.Judged.{kept_from, notes_of}
@@ -49,13 +49,13 @@ command_of told place texts = record {
       place = place;
     };
   });
-  number = (optional_condition told texts.enablement).number;
+  fault = (optional_condition told texts.enablement).fault;
   unread = (optional_condition told texts.enablement).unread;
 }
 
 abbrev pub judged_by : List UnreadPattern → ℕ → Result Texts FileFault → Judged Named
 judged_by told place (Ok texts) = command_of told place texts
-judged_by told place (Err fault) = record { kept = None; number = Some (number_of fault); unread = [] }
+judged_by told place (Err fault) = record { kept = None; fault = Some (kind_of fault); unread = [] }
 
 -- the entry at a place, read
 abbrev pub judged_at : List UnreadPattern → ℕ → Data → Judged Named

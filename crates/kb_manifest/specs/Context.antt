@@ -7,9 +7,9 @@ use Rattle.kb_base.specs.declared.failure.Failure.TheVariants.{NoMemory, Fault}
 use Rattle.kb_context.specs.declared.value.ContextValue.{ContextValue}
 use Rattle.kb_context.specs.declared.value.ContextValue.TheVariants.{Truth, Number, Text, Texts, Names}
 use Rattle.kb_base.specs.Reading.{or_fault}
-use Rattle.kb_json.specs.declared.fault.FileFault.{FileFault}
-use Rattle.kb_json.specs.declared.fault.FileFault.TheVariants.{WrongShape}
-use Rattle.kb_json.specs.Parts.{each, listed, names_of}
+use Rattle.kb_jsonc.specs.declared.file_fault.FileFault.{FileFault}
+use Rattle.kb_jsonc.specs.declared.file_fault.FileFault.TheVariants.{WrongShape}
+use Rattle.kb_jsonc.specs.Parts.{each, listed, names_of}
 
 -- a boolean, a whole number within i64, a text, a list of texts, or the names of an object's members
 abbrev pub value_of : Data → Option ContextValue

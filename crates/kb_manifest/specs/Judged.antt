@@ -26,7 +26,7 @@ module _ {X : Type 0} (judged_at : List UnreadPattern → ℕ → Data → Judge
   abbrev pub warnings_from : Origin → Part → ℕ → List Data → List Warning
   warnings_from origin part place [] = []
   warnings_from origin part place (d ∷ ds) =
-      warning_in origin part place (judged_at (told place) place d).number
+      warning_in origin part place (judged_at (told place) place d).fault
       ++ warnings_from origin part (place + 1) ds
 
   abbrev pub unread_from : Origin → Part → ℕ → List Data → List EntryPattern

@@ -10,10 +10,10 @@ use Rattle.kb_context.specs.declared.layout.LayoutScope.{LayoutScope}
 use Rattle.kb_context.specs.declared.value.ContextValue.{ContextValue}
 use Rattle.kb_base.specs.Reading.{or_fault}
 use Rattle.kb_context.specs.Scopes.{Keys}
-use Rattle.kb_json.specs.declared.fault.FileFault.{FileFault}
-use Rattle.kb_json.specs.declared.fault.FileFault.TheVariants.{MissingMember, WrongShape}
+use Rattle.kb_jsonc.specs.declared.file_fault.FileFault.{FileFault}
+use Rattle.kb_jsonc.specs.declared.file_fault.FileFault.TheVariants.{MissingMember, WrongShape}
 use Rattle.kb_manifest.specs.Context.{value_of}
-use Rattle.kb_json.specs.Parts.{◌>>=◌, each, optional, elements_of, pairs_of}
+use Rattle.kb_jsonc.specs.Parts.{◌>>=◌, each, optional, elements_of, pairs_of}
 
 -- the elements of the list that a member is
 abbrev pub list_of : Option Data → Option (List Data)

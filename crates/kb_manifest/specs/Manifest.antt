@@ -6,8 +6,8 @@ use Rattle.serde_json.specs.Data.{Data, Members}
 use Rattle.serde_json.specs.Find.{get_member, as_object}
 use Rattle.serde_json.specs.View.{items_view}
 use Rattle.kb_base.specs.Reading.{or_fault, seen}
-use Rattle.kb_json.specs.declared.fault.FileFault.{FileFault}
-use Rattle.kb_json.specs.declared.fault.FileFault.TheVariants.{MissingMember, WrongShape}
+use Rattle.kb_jsonc.specs.declared.file_fault.FileFault.{FileFault}
+use Rattle.kb_jsonc.specs.declared.file_fault.FileFault.TheVariants.{MissingMember, WrongShape}
 use Rattle.kb_manifest.specs.declared.manifest.Head.{Head}
 use Rattle.kb_manifest.specs.declared.manifest.Manifest.{Manifest}
 use Rattle.kb_manifest.specs.declared.manifest.Package.{Package}
@@ -22,7 +22,7 @@ use Rattle.kb_manifest.specs.Command as command
 use Rattle.kb_manifest.specs.Judged.{AllRight}
 use Rattle.kb_manifest.specs.Layout.{lacks}
 use Rattle.kb_manifest.specs.PaletteItem as item
-use Rattle.kb_json.specs.Parts.{◌>>=◌, optional, listed, texts_of, word_of}
+use Rattle.kb_jsonc.specs.Parts.{◌>>=◌, optional, listed, texts_of, word_of}
 use Rattle.kb_manifest.specs.Points.{Held, no_points, points_in, seen_points}
 
 -- what a package holds: the manifest, and the entries of its key rules as in the file

@@ -5,9 +5,9 @@ use Rattle.serde_json.specs.Data.{Data, Members}
 use Rattle.serde_json.specs.Find.{as_object, get_member}
 use Rattle.kb_base.specs.Blank.{is_blank}
 use Rattle.kb_base.specs.Reading.{◌>>=◌, or_fault}
-use Rattle.kb_json.specs.declared.fault.FileFault.{FileFault}
-use Rattle.kb_json.specs.declared.fault.FileFault.TheVariants.{WrongShape}
-use Rattle.kb_json.specs.FileFault.{number_of}
+use Rattle.kb_jsonc.specs.declared.file_fault.FileFault.{FileFault}
+use Rattle.kb_jsonc.specs.declared.file_fault.FileFault.TheVariants.{WrongShape}
+use Rattle.kb_jsonc.specs.FileFault.{kind_of}
 use Rattle.kb_manifest.specs.declared.judged.Judged.{Judged}
 use Rattle.kb_manifest.specs.declared.notes.Notes.{Notes}
 use Rattle.kb_base.specs.declared.note.Origin.{Origin}
@@ -16,7 +16,7 @@ use Rattle.kb_manifest.specs.Judged.{each_by}
 use Rattle.kb_base.specs.declared.note.UnreadPattern.{UnreadPattern}
 use Rattle.kb_manifest.specs.declared.palette_item.PaletteItem.{PaletteItem}
 use Rattle.kb_manifest.specs.declared.palette_item.ItemTexts.{ItemTexts}
-use Rattle.kb_json.specs.Member.{required_text, optional_text}
+use Rattle.kb_jsonc.specs.Member.{required_text, optional_text}
 use Rattle.kb_manifest.specs.Condition.{optional_condition, IsOptionalRight}
 
 -- a text that isn't blank; an empty one, or white space alone, is absent
@@ -43,13 +43,13 @@ item_of told place texts = record {
     when = (optional_condition told texts.when).clause;
     place = place;
   });
-  number = (optional_condition told texts.when).number;
+  fault = (optional_condition told texts.when).fault;
   unread = (optional_condition told texts.when).unread;
 }
 
 abbrev pub judged_by : List UnreadPattern → ℕ → Result ItemTexts FileFault → Judged PaletteItem
 judged_by told place (Ok texts) = item_of told place texts
-judged_by told place (Err fault) = record { kept = None; number = Some (number_of fault); unread = [] }
+judged_by told place (Err fault) = record { kept = None; fault = Some (kind_of fault); unread = [] }
 
 -- the entry at a place, read
 abbrev pub judged_at : List UnreadPattern → ℕ → Data → Judged PaletteItem

@@ -4,7 +4,7 @@ use Rattle.serde_json.specs.Data.{Data, Members, null, boolean, number, string, 
 use Rattle.serde_json.specs.Find.{get, get_member, as_object}
 use Rattle.serde_json.specs.View.{items_view}
 use Rattle.kb_manifest.specs.declared.points.Points.{Points}
-use Rattle.kb_json.specs.Parts.{◌>>=◌, optional, listed}
+use Rattle.kb_jsonc.specs.Parts.{◌>>=◌, optional, listed}
 
 pub record Held : Type 0 where
   pub commands : List Data

@@ -2,7 +2,7 @@
 ghost use Rattle.std.specs.Prelude.{◌≡◌, IfOk, codes};
 ghost use Rattle.serde_json.specs.Find.{get_member};
 ghost use Rattle.serde_json.specs.View.{view, items_view, members_view};
-ghost use Rattle.kb_json.specs.Parts.{listed};
+ghost use Rattle.kb_jsonc.specs.Parts.{listed};
 ghost use Rattle.kb_manifest.specs.Command.{texts_of, texts_in, extras_of, command_of};
 ghost use Rattle.kb_manifest.specs.Command.{commands_by, IsRightAt};
 ghost use Rattle.kb_manifest.specs.Condition.{IsOptionalRight};
@@ -16,7 +16,7 @@ use crate::entries::{Entry, read_each};
 use crate::judged::Judged;
 use crate::notes::Notes;
 use kb_base::{NoMemory, Origin, Part, Seq, Text};
-use kb_json::{FileFault, members_in, optional_text, required_text, take_member};
+use kb_jsonc::{FileFault, members_in, optional_text, required_text, take_member};
 use kb_when::SharedClause;
 use serde_json::{Map, Value};
 use std::alloc::Global;
@@ -100,7 +100,7 @@ fn command_of(alloc: Global, texts: Texts, place: usize) -> Result<Judged<Named>
     };
     Ok(Judged {
         kept: Some(Named { name, command }),
-        number: condition.number,
+        fault: condition.fault,
         unread: condition.unread,
     })
 }
@@ -117,7 +117,7 @@ impl Entry for Named {
             Ok(texts) => command_of(alloc, texts, place),
             Err(fault) => Ok(Judged {
                 kept: None,
-                number: Some(fault.number()),
+                fault: Some(fault.kind()),
                 unread: Seq::new(alloc),
             }),
         }

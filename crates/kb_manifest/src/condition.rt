@@ -5,18 +5,18 @@ ghost use Rattle.kb_when.specs.ClauseText.{clause_in};
 ghost use Rattle.kb_pattern.specs.Pattern.{AreRight};
 ghost use Rattle.kb_when.specs.Clause.{patterns_of};
 ghost use Rattle.kb_when.specs.Unread.{unread_of, marked_by};
-ghost use Rattle.kb_manifest.specs.Condition.{number_by, never_holds, condition_by, condition_of};
+ghost use Rattle.kb_manifest.specs.Condition.{fault_by, never_holds, condition_by, condition_of};
 ghost use Rattle.kb_manifest.specs.Condition.{optional_condition, IsRightBy, IsRightOf, IsOptionalRight};
 
-use kb_base::{Failure, NoMemory, Seq, Text, UnreadPattern};
+use kb_base::{Failure, FaultKind, NoMemory, Seq, Text, UnreadPattern};
 use kb_when::{Clause, SharedClause, WhenFault};
 use std::alloc::{AllocError, Global};
 
-/// A clause of a manifest, the number of its warning, and its unread patterns.
+/// A clause of a manifest, the fault of its warning, and its unread patterns.
 #[derive(Drop)]
 pub(crate) struct Condition {
     pub(crate) clause: Option<SharedClause>,
-    pub(crate) number: Option<u32>,
+    pub(crate) fault: Option<FaultKind>,
     pub(crate) unread: Seq<UnreadPattern>,
 }
 
@@ -31,13 +31,13 @@ fn copied(alloc: Global, patterns: &[UnreadPattern]) -> Result<Seq<UnreadPattern
     Ok(made)
 }
 
-/// The number of the warning of a clause with these patterns that aren't read, if it has one.
-fn number_by(unread: &[UnreadPattern]) -> Option<u32>
-    ensures { result ≡ number_by unread.now }
+/// The fault of the warning of a clause with these patterns that aren't read, if it has one.
+fn fault_by(unread: &[UnreadPattern]) -> Option<FaultKind>
+    ensures { result ≡ fault_by unread.now }
 {
     match unread {
         [] => None,
-        _ => Some(34),
+        _ => Some(FaultKind::UnreadPattern),
     }
 }
 
@@ -60,11 +60,11 @@ fn marked_condition(alloc: Global, clause: Clause) -> Result<Condition, NoMemory
         drop(clause);
         return Err(AllocError);
     };
-    let number = number_by(unread.as_slice());
+    let fault = fault_by(unread.as_slice());
     let clause = SharedClause::new(alloc, clause)?;
     Ok(Condition {
         clause: Some(clause),
-        number,
+        fault,
         unread,
     })
 }
@@ -77,7 +77,7 @@ fn never_holds(alloc: Global, fault: WhenFault) -> Result<Condition, NoMemory>
     let never = SharedClause::new(alloc, Clause::never(alloc))?;
     Ok(Condition {
         clause: Some(never),
-        number: Some(fault.number()),
+        fault: Some(fault.kind()),
         unread: Seq::new(alloc),
     })
 }
@@ -105,7 +105,7 @@ pub(crate) fn optional_condition(alloc: Global, text: Option<Text>) -> Result<Co
         Some(text) => read_condition(alloc, text.as_str()),
         None => Ok(Condition {
             clause: None,
-            number: None,
+            fault: None,
             unread: Seq::new(alloc),
         }),
     }

@@ -3,12 +3,12 @@ ghost use Rattle.std.specs.Prelude.{◌≡◌, IfOk, IfErr};
 ghost use Rattle.serde_json.specs.Data.{array, number as json_number};
 ghost use Rattle.serde_json.specs.View.{view, items_view, members_view, number_view};
 ghost use Rattle.kb_base.specs.Failure.{Gives};
-ghost use Rattle.kb_json.specs.Parts.{names_of};
+ghost use Rattle.kb_jsonc.specs.Parts.{names_of};
 ghost use Rattle.kb_manifest.specs.Context.{context_of, MayFail};
 
 use kb_base::{Failure, NoMemory, Seq, Text};
 use kb_context::ContextValue;
-use kb_json::{FileFault, read_texts};
+use kb_jsonc::{FileFault, read_texts};
 use serde_json::{Map, Number, Value};
 use std::alloc::Global;
 
@@ -48,7 +48,7 @@ fn read_list(alloc: Global, elements: Vec<Value>) -> Result<ContextValue, Failur
 }
 
 /// The names of an object's members, in order.
-#[tactic(auto, using(kb_json::proofs::PartsLemmas::names_seen))]
+#[tactic(auto, using(kb_jsonc::proofs::PartsLemmas::names_seen))]
 fn names_in(alloc: Global, members: Map<String, Value>) -> Result<Seq<Text>, NoMemory>
     ensures { IfOk result (λ names. names ≡ names_of (members_view members.entries)) }
 {

@@ -1,7 +1,7 @@
 //! The entries of a contribution point, read one by one.
 ghost use Rattle.std.specs.Prelude.{◌≡◌, ◌++◌, [], IfOk, OnOk};
 ghost use Rattle.serde_json.specs.View.{items_view};
-ghost use Rattle.kb_json.specs.Parts.{listed};
+ghost use Rattle.kb_jsonc.specs.Parts.{listed};
 ghost use Rattle.kb_manifest.specs.Judged.{each_by, kept_in, AllRight};
 ghost use Rattle.kb_when.specs.Placed.{marks_at};
 
@@ -59,7 +59,7 @@ pub(crate) fn read_each<E: Entry>(
     for entry in entries {
         let judged = E::read(alloc, entry, place)?;
         keep(&mut kept, judged.kept)?;
-        notes.add(origin, part, place, judged.number, judged.unread)?;
+        notes.add(origin, part, place, judged.fault, judged.unread)?;
         place += 1;
     }
     Ok((kept, notes))

@@ -4,8 +4,8 @@ ghost use Rattle.serde_json.specs.Find.{get_member};
 ghost use Rattle.serde_json.specs.View.{view, items_view, members_view};
 ghost use Rattle.kb_base.specs.Failure.{Gives};
 ghost use Rattle.kb_base.specs.Reading.{or_fault};
-ghost use Rattle.kb_json.specs.declared.fault.FileFault.TheVariants.{WrongShape};
-ghost use Rattle.kb_json.specs.Parts.{optional, texts_of};
+ghost use Rattle.kb_jsonc.specs.declared.file_fault.FileFault.TheVariants.{WrongShape};
+ghost use Rattle.kb_jsonc.specs.Parts.{optional, texts_of};
 ghost use Rattle.kb_manifest.specs.Manifest.{publisher_of, id_of, seen_head, head_in, head_of};
 ghost use Rattle.kb_manifest.specs.Manifest.{seen_package, told_by, contributed, package_of, IsRead};
 ghost use Rattle.kb_manifest.specs.Manifest.{outline_of, IsRightIn, IsRightBy};
@@ -16,8 +16,8 @@ use crate::layout::lacks;
 use crate::notes::Notes;
 use crate::palette_item::{PaletteItem, read_items};
 use crate::points::{Points, read_points};
-use kb_base::{Failure, NoMemory, Origin, Seq, Text};
-use kb_json::{FileFault, elements_in, members_in, read_texts, take_member, word_in};
+use kb_base::{ExtensionId, Failure, NoMemory, Origin, Seq, Text};
+use kb_jsonc::{FileFault, elements_in, members_in, read_texts, take_member, word_in};
 use serde_json::{Map, Value};
 use std::alloc::Global;
 
@@ -26,9 +26,9 @@ use std::alloc::Global;
 pub struct Manifest {
     /// The extension's identifier, `publisher.name` (VS Code's documentation), as the file spells
     /// it. Without a publisher it begins with `undefined_publisher` (our decision).
-    pub id: Text,
+    pub id: ExtensionId,
     /// The identifiers of the extensions that it depends on, in the order of the file.
-    pub dependencies: Seq<Text>,
+    pub dependencies: Seq<ExtensionId>,
     /// The commands that it contributes, each identifier once.
     pub commands: CommandTable,
     /// The items of the palette's menu.
@@ -51,8 +51,8 @@ pub struct Package {
 /// A manifest before its entries are read.
 #[derive(Drop)]
 struct Head {
-    id: Text,
-    dependencies: Seq<Text>,
+    id: ExtensionId,
+    dependencies: Seq<ExtensionId>,
     points: Points,
 }
 
@@ -77,7 +77,8 @@ impl Package {
     pub fn read(alloc: Global, value: Value, origin: Origin) -> Result<Package, Failure<FileFault>>
         ensures read { IsRead origin (λ told. package_of origin told (view value)) result }
 
-        // A pattern is listed as unread exactly where `regex` rejects it.
+        // A pattern is listed as unread only if the grammar of `regex` rejects it or it nests too deep. One
+        // that isn't listed is read by that grammar.
         ensures right { IfOk result (λ contents.
             IsRightBy (told_by origin contents.manifest) (outline_of (view value))) }
     {
@@ -113,14 +114,25 @@ fn read_id(
     alloc: Global,
     name: Option<Value>,
     publisher: Option<Value>,
-) -> Result<Text, Failure<FileFault>>
+) -> Result<ExtensionId, Failure<FileFault>>
     ensures { Gives (λ id. id) result
         (or_fault WrongShape (id_of (option_map view name) (option_map view publisher))) }
 {
     let name = name.and_then(word_in).ok_or(FileFault::WrongShape)?;
     let mut id = read_publisher(alloc, publisher)?;
     push_name(&mut id, name.as_str())?;
-    Ok(id)
+    Ok(ExtensionId::new(id))
+}
+
+/// The identifiers that these texts are. Error: `NoMemory`.
+fn ids_of(alloc: Global, texts: Seq<Text>) -> Result<Seq<ExtensionId>, NoMemory>
+    ensures { IfOk result (λ ids. ids ≡ texts) }
+{
+    let mut ids = Seq::new(alloc);
+    for text in texts.into_vec() {
+        ids.push(ExtensionId::new(text))?;
+    }
+    Ok(ids)
 }
 
 /// The identifiers of the extensions that one depends on, taken out of its members, none where theirs is
@@ -128,8 +140,8 @@ fn read_id(
 fn read_dependencies(
     alloc: Global,
     members: &mut Map<String, Value>,
-) -> Result<Seq<Text>, Failure<FileFault>>
-    ensures texts { Gives (λ texts. texts) result (or_fault WrongShape (optional [] texts_of
+) -> Result<Seq<ExtensionId>, Failure<FileFault>>
+    ensures ids { Gives (λ ids. ids) result (or_fault WrongShape (optional [] texts_of
         (get_member (codes "extensionDependencies") (members_view members.old.entries)))) }
     ensures contributes { get_member (codes "contributes") (members_view members.new.entries)
         ≡ get_member (codes "contributes") (members_view members.old.entries) }
@@ -137,7 +149,8 @@ fn read_dependencies(
     match take_member(members, "extensionDependencies") {
         Some(dependencies) => {
             let elements = elements_in(dependencies).ok_or(FileFault::WrongShape)?;
-            read_texts(alloc, elements)
+            let texts = read_texts(alloc, elements)?;
+            Ok(ids_of(alloc, texts)?)
         }
         None => Ok(Seq::new(alloc)),
     }
@@ -189,8 +202,8 @@ fn contribute(alloc: Global, head: Head, origin: Origin) -> Result<Package, NoMe
 
 /// The manifest of these parts, of which commands and palette come with their notes.
 fn joined(
-    id: Text,
-    dependencies: Seq<Text>,
+    id: ExtensionId,
+    dependencies: Seq<ExtensionId>,
     commands: (CommandTable, Notes),
     palette: (Seq<PaletteItem>, Notes),
 ) -> Manifest

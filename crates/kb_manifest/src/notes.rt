@@ -2,7 +2,7 @@
 ghost use Rattle.std.specs.Prelude.{◌≡◌, [], ◌++◌, OnOk};
 ghost use Rattle.kb_manifest.specs.Notes.{no_notes, with_warning, with_unread};
 
-use kb_base::{EntryPattern, NoMemory, Origin, Part, Seq, UnreadPattern, Warning};
+use kb_base::{EntryPattern, FaultKind, NoMemory, Origin, Part, Seq, UnreadPattern, Warning};
 use std::alloc::Global;
 
 /// What is reported of the entries of a part of a manifest, in their order.
@@ -32,15 +32,15 @@ impl Notes {
         origin: Origin,
         part: Part,
         place: usize,
-        number: Option<u32>,
+        fault: Option<FaultKind>,
     ) -> Result<(), NoMemory>
-        ensures { OnOk result (self.new ≡ with_warning origin part place number self.old) }
+        ensures { OnOk result (self.new ≡ with_warning origin part place fault self.old) }
     {
-        match number {
-            Some(number) => self.warnings.push(Warning {
+        match fault {
+            Some(kind) => self.warnings.push(Warning {
                 origin,
                 part,
-                number,
+                kind,
                 place,
             }),
             None => Ok(()),
@@ -53,13 +53,13 @@ impl Notes {
         origin: Origin,
         part: Part,
         place: usize,
-        number: Option<u32>,
+        fault: Option<FaultKind>,
         patterns: Seq<UnreadPattern>,
     ) -> Result<(), NoMemory>
         ensures { OnOk result (self.new
-            ≡ with_unread origin part place patterns (with_warning origin part place number self.old)) }
+            ≡ with_unread origin part place patterns (with_warning origin part place fault self.old)) }
     {
-        self.warn(origin, part, place, number)?;
+        self.warn(origin, part, place, fault)?;
         self.mark(origin, part, place, patterns)
     }
 

@@ -2,7 +2,7 @@
 ghost use Rattle.std.specs.Prelude.{◌≡◌, IfOk};
 ghost use Rattle.serde_json.specs.View.{view, items_view, members_view};
 ghost use Rattle.kb_manifest.specs.Judged.{AllRight};
-ghost use Rattle.kb_json.specs.Parts.{listed};
+ghost use Rattle.kb_jsonc.specs.Parts.{listed};
 ghost use Rattle.kb_manifest.specs.PaletteItem.{texts_of, texts_in, said, item_of, items_by};
 ghost use Rattle.kb_manifest.specs.PaletteItem.{IsRightAt};
 ghost use Rattle.kb_manifest.specs.Condition.{IsOptionalRight};
@@ -14,7 +14,7 @@ use crate::entries::{Entry, read_each};
 use crate::judged::Judged;
 use crate::notes::Notes;
 use kb_base::{NoMemory, Origin, Part, Seq, Text, is_blank_text};
-use kb_json::{FileFault, members_in, optional_text, required_text, take_member};
+use kb_jsonc::{FileFault, members_in, optional_text, required_text, take_member};
 use kb_when::SharedClause;
 use serde_json::{Map, Value};
 use std::alloc::Global;
@@ -89,7 +89,7 @@ fn item_of(alloc: Global, texts: ItemTexts, place: usize) -> Result<Judged<Palet
     };
     Ok(Judged {
         kept: Some(item),
-        number: condition.number,
+        fault: condition.fault,
         unread: condition.unread,
     })
 }
@@ -106,7 +106,7 @@ impl Entry for PaletteItem {
             Ok(texts) => item_of(alloc, texts, place),
             Err(fault) => Ok(Judged {
                 kept: None,
-                number: Some(fault.number()),
+                fault: Some(fault.kind()),
                 unread: Seq::new(alloc),
             }),
         }

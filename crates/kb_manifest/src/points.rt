@@ -3,13 +3,13 @@ ghost use Rattle.std.specs.Prelude.{[], option_map, IfOk, ◌≡◌, ◌∷◌};
 ghost use Rattle.serde_json.specs.View.{view, items_view, members_view};
 ghost use Rattle.kb_base.specs.Failure.{Gives};
 ghost use Rattle.kb_base.specs.Reading.{or_fault};
-ghost use Rattle.kb_json.specs.declared.fault.FileFault.TheVariants.{WrongShape};
-ghost use Rattle.kb_json.specs.Parts.{optional, listed};
+ghost use Rattle.kb_jsonc.specs.declared.file_fault.FileFault.TheVariants.{WrongShape};
+ghost use Rattle.kb_jsonc.specs.Parts.{optional, listed};
 ghost use Rattle.kb_manifest.specs.Points.{entries_of, palette_of, no_points, points_by, points_in};
 ghost use Rattle.kb_manifest.specs.Points.{seen_points};
 
 use kb_base::{Failure, NoMemory};
-use kb_json::{FileFault, members_in, take_member};
+use kb_jsonc::{FileFault, members_in, take_member};
 use serde_json::{Map, Value};
 use std::alloc::Global;
 

@@ -4,7 +4,7 @@ ghost use Rattle.std.specs.Prelude.{◌≡◌, codes, is_some};
 ghost use Rattle.std.specs.FinMap.{empty};
 ghost use Rattle.serde_json.specs.Find.{as_str, get};
 ghost use Rattle.serde_json.specs.View.{view, items_view, members_view};
-ghost use Rattle.kb_json.specs.Parts.{each, listed, optional, pairs_of};
+ghost use Rattle.kb_jsonc.specs.Parts.{each, listed, optional, pairs_of};
 ghost use Rattle.kb_manifest.specs.Context.{value_of};
 ghost use Rattle.kb_manifest.specs.Layout.{key_of, keys_of, record_of, scope_of, scopes_at};
 ghost use Rattle.kb_manifest.specs.Layout.{some_text, text_at};

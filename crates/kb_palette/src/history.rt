@@ -38,9 +38,8 @@ impl History {
         })
     }
 
-    /// Notes that a command was chosen: it is then the most recent choice. If it is not among the choices
-    /// and there are 50, the least recent one is forgotten. Error: `NoMemory`, only if the command is not
-    /// among the choices; the history is then unchanged.
+    /// Notes that a command was chosen: it is then the most recent choice. If it is not among the choices and
+    /// there are 50, the least recent one is forgotten. Error: `NoMemory`; the history is then unchanged.
     pub fn note(&mut self, command: &str) -> Result<(), NoMemory>
         ensures ok { OnOk result (self.new ≡ noted command.now self.old) }
         ensures err { OnErr result (self.new ≡ self.old) }

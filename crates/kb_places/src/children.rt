@@ -34,7 +34,7 @@ fn behind_bracket(text: &[u8], part: Span, bracket: u8) -> Option<usize>
 }
 
 /// The items of the list at a part of a text, in order, or none where there is no list. Each byte is read at
-/// most twice.
+/// most twice. Error: `NoMemory`.
 #[tactic(auto, using(crate::proofs::ChildrenLemmas::one_more))]
 pub fn items(alloc: Global, text: &[u8], list: Span) -> Result<Vec<Span>, NoMemory>
     ensures items { IfOk result (λ found.
@@ -65,7 +65,7 @@ fn begins_name(text: &[u8], index: usize) -> bool
 }
 
 /// The members of the object at a part of a text, in order, or none where there is no object. Each byte is
-/// read at most twice.
+/// read at most twice. Error: `NoMemory`.
 #[tactic(auto, using(crate::proofs::ChildrenLemmas::one_member_more))]
 pub fn members(alloc: Global, text: &[u8], object: Span) -> Result<Vec<Member>, NoMemory>
     ensures members { IfOk result (λ found.

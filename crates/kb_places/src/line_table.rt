@@ -24,7 +24,7 @@ fn begins_line(text: &[u8], index: usize) -> bool
 }
 
 impl LineTable {
-    /// The lines of a text.
+    /// The lines of a text. Error: `NoMemory`.
     #[tactic(auto, using(crate::proofs::LineTableLemmas::beginning))]
     pub fn new(alloc: Global, text: &[u8]) -> Result<LineTable, NoMemory>
         ensures { IfOk result (IsTableOf text.now) }

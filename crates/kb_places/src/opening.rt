@@ -37,7 +37,7 @@ fn blanked(alloc: Global, bytes: &[u8]) -> Result<String, NoMemory>
     }
 }
 
-/// A file's source, or why it isn't read, and where.
+/// A file's source, or why it isn't read, and where. Error: `NoMemory`.
 #[tactic(auto, using(crate::proofs::OpenLemmas::has_text, crate::proofs::OpenLemmas::has_plain))]
 pub fn open<'a>(alloc: Global, file: &'a [u8]) -> Result<Result<Source<'a>, Misread>, NoMemory>
     ensures opened { IfOk result (λ opened. IfOk opened (Opens file.now)) }

@@ -59,7 +59,7 @@ impl<'a> Source<'a> {
     }
 
     /// The place of the value at a path, if it is this one: what is read from there is that value, and it
-    /// begins there, with no blank before it.
+    /// begins there, with no blank before it. Error: `NoMemory`.
     #[tactic(auto, using(crate::proofs::DepthLemmas::found_depth, crate::proofs::PlaceLemmas::stands))]
     pub fn place(
         &self,

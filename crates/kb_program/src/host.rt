@@ -53,6 +53,7 @@ fn run_with_closures<R: Alloc<A = Global> + Env + Files + Print + Eprint + Input
     let setup = Setup {
         verification,
         closures: HostClosures { natives, shelf },
+        takes_rules: false,
     };
     Ok(run_program(rt, alloc, program, setup))
 }

@@ -5,7 +5,7 @@ ghost use Rattle.kb_program.specs.Line.{HasNoWords, IsNoWords};
 ghost use Rattle.kb_run.specs.Report.{IsStatus};
 
 use kb_base::NoMemory;
-use kb_cli::{OptionsFault, Program, WordsFault, line_status, not_text, options, words_fault};
+use kb_cli::{OptionsFault, Program, WordsFault, not_text, options, refuse_line, words_fault};
 use kb_registry::HostCommand;
 use kb_run::{Setup, run_on_system, without_memory};
 use std::alloc::Global;
@@ -62,6 +62,16 @@ fn run_words<R: Files + Print + Eprint + Input, H: HostCommand>(
         texts.push(word.as_str()).map_err(NoMemory::from)?;
     }
     let given = options(alloc, program, texts.as_slice())?;
+    let Setup {
+        verification,
+        closures,
+        ..
+    } = setup;
+    let setup = Setup {
+        verification,
+        closures,
+        takes_rules: words.len() <= 1,
+    };
     Ok(run_on_system(rt, alloc, setup, given))
 }
 
@@ -90,10 +100,7 @@ pub fn run_program<R: Alloc<A = Global> + Env + Files + Print + Eprint + Input, 
 {
     match run_line(rt, alloc, program, setup) {
         Ok(status) => ExitCode::from(status),
-        Err(OptionsFault::Line(error)) => {
-            let _ = error.print(rt);
-            ExitCode::from(line_status(&error))
-        }
+        Err(OptionsFault::Line(error)) => ExitCode::from(refuse_line(rt, &error)),
         Err(OptionsFault::NoMemory) => without_memory(rt),
     }
 }

@@ -57,7 +57,7 @@ fn codes_of(alloc: Global, verified: Verified) -> Result<Codes, NoMemory> {
 
 fn not_live(failure: Failure<RegistryFault>) -> Failure<Finding> {
     failure.map_fault(|fault| Finding::NotLive {
-        number: fault.number(),
+        number: fault.kind().number(),
     })
 }
 
@@ -70,7 +70,7 @@ pub(crate) fn replace(
 ) -> Result<(), Failure<Finding>> {
     remove(registry, extension);
     if registry.codes(extension).is_some() {
-        let number = RegistryFault::InUse.number();
+        let number = RegistryFault::InUse.kind().number();
         return Err(Failure::Fault(Finding::NotLive { number }));
     }
     match registry.register_code(extension, codes_of(alloc, verified)?) {

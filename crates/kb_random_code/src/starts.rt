@@ -19,7 +19,7 @@ fn spent(outcome: &Outcome<'_>, choice: u16, budget: u64) -> Result<u64, Failure
         End::NoMemory => Err(Failure::NoMemory),
         End::NotFound => Err(Failure::Fault(Finding::NotFound { choice })),
         End::Trap(trap, _, place) => {
-            let number = trap.number();
+            let number = trap.kind().number();
             let place = *place;
             Err(Failure::Fault(Finding::Trapped {
                 choice,

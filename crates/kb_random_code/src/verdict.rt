@@ -47,7 +47,7 @@ fn fault_number(
     trial: &Trial,
     fault: &VerifyFault,
 ) -> Result<u32, Failure<Finding>> {
-    let number = fault.number();
+    let number = fault.kind().number();
     let place = fault.place();
     if place >= trial.draft.code.len() {
         return Err(Failure::Fault(Finding::Outside { number, place }));

@@ -12,7 +12,7 @@ ghost use Rattle.kb_handler_table.specs.Live.{live_in, live_group, caller_of, gr
 ghost use Rattle.kb_code.specs.Face.{same_face};
 ghost use Rattle.kb_code.specs.Handler.{handler_named};
 ghost use Rattle.kb_handler_table.specs.Live.{handlers_of, same_native, user_of};
-ghost use Rattle.kb_registry.specs.Live.{fresh, is_live, live_native, registration_fault, registered};
+ghost use Rattle.kb_registry.specs.Live.{fresh, is_live, registration_fault, registered};
 ghost use Rattle.kb_registry.specs.Live.{holder, disposed, disposal_fault, callee, callee_by, table_of};
 ghost use Rattle.kb_registry.specs.CodeFault.{callee_fault, code_fault, code_disposal_fault, exchange_fault};
 ghost use Rattle.kb_registry.specs.Live.{where_live, with_code, with_exchanged, with_switched, without_code};
@@ -109,8 +109,8 @@ fn place_of<C>(table: &IndexMap<Native, Entry<C>>, ticket: u64) -> Option<usize>
 }
 
 impl<C: HostCommand> Registry<C> {
-    /// An empty registry that allows `limit` registrations. It allocates the table of closures at its
-    /// full size.
+    /// An empty registry that allows `limit` registrations. It allocates the table of closures at its full
+    /// size. Error: `NoMemory`.
     pub fn new(alloc: Global, limit: u64) -> Result<Registry<C>, NoMemory>
         ensures { IfOk result (λ r. r ≡ fresh limit) }
     {
@@ -316,18 +316,6 @@ impl<C: HostCommand> Registry<C> {
         ensures { result ≡ is_some (callee command.now self.now) }
     {
         self.signature(command).is_some()
-    }
-
-    /// The registered closure of the native command with an identifier. `None` if no native command has
-    /// the identifier, or if it has no registered closure.
-    pub fn live_command(&self, command: &str) -> Option<&C>
-        ensures native { option_map (λ c. C.stands_for c.now) result ≡ live_native command.now self.now }
-        ensures live { IfSome result (λ c. IsTrue (is_live (C.stands_for c.now) self.now)) }
-    {
-        match Native::named(command) {
-            Some(native) => self.closure(native),
-            None => None,
-        }
     }
 
     /// The registered closure of a native command, or `None` if it has none.

@@ -1,6 +1,6 @@
 -- A search among the positions of the first keystroke finds what a search among all rules finds.
 use Rattle.std.proofs.Common.{◌≡◌, ◌+◌, ℕ, List, [], ◌∷◌, ◌++◌, Bool, true, false, if◌then◌else◌, length}
-use Rattle.std.proofs.Common.{filter}
+use Rattle.std.proofs.Common.{filter, take, zero, suc}
 use Rattle.std.proofs.Common.{Option, None, Some, refl, ap, sym, ◌∙◌, arith, slice_get, drop, append_assoc}
 use Rattle.std.proofs.Common.{◌&&◌}
 use Rattle.std.specs.Option.{option_or}
@@ -136,3 +136,24 @@ pub end-absent : (p : Rule → Bool) (all : List Rule) (positions above : List �
     → last_where p (rules_at all positions) ≡ last_where p (rules_at all above)
 end-absent p all positions above position e g =
     rw (at-end all positions above position None e g, append-nil (rules_at all above)) refl
+
+-- ---- a search over all rules from the end
+
+-- the rules up to a place, and the one there, if there is one
+up-to : (rules : List Rule) (n : ℕ) → take (suc n) rules ≡ take n rules ++ cons_option (slice_get rules n) []
+up-to [] zero = refl
+up-to [] (suc n) = refl
+up-to (x ∷ xs) zero = refl
+up-to (x ∷ xs) (suc n) = ap (λ (l : List Rule). x ∷ l) (up-to xs n)
+
+pub up-passes : (p : Rule → Bool) (all : List Rule) (l n : ℕ) (rule : Rule) → l ≡ suc n
+    → slice_get all n ≡ Some rule → p rule ≡ true → last_where p (take l all) ≡ Some rule
+up-passes p all l n rule e g h = rw (e, up-to all n, g, last-end p (take n all) rule, h) refl
+
+pub up-fails : (p : Rule → Bool) (all : List Rule) (l n : ℕ) (rule : Rule) → l ≡ suc n
+    → slice_get all n ≡ Some rule → p rule ≡ false → last_where p (take l all) ≡ last_where p (take n all)
+up-fails p all l n rule e g h = rw (e, up-to all n, g, last-end p (take n all) rule, h) refl
+
+pub up-absent : (p : Rule → Bool) (all : List Rule) (l n : ℕ) → l ≡ suc n → slice_get all n ≡ None
+    → last_where p (take l all) ≡ last_where p (take n all)
+up-absent p all l n e g = rw (e, up-to all n, g, append-nil (take n all)) refl

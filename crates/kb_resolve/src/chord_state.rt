@@ -1,15 +1,17 @@
 //! The state of an open chord.
 ghost use Rattle.std.specs.Prelude.{◌≡◌, ◌≢◌, ◌<◌, ◌↔◌, [], ◌∷◌, ◌++◌, length, IfOk, IfErr};
-ghost use Rattle.std.specs.Prelude.{OnOk, OnErr, IsTrue};
+ghost use Rattle.std.specs.Prelude.{OnOk, OnErr, IsTrue, Some};
 ghost use Rattle.kb_context.specs.Scopes.{context};
 ghost use Rattle.kb_keys.specs.Chord.{chord_limit};
 ghost use Rattle.kb_resolve.specs.ChordState.{step, pressed_after};
 ghost use Rattle.kb_resolve.specs.Enablements.{enablement_in};
 ghost use Rattle.kb_resolve.specs.Pressed.{step_of};
-ghost use Rattle.kb_resolve.specs.Resolver.{MayAskPatterns};
+ghost use Rattle.kb_resolve.specs.Resolved.{found_in};
+ghost use Rattle.kb_resolve.specs.Resolver.{MayAskPatterns, resolved};
 
 use crate::enablements::Enablements;
-use crate::pressed::Pressed;
+use crate::found::Found;
+use crate::pressed::{Press, Pressed};
 use crate::resolved::Resolved;
 use crate::resolver::Resolver;
 use kb_base::NoMemory;
@@ -73,17 +75,20 @@ impl ChordState {
     ///   effect (our decision).
     ///
     /// Each press evaluates the clauses and enablements anew, with no regard to their values at earlier
-    /// presses of the chord (our decision). The rule is borrowed. `NoMemory` is that of
-    /// `Resolver::resolve`, and the chord is then unchanged.
+    /// presses of the chord (our decision). The rule is borrowed, and its position is that among the rules
+    /// in force. `NoMemory` is that of `Resolver::resolve`, and the chord is then unchanged.
     pub fn press<'r>(
         &mut self,
         stroke: Keystroke,
         resolver: &'r Resolver,
         scopes: &Scopes,
         enablements: &Enablements,
-    ) -> Result<Pressed<'r>, NoMemory>
-        ensures step { IfOk result (λ pressed. step_of pressed
+    ) -> Result<Press<'r>, NoMemory>
+        ensures step { IfOk result (λ press. step_of press.does
             ≡ step self.old stroke (context scopes.now.seen) (enablement_in enablements.now) resolver.now) }
+        ensures found { IfOk result (λ press. found_in resolver.now press.found
+            ≡ Some (resolved (self.old ++ stroke ∷ []) (context scopes.now.seen)
+            (enablement_in enablements.now) resolver.now)) }
         ensures pressed { OnOk result (self.new
             ≡ pressed_after self.old stroke (context scopes.now.seen) (enablement_in enablements.now)
             resolver.now) }
@@ -96,17 +101,26 @@ impl ChordState {
         let was_open = !self.pressed.is_empty();
         self.pressed.push(stroke);
         match resolver.resolve(self.pressed.as_slice(), scopes, enablements) {
-            Ok(Resolved::Found(rule)) => {
+            Ok(Resolved::Found(placed)) => {
                 self.pressed.clear();
-                Ok(Pressed::Start(rule))
+                Ok(Press {
+                    does: Pressed::Start(placed.rule),
+                    found: Found::At(placed.position),
+                })
             }
-            Ok(Resolved::More) => Ok(Pressed::More),
+            Ok(Resolved::More) => Ok(Press {
+                does: Pressed::More,
+                found: Found::More,
+            }),
             Ok(Resolved::Nothing) => {
                 self.pressed.clear();
-                Ok(if was_open {
-                    Pressed::Left
-                } else {
-                    Pressed::Unbound
+                Ok(Press {
+                    does: if was_open {
+                        Pressed::Left
+                    } else {
+                        Pressed::Unbound
+                    },
+                    found: Found::Nothing,
                 })
             }
             Err(refused) => {

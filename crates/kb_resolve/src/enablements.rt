@@ -46,7 +46,7 @@ fn add_first(
 }
 
 impl Enablements {
-    /// The enablements of contributions, which are in load order.
+    /// The enablements of contributions, which are in load order. Error: `NoMemory`.
     #[tactic(auto, unfolding(crate::specs::Enablements::enablement_in), using(crate::proofs::EnablementLemmas::none_yet))]
     pub fn new(alloc: Global, contributions: Vec<Contribution>) -> Result<Enablements, NoMemory>
         ensures { IfOk result (λ made. enablement_in made ≡ enablement_of contributions.items) }

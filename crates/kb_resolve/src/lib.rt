@@ -7,6 +7,7 @@
 
 pub mod chord_state;
 pub mod enablements;
+pub mod found;
 mod index;
 pub mod pressed;
 pub mod resolved;
@@ -14,6 +15,7 @@ pub mod resolver;
 
 pub use chord_state::ChordState;
 pub use enablements::{Contribution, Enablements};
-pub use pressed::Pressed;
-pub use resolved::Resolved;
+pub use found::Found;
+pub use pressed::{Press, Pressed};
+pub use resolved::{Placed, Resolved};
 pub use resolver::Resolver;

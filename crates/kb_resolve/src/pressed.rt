@@ -1,7 +1,8 @@
 //! The result of a key press.
+use crate::found::Found;
 use kb_rules::Rule;
 
-/// The result of a key press. Contracts see it as the `Step` of `specs/`, which has the rule itself
+/// What a key press does. Contracts see it as the `Step` of `specs/`, which has the rule itself
 /// instead of a reference.
 #[derive(Clone, Copy, Debug)]
 pub enum Pressed<'r> {
@@ -14,4 +15,13 @@ pub enum Pressed<'r> {
     Left,
     /// No rule matches, and no chord was open.
     Unbound,
+}
+
+/// The result of a key press: what it does, and what its search found.
+#[derive(Clone, Copy, Debug)]
+pub struct Press<'r> {
+    /// What the press does.
+    pub does: Pressed<'r>,
+    /// What the search found, without a reference.
+    pub found: Found,
 }

@@ -1,16 +1,17 @@
 //! The search for the rule that matches pressed keystrokes.
-ghost use Rattle.std.specs.Prelude.{◌≡◌, ◌<◌, length, map, option_map, count_by, IfOk, IfErr};
+ghost use Rattle.std.specs.Prelude.{◌≡◌, ◌<◌, length, map, option_map, count_by, slice_get, Some};
+ghost use Rattle.std.specs.Prelude.{IfErr, IfOk, IfSome};
 ghost use Rattle.kb_context.specs.Scopes.{context};
 ghost use Rattle.kb_keys.specs.Chord.{chord_limit};
 ghost use Rattle.kb_resolve.specs.Enablements.{enablement_in};
 ghost use Rattle.kb_resolve.specs.Index.{begins, positions_of, rules_at};
-ghost use Rattle.kb_resolve.specs.Resolved.{more, resolution_of};
+ghost use Rattle.kb_resolve.specs.Resolved.{IsAt, found_in, more, place_of, resolution_of};
 ghost use Rattle.kb_resolve.specs.Resolver.{may_start, matches, chosen, resolved, IsGreatest};
 ghost use Rattle.kb_resolve.specs.Resolver.{HasPatterns, AsksPattern, MayAskPatterns};
 
 use crate::enablements::Enablements;
 use crate::index::Index;
-use crate::resolved::Resolved;
+use crate::resolved::{Placed, Resolved};
 use kb_base::NoMemory;
 use kb_context::Scopes;
 use kb_keys::Keystroke;
@@ -63,6 +64,16 @@ impl Resolver {
         self.set.rules()
     }
 
+    /// The rule in force at this position, counted from 0 at the top, or `None` if there are not as many.
+    pub fn at(&self, position: usize) -> Option<&Rule>
+        ensures { option_map (λ r. r.now) result ≡ slice_get self.now position }
+    {
+        match self.set.at(position) {
+            Some(rule) => Some(rule),
+            None => None,
+        }
+    }
+
     /// The number of rules with this first keystroke: `resolve` looks at no other rules.
     pub fn candidates(&self, stroke: &Keystroke) -> usize
         ensures { result ≡ count_by (λ rule. begins stroke.now rule.chord) self.now }
@@ -85,8 +96,8 @@ impl Resolver {
     /// that the focus sees, and the enablement of its command holds, no matter where the rule comes
     /// from. A missing clause or enablement holds. VS Code's documentation: rules are evaluated from
     /// the bottom to the top, and the first that matches in key and clause is accepted. A rule with the
-    /// empty command is found like any other. The rule is borrowed. `NoMemory` only from a pattern in a
-    /// clause or an enablement (`Clause::holds`).
+    /// empty command is found like any other. The rule is borrowed, with its position among the rules in
+    /// force. `NoMemory` only from a pattern in a clause or an enablement (`Clause::holds`).
     #[tactic(auto, using(crate::proofs::ResolverLemmas::resolved_is_greatest))]
     pub fn resolve<'r>(
         &'r self,
@@ -96,8 +107,10 @@ impl Resolver {
     ) -> Result<Resolved<'r>, NoMemory>
         ensures value { IfOk result (λ found. resolution_of found
             ≡ resolved pressed.now (context scopes.now.seen) (enablement_in enablements.now) self.now) }
+        ensures place { IfOk result (λ found.
+            found_in self.now (place_of found) ≡ Some (resolution_of found)) }
 
-        // The same as `value`, in terms of positions.
+        // The same as `value`, in terms of rules above and below.
         ensures greatest { let keys = context scopes.now.seen in
             let enabled = enablement_in enablements.now in
             IsGreatest pressed.now keys enabled self.now (resolved pressed.now keys enabled self.now) }
@@ -110,13 +123,13 @@ impl Resolver {
         ensures memory { IfErr result (λ _.
             MayAskPatterns pressed.now (context scopes.now.seen) (enablement_in enablements.now) self.now) }
     {
-        let Some(rule) = self.lowest(pressed, scopes, enablements)? else {
+        let Some(placed) = self.lowest(pressed, scopes, enablements)? else {
             return Ok(Resolved::Nothing);
         };
-        if rule.chord.len() > pressed.len() {
+        if placed.rule.chord.len() > pressed.len() {
             return Ok(Resolved::More);
         }
-        Ok(Resolved::Found(rule))
+        Ok(Resolved::Found(placed))
     }
 
     /// The lowest matching rule. The rules with the first pressed keystroke are compared, or all rules if
@@ -126,9 +139,10 @@ impl Resolver {
         pressed: &[Keystroke],
         scopes: &Scopes,
         enablements: &Enablements,
-    ) -> Result<Option<&'r Rule>, NoMemory>
-        ensures value { IfOk result (λ found. option_map (λ rule. rule.now) found
+    ) -> Result<Option<Placed<'r>>, NoMemory>
+        ensures value { IfOk result (λ found. option_map (λ placed. placed.rule.now) found
             ≡ chosen pressed.now (context scopes.now.seen) (enablement_in enablements.now) self.now) }
+        ensures place { IfOk result (λ found. IfSome found (IsAt self.now)) }
         ensures memory { IfErr result (λ _.
             MayAskPatterns pressed.now (context scopes.now.seen) (enablement_in enablements.now) self.now) }
     {
@@ -140,7 +154,7 @@ impl Resolver {
                 scopes,
                 enablements,
             ),
-            None => lowest(self.set.rules(), pressed, scopes, enablements),
+            None => lowest_of(&self.set, pressed, scopes, enablements),
         }
     }
 }
@@ -152,40 +166,46 @@ fn lowest_at<'r>(
     pressed: &[Keystroke],
     scopes: &Scopes,
     enablements: &Enablements,
-) -> Result<Option<&'r Rule>, NoMemory>
-    ensures value { IfOk result (λ found. option_map (λ rule. rule.now) found
+) -> Result<Option<Placed<'r>>, NoMemory>
+    ensures value { IfOk result (λ found. option_map (λ placed. placed.rule.now) found
         ≡ chosen pressed.now (context scopes.now.seen) (enablement_in enablements.now)
         (rules_at set.now positions.now)) }
+    ensures place { IfOk result (λ found. IfSome found (IsAt set.now)) }
     ensures memory { IfErr result (λ _.
         MayAskPatterns pressed.now (context scopes.now.seen) (enablement_in enablements.now) set.now) }
 {
     for position in positions.iter().rev() {
-        if let Some(rule) = set.at(*position as usize) {
+        let place = *position as usize;
+        if let Some(rule) = set.at(place) {
             if matches(rule, pressed, scopes, enablements)? {
-                return Ok(Some(rule));
+                return Ok(Some(Placed {
+                    position: place,
+                    rule,
+                }));
             }
         }
     }
     Ok(None)
 }
 
-/// The lowest matching rule.
-fn lowest<'r>(
-    rules: &'r [Rc<Rule>],
+/// The last matching rule of all.
+fn lowest_of<'r>(
+    set: &'r RuleSet,
     pressed: &[Keystroke],
     scopes: &Scopes,
     enablements: &Enablements,
-) -> Result<Option<&'r Rule>, NoMemory>
-    ensures value { IfOk result (λ found. option_map (λ rule. rule.now) found
-        ≡ chosen pressed.now (context scopes.now.seen) (enablement_in enablements.now)
-        (map (λ r. r.value) rules.now)) }
+) -> Result<Option<Placed<'r>>, NoMemory>
+    ensures value { IfOk result (λ found. option_map (λ placed. placed.rule.now) found
+        ≡ chosen pressed.now (context scopes.now.seen) (enablement_in enablements.now) set.now) }
+    ensures place { IfOk result (λ found. IfSome found (IsAt set.now)) }
     ensures memory { IfErr result (λ _.
-        MayAskPatterns pressed.now (context scopes.now.seen) (enablement_in enablements.now)
-        (map (λ r. r.value) rules.now)) }
+        MayAskPatterns pressed.now (context scopes.now.seen) (enablement_in enablements.now) set.now) }
 {
-    for rule in rules.iter().rev() {
-        if matches(rule, pressed, scopes, enablements)? {
-            return Ok(Some(rule));
+    for position in (0..set.rules().len()).rev() {
+        if let Some(rule) = set.at(position) {
+            if matches(rule, pressed, scopes, enablements)? {
+                return Ok(Some(Placed { position, rule }));
+            }
         }
     }
     Ok(None)

@@ -1,17 +1,20 @@
--- No fault of an element has the number of the warning of an unread pattern, so that each element is kept
--- once or has one warning of its fault.
-use Rattle.std.proofs.Common.{◌≡◌, ℕ, ◌+◌, ◌==◌, suc, List, [], ◌∷◌, Bool, true, false, not, length}
+-- No fault of an element is the warning of an unread pattern, so that each element is kept once or has one
+-- warning of its fault.
+use Rattle.std.proofs.Common.{◌≡◌, ℕ, ◌+◌, suc, List, [], ◌∷◌, Bool, true, false, not, length}
 use Rattle.std.proofs.Common.{filter, cond}
 use Rattle.std.proofs.Common.{Option, Some, None, Result, Ok, Err, refl, arith}
 use Rattle.std.specs.List.{list_all, cons_option}
 use Rattle.serde_json.specs.Data.{Data}
 use Rattle.serde_json.specs.Find.{as_object}
 use Rattle.kb_base.specs.Blank.{is_blank}
+use Rattle.kb_base.specs.Fault.{is_unread_pattern}
 use Rattle.kb_base.specs.Reading.{◌>>=◌, or_fault, seen}
-use Rattle.kb_json.specs.FileFault as file
-use Rattle.kb_json.specs.Member as json
-use Rattle.kb_json.specs.declared.fault.FileFault.{FileFault}
-use Rattle.kb_json.specs.declared.fault.FileFault.TheVariants.{MissingMember, WrongShape}
+use Rattle.kb_base.specs.declared.fault.FaultKind.{FaultKind}
+use Rattle.kb_base.specs.declared.fault.FaultKind.TheVariants as kind
+use Rattle.kb_jsonc.specs.FileFault as file
+use Rattle.kb_jsonc.specs.Member as json
+use Rattle.kb_jsonc.specs.declared.file_fault.FileFault.{FileFault}
+use Rattle.kb_jsonc.specs.declared.file_fault.FileFault.TheVariants.{MissingMember, WrongShape}
 use Rattle.kb_keys.specs.KeyFault as key
 use Rattle.kb_keys.specs.declared.key_fault.KeyFault.{KeyFault}
 use Rattle.kb_keys.specs.declared.key_fault.KeyFault.TheVariants.{UnknownKey, TooManySteps, EmptyKey}
@@ -31,43 +34,44 @@ use Rattle.kb_base.specs.declared.note.EntryPattern.{EntryPattern}
 use Rattle.kb_base.specs.declared.note.Part.TheVariants.{Keybindings}
 use Rattle.kb_base.specs.declared.note.Warning.{Warning}
 use Rattle.kb_when.specs.Placed.{marks_at}
-use Rattle.kb_rules.specs.Entry.{by_number, text_of, required_text, removed_command, chord_in, keystrokes_of}
+use Rattle.kb_rules.specs.Entry.{by_kind, text_of, required_text, removed_command, chord_in, keystrokes_of}
 use Rattle.kb_rules.specs.Entry.{removed_keystrokes_of, when_of, condition_of, args_of, bound_to, binding_of}
 use Rattle.kb_rules.specs.Entry.{terms_of, element_of, entry_of, Found}
 use Rattle.kb_rules.specs.RuleList.{warning_at, warning_of_unread, collected, read_of}
-use Rattle.kb_rules.specs.RuleList.{Listed, dropped_in}
+use Rattle.kb_rules.specs.RuleList.{Listed, dropped_in, is_dropped}
 use Rattle.kb_rules.specs.Unread.{marked_entry, unread_in}
 use Rattle.kb_rules.specs.Whole.{is_whole}
 
--- a fault, if there is one, has another number
-abbrev IsOther : {X : Type 0} → Result X ℕ → Type 0
+-- a fault, if there is one, is another one
+abbrev IsOther : {X : Type 0} → Result X FaultKind → Type 0
 IsOther (Ok x) = Unit {0}
-IsOther (Err number) = (number == 34) ≡ false
+IsOther (Err fault) = is_unread_pattern fault ≡ false
 
-bind : {X Y : Type 0} (read : Result X ℕ) (f : X → Result Y ℕ) → IsOther read → ((x : X) → IsOther (f x))
+bind : {X Y : Type 0} (read : Result X FaultKind) (f : X → Result Y FaultKind) → IsOther read → ((x : X) → IsOther (f x))
     → IsOther (read >>= f)
 bind (Ok x) f h k = k x
-bind (Err number) f h k = h
+bind (Err fault) f h k = h
 
--- a fault of another number, where there is nothing
-or_other : {X : Type 0} (number : ℕ) (o : Option X) → (number == 34) ≡ false → IsOther (or_fault number o)
-or_other number None h = h
-or_other number (Some x) h = tt
+-- another fault, where there is nothing
+or_other : {X : Type 0} (fault : FaultKind) (o : Option X) → is_unread_pattern fault ≡ false
+    → IsOther (or_fault fault o)
+or_other fault None h = h
+or_other fault (Some x) h = tt
 
-key_other : (read : Result (List Keystroke) KeyFault) → IsOther (by_number key.number_of read)
+key_other : (read : Result (List Keystroke) KeyFault) → IsOther (by_kind key.kind_of read)
 key_other (Ok x) = tt
 key_other (Err UnknownKey) = refl
 key_other (Err TooManySteps) = refl
 key_other (Err EmptyKey) = refl
 
-when_other : (read : Result Clause WhenFault) → IsOther (by_number when.number_of read)
+when_other : (read : Result Clause WhenFault) → IsOther (by_kind when.kind_of read)
 when_other (Ok x) = tt
 when_other (Err BadToken) = refl
 when_other (Err Unexpected) = refl
 when_other (Err TooDeep) = refl
 when_other (Err BadNumber) = refl
 
-file_other : {X : Type 0} (read : Result X FileFault) → IsOther (by_number file.number_of read)
+file_other : {X : Type 0} (read : Result X FileFault) → IsOther (by_kind file.kind_of read)
 file_other (Ok x) = tt
 file_other (Err MissingMember) = refl
 file_other (Err WrongShape) = refl
@@ -102,7 +106,7 @@ binding_other command key =
     bind (required_text command) (λ text. bound_to text (removed_command text) key) (required_other command)
     (λ text. bound_other text (removed_command text) key)
 
-if_other : {X : Type 0} (b : Bool) (one other : Result X ℕ) → IsOther one → IsOther other
+if_other : {X : Type 0} (b : Bool) (one other : Result X FaultKind) → IsOther one → IsOther other
     → IsOther (cond b one other)
 if_other true one other h k = h
 if_other false one other h k = k
@@ -111,8 +115,8 @@ clause_other : (text : List ℕ) → IsOther (when_of text)
 unfolding when_of
 clause_other text =
     if_other (list_all is_blank text) (Ok None)
-    (by_number when.number_of (clause_in text) >>= λ clause. Ok (Some clause)) tt
-    (bind (by_number when.number_of (clause_in text)) (λ clause. Ok (Some clause))
+    (by_kind when.kind_of (clause_in text) >>= λ clause. Ok (Some clause)) tt
+    (bind (by_kind when.kind_of (clause_in text)) (λ clause. Ok (Some clause))
     (when_other (clause_in text))
     (λ clause. tt))
 
@@ -124,7 +128,7 @@ condition_other (Some d) = bind (text_of d) when_of (text_other d) clause_other
 args_other : (member : Option Data) → IsOther (args_of member)
 unfolding args_of
 args_other None = tt
-args_other (Some args) = if_other (is_whole args) (Ok (Some args)) (Err 41) tt refl
+args_other (Some args) = if_other (is_whole args) (Ok (Some args)) (Err kind.WrongShape) tt refl
 
 terms_other : (when args : Option Data) → IsOther (terms_of when args)
 unfolding terms_of
@@ -141,35 +145,33 @@ element_other origin place found =
 entry_other : (origin : Origin) (platform : Option Platform) (place : ℕ) (d : Data)
     → IsOther (entry_of origin platform place d)
 entry_other origin platform place d =
-    bind (or_fault 41 (as_object d)) _ (or_other 41 (as_object d) refl)
+    bind (or_fault kind.WrongShape (as_object d)) _ (or_other kind.WrongShape (as_object d) refl)
     (λ members. element_other origin place _)
 
-marked_other : (unread : List UnreadPattern) (read : Result Entry ℕ) → IsOther read
+marked_other : (unread : List UnreadPattern) (read : Result Entry FaultKind) → IsOther read
     → IsOther (seen (marked_entry unread) read)
 marked_other unread (Ok entry) h = tt
-marked_other unread (Err number) h = h
+marked_other unread (Err fault) h = h
 
 -- ---- each element counts once
-
-abbrev is_fault : Warning → Bool
-is_fault warning = not (warning.number == 34)
 
 -- how many elements the list has, kept and dropped
 abbrev pub count : Listed → ℕ
 count list = length list.rules + length list.removals + length (dropped_in list)
 
 unread_passed : (origin : Origin) (place : ℕ) (unread : List UnreadPattern) (warnings : List Warning)
-    → filter is_fault (cons_option (warning_of_unread origin place unread) warnings)
-    ≡ filter is_fault warnings
+    → filter is_dropped (cons_option (warning_of_unread origin place unread) warnings)
+    ≡ filter is_dropped warnings
 unread_passed origin place [] warnings = refl
 unread_passed origin place (u ∷ us) warnings = refl
 
-fault_counted : (origin : Origin) (place number : ℕ) (warnings : List Warning) → (number == 34) ≡ false
-    → length (filter is_fault (warning_at origin place number ∷ warnings))
-    ≡ suc (length (filter is_fault warnings))
-fault_counted origin place number warnings h = rw h refl
+fault_counted : (origin : Origin) (place : ℕ) (fault : FaultKind) (warnings : List Warning)
+    → is_unread_pattern fault ≡ false
+    → length (filter is_dropped (warning_at origin place fault ∷ warnings))
+    ≡ suc (length (filter is_dropped warnings))
+fault_counted origin place fault warnings h = rw h refl
 
-counted_step : (origin : Origin) (place rest : ℕ) (read : Result Entry ℕ) (more : List (ℕ × Result Entry ℕ))
+counted_step : (origin : Origin) (place rest : ℕ) (read : Result Entry FaultKind) (more : List (ℕ × Result Entry FaultKind))
     → IsOther read → count (collected origin more) ≡ rest
     → count (collected origin ((place, read) ∷ more)) ≡ suc rest
 counted_step origin place rest (Ok (Starts rule)) more o h =
@@ -180,9 +182,9 @@ counted_step origin place rest (Ok (Removes removal)) more o h =
     let list = collected origin more in
     let same = unread_passed origin place (unread_in (Removes removal)) list.warnings in
     rw same (omega (arith, h))
-counted_step origin place rest (Err number) more o h =
+counted_step origin place rest (Err fault) more o h =
     let list = collected origin more in
-    rw (fault_counted origin place number list.warnings o) (omega (arith, h))
+    rw (fault_counted origin place fault list.warnings o) (omega (arith, h))
 
 pub counted : (unread : List EntryPattern) (origin : Origin) (platform : Option Platform) (start : ℕ)
     (elements : List Data)

@@ -9,6 +9,7 @@ use Rattle.std.proofs.lemmas.List.{append-nil, length-append, take-append-drop, 
 use Rattle.std.proofs.Math.Seq.{take-add}
 use Rattle.std.proofs.lemmas.List.Elements.{filter_map-append}
 use Rattle.serde_json.specs.Data.{Data}
+use Rattle.kb_base.specs.declared.fault.FaultKind.{FaultKind}
 use Rattle.kb_base.specs.Reading.{seen}
 use Rattle.kb_keys.specs.declared.platform.Platform.{Platform}
 use Rattle.kb_when.specs.Marks.{MarkedClause}
@@ -21,7 +22,7 @@ use Rattle.kb_base.specs.declared.note.EntryPattern.{EntryPattern}
 use Rattle.kb_rules.specs.Entry.{entry_of}
 use Rattle.kb_rules.specs.RuleList.{Listed, rule_in, removal_in, warning_in, unread_at, collected, read_of}
 use Rattle.kb_rules.specs.RuleList.{listed}
-use Rattle.kb_rules.specs.RuleList.{no_elements, with_read, IsWhole, IsRight, AreRightlyMarked}
+use Rattle.kb_rules.specs.RuleList.{no_elements, with_read, with_rule, IsWhole, IsRight, AreRightlyMarked}
 use Rattle.kb_rules.specs.Unread.{marked_when, marked_entry, unread_in, IsRightlyMarked}
 use Rattle.kb_rules.specs.declared.removal.Removal.{Removal}
 use Rattle.kb_rules.specs.declared.rule.Rule.{Rule}
@@ -45,10 +46,10 @@ marks_at-below : (o : Origin) (place : ℕ) (unread : List EntryPattern) → Bel
     → marks_at o Keybindings unread place ≡ []
 marks_at-below o place unread h = marks_at-none o Keybindings place unread (all_below o place unread h)
 
-marks_at-other_read : (o : Origin) (place other : ℕ) (read : Result Entry ℕ) → (other ≡ place → ⊥)
+marks_at-other_read : (o : Origin) (place other : ℕ) (read : Result Entry FaultKind) → (other ≡ place → ⊥)
     → marks_at o Keybindings (unread_at o other read) place ≡ []
 marks_at-other_read o place other (Ok entry) h = marks_at-elsewhere o Keybindings place other (unread_in entry) h
-marks_at-other_read o place other (Err number) h = refl
+marks_at-other_read o place other (Err kind) h = refl
 
 -- ---- marks in the place of others
 
@@ -74,21 +75,21 @@ below-placed : (o : Origin) (n : ℕ) (unread : List UnreadPattern) → Below (n
 below-placed o n [] = tt
 below-placed o n (u ∷ us) = (omega arith, below-placed o n us)
 
-below-read : (o : Origin) (n : ℕ) (read : Result Entry ℕ) → Below (n + 1) (unread_at o n read)
+below-read : (o : Origin) (n : ℕ) (read : Result Entry FaultKind) → Below (n + 1) (unread_at o n read)
 below-read o n (Ok entry) = below-placed o n (unread_in entry)
-below-read o n (Err number) = tt
+below-read o n (Err kind) = tt
 
-right_rule : (read : Result Entry ℕ) → IsRight read
+right_rule : (read : Result Entry FaultKind) → IsRight read
     → AllByRecursion (λ rule. IsRightlyMarked rule.when) (option_to_list (rule_in read))
 right_rule (Ok (Starts rule)) h = (h, tt)
 right_rule (Ok (Removes removal)) h = tt
-right_rule (Err number) h = tt
+right_rule (Err kind) h = tt
 
-right_removal : (read : Result Entry ℕ) → IsRight read
+right_removal : (read : Result Entry FaultKind) → IsRight read
     → AllByRecursion (λ removal. IsRightlyMarked removal.when) (option_to_list (removal_in read))
 right_removal (Ok (Starts rule)) h = tt
 right_removal (Ok (Removes removal)) h = (h, tt)
-right_removal (Err number) h = tt
+right_removal (Err kind) h = tt
 
 -- ---- one element more
 
@@ -96,26 +97,26 @@ as_list : {X : Type 0} (o : Option X) → cons_option o [] ≡ option_to_list o
 as_list None = refl
 as_list (Some x) = refl
 
-collected-append : (origin : Origin) (read : List (ℕ × Result Entry ℕ)) (place : ℕ) (more : Result Entry ℕ)
+collected-append : (origin : Origin) (read : List (ℕ × Result Entry FaultKind)) (place : ℕ) (more : Result Entry FaultKind)
     → collected origin (read ++ (place, more) ∷ []) ≡ with_read origin place more (collected origin read)
 collected-append origin read place more = λ i. record {
   rules = (filter_map-append (λ r. rule_in r.1) read ((place, more) ∷ [])
-      ∙ ap (λ xs. filter_map (λ (r : ℕ × Result Entry ℕ). rule_in r.1) read ++ xs)
+      ∙ ap (λ xs. filter_map (λ (r : ℕ × Result Entry FaultKind). rule_in r.1) read ++ xs)
       (as_list (rule_in more))) i;
   removals = (filter_map-append (λ r. removal_in r.1) read ((place, more) ∷ [])
-      ∙ ap (λ xs. filter_map (λ (r : ℕ × Result Entry ℕ). removal_in r.1) read ++ xs)
+      ∙ ap (λ xs. filter_map (λ (r : ℕ × Result Entry FaultKind). removal_in r.1) read ++ xs)
       (as_list (removal_in more))) i;
   warnings = (filter_map-append (λ r. warning_in origin r.0 r.1) read ((place, more) ∷ [])
-      ∙ ap (λ xs. filter_map (λ (r : ℕ × Result Entry ℕ). warning_in origin r.0 r.1) read ++ xs)
+      ∙ ap (λ xs. filter_map (λ (r : ℕ × Result Entry FaultKind). warning_in origin r.0 r.1) read ++ xs)
       (as_list (warning_in origin place more))) i;
   unread = (flat_map-append (λ r. unread_at origin r.0 r.1) read ((place, more) ∷ [])
-      ∙ ap (λ xs. flat_map (λ (r : ℕ × Result Entry ℕ). unread_at origin r.0 r.1) read ++ xs)
+      ∙ ap (λ xs. flat_map (λ (r : ℕ × Result Entry FaultKind). unread_at origin r.0 r.1) read ++ xs)
       (append-nil (unread_at origin place more))) i;
 }
 
 module _ (origin : Origin) (platform : Option Platform) where
   -- what an element is, with its place
-  abbrev element : List EntryPattern → ℕ → Data → ℕ × Result Entry ℕ
+  abbrev element : List EntryPattern → ℕ → Data → ℕ × Result Entry FaultKind
   element unread place d =
       (place, seen (marked_entry (marks_at origin Keybindings unread place)) (entry_of origin platform place d))
 
@@ -150,7 +151,7 @@ module _ (origin : Origin) (platform : Option Platform) where
     pub right : AreRightlyMarked list
 
   -- the marks of what was read are among those of the list
-  own_marks : (unread : List EntryPattern) (place : ℕ) (d : Data) (read : Result Entry ℕ)
+  own_marks : (unread : List EntryPattern) (place : ℕ) (d : Data) (read : Result Entry FaultKind)
       → marks_at origin Keybindings unread place ≡ []
       → entry_of origin platform place d ≡ seen (marked_entry []) read → IsWhole read
       → element (unread ++ unread_at origin place read) place d ≡ (place, read)
@@ -160,10 +161,10 @@ module _ (origin : Origin) (platform : Option Platform) where
       marks_at-append origin Keybindings unread (placed origin Keybindings place own) place
       ∙ (λ i. none i ++ marks_at-placed origin Keybindings place own i) in
       rw (e, marks) (ap (λ own. (place, Ok own)) (marked_again own entry ∙ w))
-  own_marks unread place d (Err number) none e w = rw e refl
+  own_marks unread place d (Err kind) none e w = rw e refl
 
   -- the list with one more element
-  pub reads_next : (list : Listed) (place : ℕ) (done : List Data) (d : Data) (read : Result Entry ℕ)
+  pub reads_next : (list : Listed) (place : ℕ) (done : List Data) (d : Data) (read : Result Entry FaultKind)
       → Reads list place done
       → entry_of origin platform place d ≡ seen (marked_entry []) read → IsWhole read → IsRight read
       → Reads (with_read origin place read list) (place + 1) (done ++ d ∷ [])
@@ -209,13 +210,22 @@ module _ (origin : Origin) (platform : Option Platform) where
       ap (collected origin)
       (read_of-same one other (length elements) 0 elements (omega arith) (λ place below. same place))
 
+-- ---- one rule more
+
+pub right_with_rule : (rule : Rule) (list : Listed) → IsRightlyMarked rule.when → AreRightlyMarked list
+    → AreRightlyMarked (with_rule rule list)
+right_with_rule rule list one all = (
+  all-append (λ (rule : Rule). IsRightlyMarked rule.when) list.rules (rule ∷ []) all.0 (one, tt),
+  all.1,
+)
+
 -- ---- the unread patterns of a list are of its own elements
 
-of_read : (o : Origin) (place : ℕ) (read : Result Entry ℕ) → AllOf o Keybindings (unread_at o place read)
+of_read : (o : Origin) (place : ℕ) (read : Result Entry FaultKind) → AllOf o Keybindings (unread_at o place read)
 of_read o place (Ok entry) = all_of-placed o Keybindings place (unread_in entry)
-of_read o place (Err number) = tt
+of_read o place (Err kind) = tt
 
-of_all : (o : Origin) (read : List (ℕ × Result Entry ℕ))
+of_all : (o : Origin) (read : List (ℕ × Result Entry FaultKind))
     → AllOf o Keybindings (flat_map (λ r. unread_at o r.0 r.1) read)
 of_all o [] = tt
 of_all o (r ∷ rs) =

@@ -1,14 +1,16 @@
--- The rule or the removal that an element of a list of rules is, or the number of its first fault.
+-- The rule or the removal that an element of a list of rules is, or its first fault.
 use Rattle.std.specs.Prelude.{ℕ, ◌==◌, List, [], ◌∷◌, Option, None, Some, Result, Ok, Err, if◌then◌else◌}
 use Rattle.std.specs.Prelude.{codes, option_map}
 use Rattle.std.specs.Option.{option_or}
 use Rattle.std.specs.List.{list_all}
 use Rattle.kb_base.specs.Blank.{is_blank}
 use Rattle.kb_base.specs.Reading.{◌>>=◌, or_fault, or_default, unless}
+use Rattle.kb_base.specs.declared.fault.FaultKind.{FaultKind}
+use Rattle.kb_base.specs.declared.fault.FaultKind.TheVariants as kind
 use Rattle.kb_base.specs.declared.failure.Failure.{Failure}
 use Rattle.kb_base.specs.declared.failure.Failure.TheVariants.{NoMemory, Fault}
-use Rattle.kb_json.specs.FileFault as file
-use Rattle.kb_json.specs.Member as json
+use Rattle.kb_jsonc.specs.FileFault as file
+use Rattle.kb_jsonc.specs.Member as json
 use Rattle.kb_keys.specs.KeyFault as key
 use Rattle.kb_keys.specs.declared.keystroke.Keystroke.{Keystroke}
 use Rattle.kb_keys.specs.declared.platform.Platform.{Platform}
@@ -31,25 +33,25 @@ use Rattle.kb_rules.specs.declared.entry.Parts.{Parts}
 use Rattle.kb_base.specs.declared.note.Origin.{Origin}
 use Rattle.kb_rules.specs.Whole.{is_whole}
 
--- the same reading, with its fault by the fault's number
-abbrev pub by_number : {F X : Type 0} → (F → ℕ) → Result X F → Result X ℕ
-by_number number_of (Ok x) = Ok x
-by_number number_of (Err fault) = Err (number_of fault)
+-- the same reading, with the kind of its fault
+abbrev pub by_kind : {F X : Type 0} → (F → FaultKind) → Result X F → Result X FaultKind
+by_kind kind_of (Ok x) = Ok x
+by_kind kind_of (Err fault) = Err (kind_of fault)
 
 -- the same of a failure
-abbrev pub failure_by_number : Failure WhenFault → Failure ℕ
-failure_by_number NoMemory = NoMemory
-failure_by_number (Fault fault) = Fault (when.number_of fault)
+abbrev pub failure_by_kind : Failure WhenFault → Failure FaultKind
+failure_by_kind NoMemory = NoMemory
+failure_by_kind (Fault fault) = Fault (when.kind_of fault)
 
 -- ---- the members, each of which may be absent: 40 where one has to be there, 41 where it has another shape
 
 -- the text that a value is
-abbrev pub text_of : Data → Result (List ℕ) ℕ
-text_of d = by_number file.number_of (json.text_of d)
+abbrev pub text_of : Data → Result (List ℕ) FaultKind
+text_of d = by_kind file.kind_of (json.text_of d)
 
 -- the text of a member that must be there
-abbrev pub required_text : Option Data → Result (List ℕ) ℕ
-required_text member = by_number file.number_of (json.required_text member)
+abbrev pub required_text : Option Data → Result (List ℕ) FaultKind
+required_text member = by_kind file.kind_of (json.required_text member)
 
 -- the command that a removal names: the text after the `-`
 abbrev pub removed_command : List ℕ → Option (List ℕ)
@@ -57,30 +59,30 @@ removed_command [] = None
 removed_command (byte ∷ bytes) = if byte == 45 then Some bytes else None
 
 -- the keystrokes of a text
-abbrev pub chord_in : List ℕ → Result (List Keystroke) ℕ
-chord_in text = by_number key.number_of (chord_of text)
+abbrev pub chord_in : List ℕ → Result (List Keystroke) FaultKind
+chord_in text = by_kind key.kind_of (chord_of text)
 
-unfoldable pub keystrokes_of : Option Data → Result (List Keystroke) ℕ
+unfoldable pub keystrokes_of : Option Data → Result (List Keystroke) FaultKind
 keystrokes_of member = required_text member >>= chord_in
 
 -- those of a removal, which may have none
-unfoldable pub removed_keystrokes_of : Option Data → Result (Option (List Keystroke)) ℕ
+unfoldable pub removed_keystrokes_of : Option Data → Result (Option (List Keystroke)) FaultKind
 removed_keystrokes_of member =
     or_default None (λ d. text_of d >>= λ text. chord_in text >>= λ keys. Ok (Some keys)) member
 
 -- a text that is empty, or white space alone, is no clause
-unfoldable pub when_of : List ℕ → Result (Option Clause) ℕ
+unfoldable pub when_of : List ℕ → Result (Option Clause) FaultKind
 when_of text =
     if list_all is_blank text then Ok None
-    else by_number when.number_of (clause_in text) >>= λ clause. Ok (Some clause)
+    else by_kind when.kind_of (clause_in text) >>= λ clause. Ok (Some clause)
 
 -- the condition, if there is one
-unfoldable pub condition_of : Option Data → Result (Option Clause) ℕ
+unfoldable pub condition_of : Option Data → Result (Option Clause) FaultKind
 condition_of member = or_default None (λ d. text_of d >>= when_of) member
 
 -- the arguments, if there are any: each number is whole within i64
-unfoldable pub args_of : Option Data → Result (Option Data) ℕ
-args_of member = or_default None (λ args. unless 41 (is_whole args) (Some args)) member
+unfoldable pub args_of : Option Data → Result (Option Data) FaultKind
+args_of member = or_default None (λ args. unless kind.WrongShape (is_whole args) (Some args)) member
 
 -- ---- the whole element
 
@@ -115,16 +117,16 @@ found_of parts = record {
 }
 
 -- the command and its keystrokes, in this order
-abbrev pub bound_to : List ℕ → Option (List ℕ) → Option Data → Result Binding ℕ
+abbrev pub bound_to : List ℕ → Option (List ℕ) → Option Data → Result Binding FaultKind
 bound_to command None key = keystrokes_of key >>= λ keys. Ok (binding.Starts command keys)
 bound_to command (Some removed) key =
     removed_keystrokes_of key >>= λ keys. Ok (binding.Removes removed keys)
 
-unfoldable pub binding_of : Option Data → Option Data → Result Binding ℕ
+unfoldable pub binding_of : Option Data → Option Data → Result Binding FaultKind
 binding_of command key = required_text command >>= λ text. bound_to text (removed_command text) key
 
 -- the condition and the arguments, in this order
-unfoldable pub terms_of : Option Data → Option Data → Result (Option Clause × Option Data) ℕ
+unfoldable pub terms_of : Option Data → Option Data → Result (Option Clause × Option Data) FaultKind
 terms_of when args = do
   condition ← condition_of when
   arguments ← args_of args
@@ -144,20 +146,23 @@ made origin place (binding.Removes command keys) condition arguments = entry.Rem
   command = command;
   chord = keys;
   when = condition;
+  origin = origin;
+  place = place;
 })
 
 -- the same of what was read of the condition and the arguments, with all patterns read
-abbrev pub completed : Origin → ℕ → Binding → Result (Option Clause × Option Data) ℕ → Result Entry ℕ
+abbrev pub completed : Origin → ℕ → Binding → Result (Option Clause × Option Data) FaultKind
+    → Result Entry FaultKind
 completed origin place bound terms =
     terms >>= λ terms. Ok (made origin place bound (option_map (marked_by []) terms.0) terms.1)
 
 -- the same of the members; the faults come in this order
-unfoldable pub element_of : Origin → ℕ → Found → Result Entry ℕ
+unfoldable pub element_of : Origin → ℕ → Found → Result Entry FaultKind
 element_of origin place found =
     binding_of found.command found.key
     >>= λ bound. completed origin place bound (terms_of found.when found.args)
 
--- what the element at a place is, with all patterns read, or the number of its first fault
-abbrev pub entry_of : Origin → Option Platform → ℕ → Data → Result Entry ℕ
+-- what the element at a place is, with all patterns read, or its first fault
+abbrev pub entry_of : Origin → Option Platform → ℕ → Data → Result Entry FaultKind
 entry_of origin platform place d =
-    or_fault 41 (as_object d) >>= λ members. element_of origin place (found_in platform members)
+    or_fault kind.WrongShape (as_object d) >>= λ members. element_of origin place (found_in platform members)

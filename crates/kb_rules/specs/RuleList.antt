@@ -1,11 +1,14 @@
 -- What the elements of a list of rules give: each that can be read is a rule or a removal, and each other
 -- has a warning of its first fault.
-use Rattle.std.specs.Prelude.{◌≡◌, ℕ, ◌+◌, ◌==◌, List, [], ◌∷◌, ◌++◌, not, filter, Option, Some, None}
+use Rattle.std.specs.Prelude.{◌≡◌, ℕ, ◌+◌, ◌==◌, Bool, List, [], ◌∷◌, ◌++◌, not, filter, Option, Some, None}
 use Rattle.std.specs.Prelude.{Result, Ok, Err, option_to_list, alloc_error}
 use Rattle.std.specs.declared.alloc.AllocError.{AllocError}
 use Rattle.std.specs.List.{filter_map, flat_map, AllByRecursion}
 use Rattle.serde_json.specs.Data.{Data}
 use Rattle.kb_base.specs.Reading.{seen}
+use Rattle.kb_base.specs.Fault.{is_unread_pattern}
+use Rattle.kb_base.specs.declared.fault.FaultKind.{FaultKind}
+use Rattle.kb_base.specs.declared.fault.FaultKind.TheVariants as kind
 use Rattle.kb_base.specs.declared.failure.Failure.{Failure}
 use Rattle.kb_base.specs.declared.failure.Failure.TheVariants.{NoMemory, Fault}
 use Rattle.kb_base.specs.declared.note.Origin.{Origin}
@@ -34,38 +37,38 @@ abbrev pub no_elements : Listed
 no_elements = record { rules = []; removals = []; warnings = []; unread = [] }
 
 -- the rule that was read, if one was
-abbrev pub rule_in : Result Entry ℕ → Option Rule
+abbrev pub rule_in : Result Entry FaultKind → Option Rule
 rule_in (Ok (Starts rule)) = Some rule
 rule_in (Ok (Removes removal)) = None
-rule_in (Err number) = None
+rule_in (Err kind) = None
 
 -- the removal that was read, if one was
-abbrev pub removal_in : Result Entry ℕ → Option Removal
+abbrev pub removal_in : Result Entry FaultKind → Option Removal
 removal_in (Ok (Starts rule)) = None
 removal_in (Ok (Removes removal)) = Some removal
-removal_in (Err number) = None
+removal_in (Err kind) = None
 
 -- a warning about the element at a place
-abbrev pub warning_at : Origin → ℕ → ℕ → Warning
-warning_at origin place number =
-    record { origin = origin; part = Keybindings; number = number; place = place }
+abbrev pub warning_at : Origin → ℕ → FaultKind → Warning
+warning_at origin place kind =
+    record { origin = origin; part = Keybindings; kind = kind; place = place }
 
 -- the warning about a rule or a removal with these unread patterns
 abbrev pub warning_of_unread : Origin → ℕ → List UnreadPattern → Option Warning
 warning_of_unread origin place [] = None
-warning_of_unread origin place (pattern ∷ unread) = Some (warning_at origin place 34)
+warning_of_unread origin place (pattern ∷ unread) = Some (warning_at origin place kind.UnreadPattern)
 
 -- the warning about the element at a place: it has an unread pattern, or it is dropped
-abbrev pub warning_in : Origin → ℕ → Result Entry ℕ → Option Warning
+abbrev pub warning_in : Origin → ℕ → Result Entry FaultKind → Option Warning
 warning_in origin place (Ok entry) = warning_of_unread origin place (unread_in entry)
-warning_in origin place (Err number) = Some (warning_at origin place number)
+warning_in origin place (Err kind) = Some (warning_at origin place kind)
 
-abbrev pub unread_at : Origin → ℕ → Result Entry ℕ → List EntryPattern
+abbrev pub unread_at : Origin → ℕ → Result Entry FaultKind → List EntryPattern
 unread_at origin place (Ok entry) = placed origin Keybindings place (unread_in entry)
-unread_at origin place (Err number) = []
+unread_at origin place (Err kind) = []
 
 -- the list of what was read, each with its place
-abbrev pub collected : Origin → List (ℕ × Result Entry ℕ) → Listed
+abbrev pub collected : Origin → List (ℕ × Result Entry FaultKind) → Listed
 collected origin read = record {
   rules = filter_map (λ r. rule_in r.1) read;
   removals = filter_map (λ r. removal_in r.1) read;
@@ -74,7 +77,8 @@ collected origin read = record {
 }
 
 -- what each of the elements is, with its place, counted from a number, and with its marks among these
-abbrev pub read_of : List EntryPattern → Origin → Option Platform → ℕ → List Data → List (ℕ × Result Entry ℕ)
+abbrev pub read_of : List EntryPattern → Origin → Option Platform → ℕ → List Data
+    → List (ℕ × Result Entry FaultKind)
 read_of unread origin platform place [] = []
 read_of unread origin platform place (d ∷ ds) =
     (place, seen (marked_entry (marks_at origin Keybindings unread place)) (entry_of origin platform place d))
@@ -84,9 +88,16 @@ read_of unread origin platform place (d ∷ ds) =
 abbrev pub listed : List EntryPattern → Origin → Option Platform → List Data → Listed
 listed unread origin platform elements = collected origin (read_of unread origin platform 0 elements)
 
--- the warnings of elements that were dropped
+-- the list with one more rule at the bottom
+abbrev pub with_rule : Rule → Listed → Listed
+with_rule rule list = record list { rules = list.rules ++ rule ∷ [] }
+
+-- a warning is of an element that was dropped: not that of an unread pattern
+abbrev pub is_dropped : Warning → Bool
+is_dropped warning = not (is_unread_pattern warning.kind)
+
 abbrev pub dropped_in : Listed → List Warning
-dropped_in list = filter (λ warning. not (warning.number == 34)) list.warnings
+dropped_in list = filter is_dropped list.warnings
 
 -- all patterns of the list are marked as they are or aren't read
 abbrev pub AreRightlyMarked : Listed → Type 0
@@ -97,13 +108,13 @@ AreRightlyMarked list =
 -- ---- one element after another
 
 -- what was read, or its first fault, by how the reading ended; refused memory is neither
-abbrev pub judged : Result Entry (Failure ℕ) → Result (Result Entry ℕ) AllocError
+abbrev pub judged : Result Entry (Failure FaultKind) → Result (Result Entry FaultKind) AllocError
 judged (Ok entry) = Ok (Ok entry)
-judged (Err (Fault number)) = Ok (Err number)
+judged (Err (Fault kind)) = Ok (Err kind)
 judged (Err NoMemory) = Err alloc_error
 
 -- the list with what the element at a place is
-abbrev pub with_read : Origin → ℕ → Result Entry ℕ → Listed → Listed
+abbrev pub with_read : Origin → ℕ → Result Entry FaultKind → Listed → Listed
 with_read origin place read list = record {
   rules = list.rules ++ option_to_list (rule_in read);
   removals = list.removals ++ option_to_list (removal_in read);
@@ -122,12 +133,12 @@ with_unread origin place unread list = record list {
 }
 
 -- what was read is what its own marks make of it
-abbrev pub IsWhole : Result Entry ℕ → Type 0
+abbrev pub IsWhole : Result Entry FaultKind → Type 0
 IsWhole (Ok entry) = marked_entry (unread_in entry) entry ≡ entry
-IsWhole (Err number) = Unit {0}
+IsWhole (Err kind) = Unit {0}
 
 -- its patterns are marked as they are or aren't read
-abbrev pub IsRight : Result Entry ℕ → Type 0
+abbrev pub IsRight : Result Entry FaultKind → Type 0
 IsRight (Ok (Starts rule)) = IsRightlyMarked rule.when
 IsRight (Ok (Removes removal)) = IsRightlyMarked removal.when
-IsRight (Err number) = Unit {0}
+IsRight (Err kind) = Unit {0}

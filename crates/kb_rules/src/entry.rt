@@ -8,7 +8,7 @@ ghost use Rattle.kb_keys.specs.Chord.{chord_of};
 ghost use Rattle.kb_when.specs.WhenFault as when;
 ghost use Rattle.kb_when.specs.ClauseText.{clause_in};
 ghost use Rattle.serde_json.specs.View.{view, members_view};
-ghost use Rattle.kb_rules.specs.Entry.{by_number, failure_by_number, text_of, required_text, removed_command};
+ghost use Rattle.kb_rules.specs.Entry.{by_kind, failure_by_kind, text_of, required_text, removed_command};
 ghost use Rattle.kb_rules.specs.Entry.{chord_in, keystrokes_of, removed_keystrokes_of, when_of, condition_of};
 ghost use Rattle.kb_rules.specs.Entry.{args_of, key_member, found_in, found_of, binding_of, bound_to};
 ghost use Rattle.kb_rules.specs.Entry.{terms_of, made, completed, element_of, entry_of};
@@ -18,8 +18,8 @@ use crate::json::Json;
 use crate::removal::Removal;
 use crate::rule::Rule;
 use crate::whole::has_whole_numbers;
-use kb_base::{Failure, HashedText, NoMemory, Origin, Text, is_blank_text};
-use kb_json::{FileFault, members_in, take_member};
+use kb_base::{Failure, FaultKind, HashedText, NoMemory, Origin, Text, is_blank_text};
+use kb_jsonc::{FileFault, members_in, take_member};
 use kb_keys::{Chord, Platform};
 use kb_when::{Clause, WhenFault};
 use serde_json::{Map, Value};
@@ -50,8 +50,8 @@ pub(crate) enum Entry {
     Removes(Removal),
 }
 
-/// The rule or the removal that an element is, with its place, or the number of the element's first
-/// fault. Its texts and arguments are moved out of it. The clause says itself which of its
+/// The rule or the removal that an element is, with its place, or the element's first fault. Its
+/// texts and arguments are moved out of it. The clause says itself which of its
 /// patterns aren't read.
 pub(crate) fn read_entry(
     alloc: Global,
@@ -59,12 +59,12 @@ pub(crate) fn read_entry(
     origin: Origin,
     platform: Option<Platform>,
     place: usize,
-) -> Result<Entry, Failure<u32>>
+) -> Result<Entry, Failure<FaultKind>>
     ensures { Gives (marked_entry []) result (entry_of origin platform place (view entry)) }
 {
     match members_in(entry) {
         Some(members) => read_parts(alloc, parts_of(members, platform), origin, place),
-        None => Err(Failure::Fault(FileFault::WrongShape.number())),
+        None => Err(Failure::Fault(FaultKind::WrongShape)),
     }
 }
 
@@ -106,7 +106,7 @@ fn read_parts(
     parts: Parts,
     origin: Origin,
     place: usize,
-) -> Result<Entry, Failure<u32>>
+) -> Result<Entry, Failure<FaultKind>>
     ensures { Gives (marked_entry []) result (element_of origin place (found_of parts)) }
 {
     let binding = read_binding(alloc, parts.command, parts.key)?;
@@ -122,7 +122,7 @@ fn complete(
     args: Option<Value>,
     origin: Origin,
     place: usize,
-) -> Result<Entry, Failure<u32>>
+) -> Result<Entry, Failure<FaultKind>>
     ensures { Gives (marked_entry []) result
         (completed origin place binding (terms_of (option_map view when) (option_map view args))) }
 {
@@ -135,7 +135,7 @@ fn complete(
     }
 }
 
-/// The rule or the removal of what was read of it.
+/// The rule or the removal of what was read of it. A removal has no arguments.
 fn made(
     binding: Binding,
     when: Option<Clause>,
@@ -158,6 +158,8 @@ fn made(
             command,
             chord,
             when,
+            origin,
+            place,
         }),
     }
 }
@@ -168,7 +170,7 @@ fn read_binding(
     alloc: Global,
     command: Option<Value>,
     key: Option<Value>,
-) -> Result<Binding, Failure<u32>>
+) -> Result<Binding, Failure<FaultKind>>
     ensures { Gives (λ bound. bound) result (binding_of (option_map view command) (option_map view key)) }
 {
     let command = required_text(command).map_err(Failure::Fault)?;
@@ -179,22 +181,22 @@ fn read_binding(
 }
 
 /// A rule's command, with its keystrokes.
-fn bind_rule(alloc: Global, command: Text, key: Option<Value>) -> Result<Binding, u32>
+fn bind_rule(alloc: Global, command: Text, key: Option<Value>) -> Result<Binding, FaultKind>
     ensures { result ≡ bound_to command None (option_map view key) }
 {
     match read_keystrokes(alloc, key) {
         Ok(keys) => Ok(Binding::Starts(command, keys)),
-        Err(number) => Err(number),
+        Err(kind) => Err(kind),
     }
 }
 
 /// The command that a removal names, with its keystrokes.
-fn bind_removal(alloc: Global, removed: Text, key: Option<Value>) -> Result<Binding, u32>
+fn bind_removal(alloc: Global, removed: Text, key: Option<Value>) -> Result<Binding, FaultKind>
     ensures { result ≡ bound_to [] (Some removed) (option_map view key) }
 {
     match read_removed_keystrokes(alloc, key) {
         Ok(keys) => Ok(Binding::Removes(removed, keys)),
-        Err(number) => Err(number),
+        Err(kind) => Err(kind),
     }
 }
 
@@ -204,32 +206,32 @@ fn read_terms(
     alloc: Global,
     when: Option<Value>,
     args: Option<Value>,
-) -> Result<(Option<Clause>, Option<Json>), Failure<u32>>
+) -> Result<(Option<Clause>, Option<Json>), Failure<FaultKind>>
     ensures { Gives (λ terms. (tree_in terms.0, terms.1)) result
         (terms_of (option_map view when) (option_map view args)) }
 {
     let when = read_condition(alloc, when)?;
     match read_args(args) {
         Ok(args) => Ok((when, args)),
-        Err(number) => {
+        Err(kind) => {
             drop(when);
-            Err(Failure::Fault(number))
+            Err(Failure::Fault(kind))
         }
     }
 }
 
 /// The text that a value is.
-fn text_of(value: Value) -> Result<Text, u32>
+fn text_of(value: Value) -> Result<Text, FaultKind>
     ensures { result ≡ text_of (view value) }
 {
-    kb_json::text_of(value).map_err(FileFault::number)
+    kb_jsonc::text_of(value).map_err(FileFault::kind)
 }
 
 /// The text of a member that must be there.
-fn required_text(member: Option<Value>) -> Result<Text, u32>
+fn required_text(member: Option<Value>) -> Result<Text, FaultKind>
     ensures { result ≡ required_text (option_map view member) }
 {
-    kb_json::required_text(member).map_err(FileFault::number)
+    kb_jsonc::required_text(member).map_err(FileFault::kind)
 }
 
 /// The command that a removal names, or `None` for what is no removal (VS Code's documentation: a removal's
@@ -245,7 +247,7 @@ fn removed_command(alloc: Global, command: &str) -> Result<Option<Text>, NoMemor
 
 /// The keystrokes of a rule.
 #[tactic(auto, unfolding(crate::specs::Entry::keystrokes_of))]
-fn read_keystrokes(alloc: Global, member: Option<Value>) -> Result<Chord, u32>
+fn read_keystrokes(alloc: Global, member: Option<Value>) -> Result<Chord, FaultKind>
     ensures { result ≡ keystrokes_of (option_map view member) }
 {
     let text = required_text(member)?;
@@ -254,7 +256,7 @@ fn read_keystrokes(alloc: Global, member: Option<Value>) -> Result<Chord, u32>
 
 /// The keystrokes of a removal, if it has some.
 #[tactic(auto, unfolding(crate::specs::Entry::removed_keystrokes_of))]
-fn read_removed_keystrokes(alloc: Global, member: Option<Value>) -> Result<Option<Chord>, u32>
+fn read_removed_keystrokes(alloc: Global, member: Option<Value>) -> Result<Option<Chord>, FaultKind>
     ensures { result ≡ removed_keystrokes_of (option_map view member) }
 {
     let Some(value) = member else {
@@ -265,18 +267,21 @@ fn read_removed_keystrokes(alloc: Global, member: Option<Value>) -> Result<Optio
 }
 
 /// The keystrokes of a text.
-fn read_chord(alloc: Global, text: &str) -> Result<Chord, u32>
+fn read_chord(alloc: Global, text: &str) -> Result<Chord, FaultKind>
     ensures { result ≡ chord_in text.now }
 {
     match Chord::parse(alloc, text) {
         Ok(chord) => Ok(chord),
-        Err(fault) => Err(fault.number()),
+        Err(fault) => Err(fault.kind()),
     }
 }
 
 /// The clause that is the condition, if there is one.
 #[tactic(auto, unfolding(crate::specs::Entry::condition_of))]
-fn read_condition(alloc: Global, member: Option<Value>) -> Result<Option<Clause>, Failure<u32>>
+fn read_condition(
+    alloc: Global,
+    member: Option<Value>,
+) -> Result<Option<Clause>, Failure<FaultKind>>
     ensures { Gives tree_in result (condition_of (option_map view member)) }
 {
     match member {
@@ -290,7 +295,7 @@ fn read_condition(alloc: Global, member: Option<Value>) -> Result<Option<Clause>
 
 /// The clause of a `when` text, if it isn't blank.
 #[tactic(auto, unfolding(crate::specs::Entry::when_of))]
-fn read_when(alloc: Global, text: &str) -> Result<Option<Clause>, Failure<u32>>
+fn read_when(alloc: Global, text: &str) -> Result<Option<Clause>, Failure<FaultKind>>
     ensures read { Gives tree_in result (when_of text.now) }
 
     // `read` cites this: a text that isn't blank never becomes a rule without a clause.
@@ -303,29 +308,29 @@ fn read_when(alloc: Global, text: &str) -> Result<Option<Clause>, Failure<u32>>
 }
 
 /// The clause of a text.
-fn read_clause(alloc: Global, text: &str) -> Result<Clause, Failure<u32>>
-    ensures { Gives (λ clause. clause.tree) result (by_number when.number_of (clause_in text.now)) }
+fn read_clause(alloc: Global, text: &str) -> Result<Clause, Failure<FaultKind>>
+    ensures { Gives (λ clause. clause.tree) result (by_kind when.kind_of (clause_in text.now)) }
 {
-    Clause::parse(alloc, text).map_err(failure_by_number)
+    Clause::parse(alloc, text).map_err(failure_by_kind)
 }
 
-/// The failure to read a clause, with its fault by the fault's number.
-fn failure_by_number(failure: Failure<WhenFault>) -> Failure<u32>
-    ensures { result ≡ failure_by_number failure }
+/// The failure to read a clause, with the kind of its fault.
+fn failure_by_kind(failure: Failure<WhenFault>) -> Failure<FaultKind>
+    ensures { result ≡ failure_by_kind failure }
 {
-    failure.map_fault(WhenFault::number)
+    failure.map_fault(WhenFault::kind)
 }
 
 /// The arguments, if there are any: whole within i64 in each number.
 #[tactic(auto, unfolding(crate::specs::Entry::args_of))]
-fn read_args(member: Option<Value>) -> Result<Option<Json>, u32>
+fn read_args(member: Option<Value>) -> Result<Option<Json>, FaultKind>
     ensures { result ≡ args_of (option_map view member) }
 {
     let Some(args) = member else {
         return Ok(None);
     };
     if !has_whole_numbers(&args) {
-        return Err(FileFault::WrongShape.number());
+        return Err(FaultKind::WrongShape);
     }
     Ok(Some(Json::from_value(args)))
 }

@@ -18,5 +18,5 @@ pub use json::Json;
 pub use kb_base::Origin;
 pub use removal::Removal;
 pub use rule::Rule;
-pub use rule_list::{RuleList, read_list};
+pub use rule_list::{RuleList, is_dropped, read_list};
 pub use rule_set::RuleSet;

@@ -3,7 +3,7 @@ ghost use Rattle.std.specs.Prelude.{◌≡◌, ◌↔◌, IsTrue};
 ghost use Rattle.kb_rules.specs.Removal.{fits_keys, fits_clause, takes, Takes};
 
 use crate::rule::Rule;
-use kb_base::Text;
+use kb_base::{Origin, Text};
 use kb_keys::Chord;
 use kb_when::Clause;
 
@@ -19,6 +19,11 @@ pub struct Removal {
     /// The clause of the rules that it takes. Without one it takes rules with any clause, or none (our
     /// decision).
     pub when: Option<Clause>,
+    /// The file of the removal.
+    pub origin: Origin,
+    /// The place of the removal in its list: the number of elements above it, including dropped ones and
+    /// rules.
+    pub place: usize,
 }
 
 impl Removal {

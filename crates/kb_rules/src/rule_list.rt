@@ -5,24 +5,24 @@ ghost use Rattle.kb_base.specs.Reading.{seen};
 ghost use Rattle.kb_base.specs.declared.note.Part.TheVariants.{Keybindings};
 ghost use Rattle.kb_when.specs.Placed.{placed};
 ghost use Rattle.kb_rules.specs.Entry.{entry_of};
-ghost use Rattle.kb_rules.specs.RuleList.{no_elements, listed, dropped_in, judged};
-ghost use Rattle.kb_rules.specs.RuleList.{with_warning, with_unread, warning_at};
+ghost use Rattle.kb_rules.specs.RuleList.{no_elements, listed, dropped_in, is_dropped, judged};
+ghost use Rattle.kb_rules.specs.RuleList.{with_rule, with_warning, with_unread, warning_at};
 ghost use Rattle.kb_rules.specs.RuleList.{with_read, AreRightlyMarked, IsWhole, IsRight};
 ghost use Rattle.kb_rules.specs.Unread.{marked_when, marked_entry, unread_when, IsRightlyMarked};
 
 use crate::entry::{Entry, read_entry};
 use crate::removal::Removal;
 use crate::rule::Rule;
-use kb_base::{EntryPattern, Failure, NoMemory, Origin, Part, Seq, UnreadPattern, Warning};
+use crate::rule_set::share_all;
+use kb_base::{
+    EntryPattern, Failure, FaultKind, NoMemory, Origin, Part, Seq, UnreadPattern, Warning,
+};
 use kb_keys::Platform;
 use kb_when::Clause;
 use serde_json::Value;
 use std::alloc::{AllocError, Global};
 use std::marker::Model;
 use std::rc::Rc;
-
-/// The number of the warning of a rule or a removal that is kept, though a pattern of its clause isn't read.
-const UNREAD: u32 = 34;
 
 /// The rules of one file or manifest, from the top down, its removals, a warning for each element that was
 /// dropped or has an unread pattern, and those patterns. Rules and removals are shared: a rule set and the
@@ -98,15 +98,44 @@ impl RuleList {
         self.unread.as_slice()
     }
 
+    /// This list with one more rule at the bottom. The rules and removals that it has are shared with this
+    /// one. Error: `NoMemory`.
+    #[tactic(auto, using(crate::proofs::RuleListLemmas::right_with_rule))]
+    pub fn with_rule(&self, alloc: Global, rule: Rule) -> Result<RuleList, NoMemory>
+        ensures list { IfOk result (λ list. list ≡ with_rule rule self.now) }
+
+        // The marks of the list stay right.
+        ensures right { IfOk result (λ list. IsRightlyMarked rule.when → AreRightlyMarked self.now
+            → AreRightlyMarked list) }
+    {
+        let rule = Rc::new(alloc, rule)?;
+        let mut list = self.shared(alloc)?;
+        list.rules.push(rule)?;
+        Ok(list)
+    }
+
+    /// A list with the same rules and removals, which it shares, and with copies of the warnings and the
+    /// unread patterns. Error: `NoMemory`.
+    fn shared(&self, alloc: Global) -> Result<RuleList, NoMemory>
+        ensures { IfOk result (λ list. list ≡ self.now) }
+    {
+        let mut list = RuleList::new(alloc);
+        share_all(self.rules.as_slice(), &mut list.rules)?;
+        share_all(self.removals.as_slice(), &mut list.removals)?;
+        copy_warnings(self.warnings.as_slice(), &mut list.warnings)?;
+        copy_unread(self.unread.as_slice(), &mut list.unread)?;
+        Ok(list)
+    }
+
     /// Adds a warning of the element at a place at the end.
-    fn warn(&mut self, origin: Origin, number: u32, place: usize) -> Result<(), NoMemory>
+    fn warn(&mut self, origin: Origin, kind: FaultKind, place: usize) -> Result<(), NoMemory>
         ensures { OnOk result (self.new
-            ≡ with_warning (warning_at origin place number) self.old) }
+            ≡ with_warning (warning_at origin place kind) self.old) }
     {
         let warning = Warning {
             origin,
             part: Part::Keybindings,
-            number,
+            kind,
             place,
         };
         self.warnings.push(warning)?;
@@ -127,7 +156,7 @@ impl RuleList {
         if unread.is_empty() {
             return Ok(());
         }
-        self.warn(origin, UNREAD, place)?;
+        self.warn(origin, FaultKind::UnreadPattern, place)?;
         push_unread(unread, origin, place, &mut self.unread)
     }
 
@@ -136,7 +165,7 @@ impl RuleList {
     fn take(
         &mut self,
         alloc: Global,
-        read: Result<Entry, u32>,
+        read: Result<Entry, FaultKind>,
         origin: Origin,
         place: usize,
     ) -> Result<(), NoMemory>
@@ -147,7 +176,7 @@ impl RuleList {
         match read {
             Ok(Entry::Starts(rule)) => self.take_rule(alloc, rule, origin, place),
             Ok(Entry::Removes(removal)) => self.take_removal(alloc, removal, origin, place),
-            Err(number) => self.warn(origin, number, place),
+            Err(kind) => self.warn(origin, kind, place),
         }
     }
 
@@ -213,6 +242,14 @@ impl RuleList {
     }
 }
 
+/// Whether a warning is of an element that was dropped for its fault. Another one is of an element that is
+/// kept, though a pattern of its clause isn't read.
+pub fn is_dropped(warning: &Warning) -> bool
+    ensures { result ≡ is_dropped warning.now }
+{
+    !warning.kind.is_unread_pattern()
+}
+
 /// Adds unread patterns of the element at a place.
 fn push_unread(
     patterns: &[UnreadPattern],
@@ -233,13 +270,38 @@ fn push_unread(
     Ok(())
 }
 
+/// Adds warnings at the end of a list.
+fn copy_warnings(more: &[Warning], list: &mut Seq<Warning>) -> Result<(), NoMemory>
+    ensures { OnOk result (list.new ≡ list.old ++ more.now) }
+{
+    for warning in more {
+        list.push(*warning)?;
+    }
+    Ok(())
+}
+
+/// Adds copies of unread patterns at the end of a list.
+fn copy_unread(more: &[EntryPattern], list: &mut Seq<EntryPattern>) -> Result<(), NoMemory>
+    ensures { OnOk result (list.new ≡ list.old ++ more.now) }
+{
+    for pattern in more {
+        list.push(EntryPattern {
+            origin: pattern.origin,
+            part: pattern.part,
+            place: pattern.place,
+            unread: pattern.unread.copied()?,
+        })?;
+    }
+    Ok(())
+}
+
 /// What was read of an element, or its first fault, by how its reading ended; refused memory is neither.
-fn judged(read: Result<Entry, Failure<u32>>) -> Result<Result<Entry, u32>, NoMemory>
+fn judged(read: Result<Entry, Failure<FaultKind>>) -> Result<Result<Entry, FaultKind>, NoMemory>
     ensures { result ≡ judged read }
 {
     match read {
         Ok(entry) => Ok(Ok(entry)),
-        Err(Failure::Fault(number)) => Ok(Err(number)),
+        Err(Failure::Fault(kind)) => Ok(Err(kind)),
         Err(Failure::NoMemory) => Err(AllocError),
     }
 }
@@ -251,7 +313,7 @@ fn read_element(
     origin: Origin,
     platform: Option<Platform>,
     place: usize,
-) -> Result<Result<Entry, u32>, NoMemory>
+) -> Result<Result<Entry, FaultKind>, NoMemory>
     ensures { IfOk result (λ read.
         entry_of origin platform place (view value) ≡ seen (marked_entry []) read) }
 {

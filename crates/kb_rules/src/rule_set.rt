@@ -177,7 +177,7 @@ fn share_left(
 }
 
 /// Adds items at the end of a list, which shares them.
-fn share_all<T: Drop>(more: &[Rc<T>], list: &mut Seq<Rc<T>>) -> Result<(), NoMemory>
+pub(crate) fn share_all<T: Drop>(more: &[Rc<T>], list: &mut Seq<Rc<T>>) -> Result<(), NoMemory>
     ensures { OnOk result (map (λ r. r.value) list.new
         ≡ map (λ r. r.value) list.old ++ map (λ r. r.value) more.now) }
 {

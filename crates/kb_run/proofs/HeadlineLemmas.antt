@@ -3,15 +3,16 @@ use Rattle.std.proofs.Common.{sym, ap, subst, inr, Bool, true, false, List, ℕ}
 use Rattle.std.specs.Prelude.{Option, Result, Ok, Err}
 use Rattle.kb_base.specs.declared.failure.Failure.{Failure}
 use Rattle.kb_base.specs.declared.failure.Failure.TheVariants.{NoMemory, Fault}
-use Rattle.kb_bindings.specs.Load.{Files}
+use Rattle.kb_files.specs.Inputs.{Files}
+use Rattle.kb_bindings.specs.Load.{MarksAreRight}
 use Rattle.kb_bindings.specs.Warning.{warnings_of}
 use Rattle.kb_core.specs.declared.native.Native.{Native}
-use Rattle.kb_exit.specs.Report.{script_stop}
-use Rattle.kb_exit.specs.Voice.{Says}
-use Rattle.kb_exit.specs.declared.outcome.Stop.{Stop}
+use Rattle.kb_run.specs.ExitStatus.{script_stop}
+use Rattle.kb_run.specs.Voice.{Says}
+use Rattle.kb_run.specs.declared.outcome.Stop.{Stop}
 use Rattle.kb_run.specs.Headline.{IsSound, KeepsHeadline, MemoryAloneStops}
 use Rattle.kb_run.proofs.RunLemmas.{session_loaded}
-use Rattle.kb_run.specs.Run.{Closures, LoadsBy, Outputs, PlaysAny, Runs, warning_text}
+use Rattle.kb_run.specs.Run.{Hosted, LoadsBy, Outputs, PlaysAny, Runs, warning_text}
 use Rattle.kb_run.specs.declared.setup.Verification.{Verification}
 use Rattle.kb_run.specs.declared.setup.Verification.TheVariants.{Verified, Raw}
 use Rattle.kb_script.proofs.SafeScripts.{memory_alone_stops}
@@ -20,7 +21,7 @@ use Rattle.kb_script.specs.Shelf.{beside}
 use Rattle.kb_script.specs.declared.fault.ScriptFault.{ScriptFault}
 use Rattle.kb_script.specs.declared.fault.ScriptFault.TheVariants as fault
 use Rattle.kb_session.proofs.Headlines.{headline_holds}
-use Rattle.kb_session.specs.Session.{IsOf}
+use Rattle.kb_session.specs.Session.{IsOf, with_rule_lines}
 use Rattle.kb_session.specs.State.{IsSafe, State}
 use Rattle.kb_stream.specs.Fold.{Traced}
 
@@ -55,17 +56,26 @@ keeps_headline Verified session shelf bytes had has end sound plays =
     )
 keeps_headline Raw session shelf bytes had has end sound plays = tt
 
+-- whether lines of a script add rules changes nothing in that
+still_sound : (verification : Verification) (taken : Bool) (session : Traced State)
+    → IsSound verification session.state → IsSound verification (with_rule_lines taken session).state
+still_sound Verified taken session sound = sound
+still_sound Raw taken session sound = tt
+
 -- a session was loaded, its warnings were said, and the script was run
-pub run_played : (verification : Verification) (files : Files) (closures : Closures) (bytes : Option (List ℕ))
+pub run_played : (verification : Verification) (files : Files) (host : Hosted) (bytes : Option (List ℕ))
     (o : Outputs) (end : Result (Unit {0}) Stop) (session : Traced State)
-    → LoadsBy verification files closures.natives (Ok session) → IsSound verification session.state
+    → LoadsBy verification files host.natives (Ok session) → IsSound verification session.state
+    → MarksAreRight files session.state.sources
     → Says o.said_before o.said (warning_text session.state.sources (warnings_of session.state.sources))
-    → PlaysAny bytes (beside session closures.shelf) o.had o.has end
-    → Runs verification files closures bytes o end
-run_played verification files closures bytes o end session loads sound warned plays = inr (record {
+    → PlaysAny bytes (beside (with_rule_lines host.takes_rules session) host.shelf) o.had o.has end
+    → Runs verification files host bytes o end
+run_played verification files host bytes o end session loads sound marked warned plays = inr (record {
   session = session;
-  loaded_is = session_loaded verification files closures.natives session loads;
+  loaded_is = session_loaded verification files host.natives session loads;
+  marked = marked;
   warned = warned;
   plays = plays;
-  headline = keeps_headline verification session closures.shelf bytes o.had o.has end sound plays;
+  headline = keeps_headline verification (with_rule_lines host.takes_rules session) host.shelf bytes o.had o.has end
+      (still_sound verification host.takes_rules session sound) plays;
 })

@@ -1,4 +1,3 @@
-pub mod DirectoryLemmas
 pub mod HeadlineLemmas
 pub mod ReportLemmas
 pub mod RunLemmas

@@ -2,12 +2,12 @@
 use Rattle.std.proofs.Common.{◌≡◌, ◌⊎◌, ℕ, Bool, true, false, List, Result, Ok, Err, ◌∙◌, refl, sym, subst, inl, inr}
 use Rattle.std.specs.Prelude.{Option, if◌then◌else◌}
 use Rattle.kb_disk.specs.Files.{Held, unknown}
-use Rattle.kb_exit.specs.Report.{stop_status}
-use Rattle.kb_exit.specs.declared.outcome.Stop.{Stop}
-use Rattle.kb_exit.specs.declared.outcome.Stop.TheVariants.{Unread, Load, Script, NoMemory}
-use Rattle.kb_options.specs.declared.given.Options.{Options}
+use Rattle.kb_run.specs.ExitStatus.{stop_status}
+use Rattle.kb_run.specs.declared.outcome.Stop.{Stop}
+use Rattle.kb_run.specs.declared.outcome.Stop.TheVariants.{Unread, Load, Script, NoMemory}
+use Rattle.kb_disk.specs.declared.options.Options.{Options}
 use Rattle.kb_run.specs.Report.{IsStatus, RunsAndReports, RunsOnSystem, is_trapped, status_by}
-use Rattle.kb_run.specs.Run.{Closures, Outputs}
+use Rattle.kb_run.specs.Run.{Hosted, Outputs}
 use Rattle.kb_run.specs.declared.setup.Verification.{Verification}
 use Rattle.kb_run.specs.declared.setup.Verification.TheVariants.{Verified, Raw}
 
@@ -39,10 +39,10 @@ pub is_status : (verification : Verification) (end : Result (Unit {0}) Stop) (st
     → status ≡ status_by verification end → IsStatus verification status
 is_status verification end status is = subst (IsStatus verification) (sym is) (end_is verification end)
 
-pub is_reported : (verification : Verification) (held : List ℕ → Held) (given : Options) (closures : Closures)
+pub is_reported : (verification : Verification) (held : List ℕ → Held) (given : Options) (host : Hosted)
     (input : Option (List ℕ)) (o : Outputs) (status : ℕ)
-    → RunsAndReports verification held given closures input o status → IsStatus verification status
-is_reported verification held given closures input o status runs =
+    → RunsAndReports verification held given host input o status → IsStatus verification status
+is_reported verification held given host input o status runs =
     is_status verification runs.end status runs.status_is
 
 pub ruleset status = (is_status, is_reported)
@@ -52,15 +52,15 @@ refused_status Verified = refl
 refused_status Raw = refl
 
 -- memory was refused before a run over the system
-pub refused_on_system : (verification : Verification) (given : Options) (closures : Closures) (status : ℕ)
-    → status ≡ status_by verification (Err NoMemory) → RunsOnSystem verification given closures status
-refused_on_system verification given closures status is = inl (is ∙ refused_status verification)
+pub refused_on_system : (verification : Verification) (given : Options) (host : Hosted) (status : ℕ)
+    → status ≡ status_by verification (Err NoMemory) → RunsOnSystem verification given host status
+refused_on_system verification given host status is = inl (is ∙ refused_status verification)
 
 -- a run over the system was carried out and reported
-pub ran_on_system : (verification : Verification) (given : Options) (closures : Closures)
+pub ran_on_system : (verification : Verification) (given : Options) (host : Hosted)
     (input : Option (List ℕ)) (o : Outputs) (status : ℕ)
-    → RunsAndReports verification (λ path. unknown) given closures input o status
-    → RunsOnSystem verification given closures status
-ran_on_system verification given closures input o status runs = inr (input, (o, runs))
+    → RunsAndReports verification (λ path. unknown) given host input o status
+    → RunsOnSystem verification given host status
+ran_on_system verification given host input o status runs = inr (input, (o, runs))
 
 pub ruleset on_system = (refused_on_system, ran_on_system)

@@ -8,21 +8,22 @@ use Rattle.std.specs.Io.KnownBytes.{append_known}
 use Rattle.kb_base.specs.declared.failure.Failure.{Failure}
 use Rattle.kb_core.specs.declared.native.Native.{Native}
 use Rattle.kb_base.specs.declared.failure.Failure.TheVariants as failure
-use Rattle.kb_disk.specs.Files.{Held, unknown, refuses, holds, Opens, NamesBytes, NamesFile}
+use Rattle.kb_disk.specs.Files.{Held, unknown, refuses, holds, Opens, NamesFile}
 use Rattle.kb_disk.specs.declared.cannot_read.CannotRead.{CannotRead}
-use Rattle.kb_exit.specs.Report.{warning_line, load_stop, read_stop, script_stop}
-use Rattle.kb_exit.specs.Voice.{Heard, Says}
-use Rattle.kb_exit.specs.declared.outcome.Stop.{Stop}
-use Rattle.kb_run.specs.Run.{FailsToLoad, FileMissing, HasBytes, HasFiles, HasRules, HasScript}
-use Rattle.kb_run.specs.Run.{FailsAtScript, FailsReadingFiles, IsHad, IsLoaded, LoadsBy, Outputs, Silent}
+use Rattle.kb_base.specs.Note.{warning_line}
+use Rattle.kb_run.specs.ExitStatus.{load_stop, read_stop, script_stop}
+use Rattle.kb_run.specs.Voice.{Heard, Says}
+use Rattle.kb_run.specs.declared.outcome.Stop.{Stop}
+use Rattle.kb_disk.specs.LoadFiles.{FailsReadingFiles, HasFiles}
+use Rattle.kb_run.specs.Run.{FailsToLoad, FileMissing, HasScript}
+use Rattle.kb_run.specs.Run.{FailsAtScript, IsLoaded, LoadsBy, Outputs, Silent}
 use Rattle.kb_run.specs.Run.{script_bytes, warning_text, Plays, Flushes}
 use Rattle.kb_script.specs.Shelf.{Stand}
 use Rattle.kb_script.specs.Stream.{Streams, with_trace}
 use Rattle.kb_script.specs.declared.fault.ScriptFault.{ScriptFault}
 use Rattle.kb_script.specs.declared.script_run.Kept.TheVariants.{Unwritten}
-use Rattle.kb_disk.proofs.FilesLemmas.{had_read}
-use Rattle.kb_options.specs.declared.given.Options.{Options}
-use Rattle.kb_bindings.specs.Load.{Files}
+use Rattle.kb_disk.specs.declared.options.Options.{Options}
+use Rattle.kb_files.specs.Inputs.{Files}
 use Rattle.kb_run.specs.declared.setup.Verification.{Verification}
 use Rattle.kb_run.specs.declared.setup.Verification.TheVariants.{Verified, Raw}
 use Rattle.kb_session.specs.State.{State}
@@ -106,27 +107,9 @@ nothing_left (Some bytes) = ap Some (sym (append-nil bytes))
 
 pub ruleset loading = (load_fails, session_loaded)
 
-pub had_bytes : {B : Type 0} (held : List ℕ → Held) (view : B → List ℕ) (named : Option (Bor (List ℕ)))
-    (got : Option B) → NamesBytes held view named (Ok got) → HasBytes held named (option_map view got)
-had_bytes held view None got has = ap (option_map view) has
-had_bytes held view (Some path) None has = has
-had_bytes held view (Some path) (Some got) has = had_read (held path.now) view got has
-
-pub is_had : {B : Type 0} (held : List ℕ → Held) (view : B → List ℕ) (named : Option (Bor (List ℕ)))
-    (got : Option B) → NamesBytes held view named (Ok got) → IsHad held named
-is_had held view named got has = (option_map view got, had_bytes held view named got has)
-
 pub were_had : (held : List ℕ → Held) (given : Options) (files : Files)
     → HasFiles held given files → (all : Files) × HasFiles held given all
 were_had held given files has = (files, has)
-
--- the same of rules, where no file is the empty text
-pub had_rules : {B : Type 0} (held : List ℕ → Held) (view : B → List ℕ) (named : Option (Bor (List ℕ)))
-    (got : Option B) → NamesBytes held view named (Ok got)
-    → HasRules held named (unwrap_or (option_map view got) [])
-had_rules held view None got has = ap (λ o. unwrap_or (option_map view o) []) has
-had_rules held view (Some path) None has = absurd has
-had_rules held view (Some path) (Some got) has = had_read (held path.now) view got has
 
 had_open : {F : Type 0} (held : Held) (remaining : F → Option (List ℕ)) (file : F) → Opens remaining held (Ok file)
     → Opens {F = Option (List ℕ)} (λ known. known) held (Ok (remaining file))
@@ -171,4 +154,4 @@ script_missing held remaining given files o end stop failure has fails ends is s
   silent = silent;
 }
 
-pub ruleset files = (had_bytes, had_rules, had_script, is_had, were_had)
+pub ruleset files = (had_script, were_had)

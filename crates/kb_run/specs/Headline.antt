@@ -1,8 +1,8 @@
 -- The headline: what a program with verified handlers keeps, for all files that its load accepts and for
 -- every script.
 use Rattle.std.specs.Prelude.{◌≡◌, ⊤, false, Result, Ok, Err}
-use Rattle.kb_exit.specs.declared.outcome.Stop.{Stop}
-use Rattle.kb_exit.specs.declared.outcome.Stop.TheVariants.{Unread, Load, Script, NoMemory}
+use Rattle.kb_run.specs.declared.outcome.Stop.{Stop}
+use Rattle.kb_run.specs.declared.outcome.Stop.TheVariants.{Unread, Load, Script, NoMemory}
 use Rattle.kb_run.specs.declared.setup.Verification.{Verification}
 use Rattle.kb_run.specs.declared.setup.Verification.TheVariants.{Verified, Raw}
 use Rattle.kb_script.specs.Headline.{IsOfStreams}

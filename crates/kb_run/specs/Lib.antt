@@ -1,4 +1,5 @@
-pub mod Directory
+pub mod ExitStatus
+pub mod Voice
 pub mod Headline
 pub mod Run
 pub mod Report

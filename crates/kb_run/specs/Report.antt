@@ -2,12 +2,12 @@
 use Rattle.std.specs.Prelude.{◌≡◌, ◌⊎◌, ◌∷◌, ◌++◌, [], ℕ, Bool, true, false, List, Option, Result, Ok, Err}
 use Rattle.std.specs.Prelude.{codes, if◌then◌else◌}
 use Rattle.kb_disk.specs.Files.{Held, unknown}
-use Rattle.kb_exit.specs.Report.{stop_line, stop_status}
-use Rattle.kb_exit.specs.Voice.{Heard, Says}
-use Rattle.kb_exit.specs.declared.outcome.Stop.{Stop}
-use Rattle.kb_exit.specs.declared.outcome.Stop.TheVariants.{Unread, Load, Script, NoMemory}
-use Rattle.kb_options.specs.declared.given.Options.{Options}
-use Rattle.kb_run.specs.Run.{CarriesOut, Closures, Outputs}
+use Rattle.kb_run.specs.ExitStatus.{stop_line, stop_status}
+use Rattle.kb_run.specs.Voice.{Heard, Says}
+use Rattle.kb_run.specs.declared.outcome.Stop.{Stop}
+use Rattle.kb_run.specs.declared.outcome.Stop.TheVariants.{Unread, Load, Script, NoMemory}
+use Rattle.kb_disk.specs.declared.options.Options.{Options}
+use Rattle.kb_run.specs.Run.{CarriesOut, Hosted, Outputs}
 use Rattle.kb_run.specs.declared.setup.Verification.{Verification}
 use Rattle.kb_run.specs.declared.setup.Verification.TheVariants.{Verified, Raw}
 use Rattle.kb_script.specs.declared.fault.ScriptFault.{ScriptFault}
@@ -45,10 +45,10 @@ Reports verification (Err stop) before now = Says before now (line_by verificati
 
 -- a run was carried out, and then its end was reported
 pub record RunsAndReports (verification : Verification) (held : List ℕ → Held) (given : Options)
-    (closures : Closures) (input : Option (List ℕ)) (o : Outputs) (status : ℕ) : Type 0 where
+    (host : Hosted) (input : Option (List ℕ)) (o : Outputs) (status : ℕ) : Type 0 where
   pub end : Result (Unit {0}) Stop
   pub said : Heard
-  pub carried : CarriesOut verification held given closures input (record {
+  pub carried : CarriesOut verification held given host input (record {
     said_before = o.said_before;
     said = said;
     had = o.had;
@@ -64,8 +64,8 @@ IsStatus verification status = (status ≡ 0) ⊎ ((status ≡ 2) ⊎ ((status �
 
 -- a run over the system, of whose files, streams and console contracts know nothing: it is carried out, and
 -- its end is reported; or memory was refused before it began
-abbrev pub RunsOnSystem : Verification → Options → Closures → ℕ → Type 0
-RunsOnSystem verification given closures status =
+abbrev pub RunsOnSystem : Verification → Options → Hosted → ℕ → Type 0
+RunsOnSystem verification given host status =
     (status ≡ 4)
     ⊎ ((input : Option (List ℕ)) × ((o : Outputs)
-    × RunsAndReports verification (λ path. unknown) given closures input o status))
+    × RunsAndReports verification (λ path. unknown) given host input o status))

@@ -1,19 +1,20 @@
 //! Reports the end of a run: its exit status, and its line on standard error.
 //!
 //! A handler that traps ends a run with raw handlers with a status and a line of its own, 5 and `trapped`
-//! (our decision). Every other end is reported as `kb_exit` says.
+//! (our decision). Every other end is reported as `exit_status` says.
 ghost use Rattle.std.specs.Prelude.{◌≡◌, map};
 ghost use Rattle.std.specs.Io.Buffered.{writer_contents, writer_inner};
-ghost use Rattle.kb_exit.specs.Voice.{heard_by};
+ghost use Rattle.kb_run.specs.Voice.{heard_by};
 ghost use Rattle.kb_run.specs.Report.{RunsAndReports, Reports, is_trap, is_trapped, status_by};
-ghost use Rattle.kb_run.specs.Run.{closures_of};
+ghost use Rattle.kb_run.specs.Run.{hosted};
 
+use crate::exit_status::ending;
+use crate::outcome::Stop;
 use crate::run::carry_out;
 use crate::setup::{Setup, Verification};
 use crate::streams::Streams;
-use kb_disk::FileSource;
-use kb_exit::{Console, Stop, Voice, ending};
-use kb_options::Options;
+use crate::voice::{Console, Voice};
+use kb_disk::{FileSource, Options};
 use kb_registry::HostCommand;
 use kb_script::ScriptFault;
 use std::alloc::Global;
@@ -78,8 +79,8 @@ pub fn run_and_report<
     streams: &mut Streams<I, O, C>,
 ) -> u8
     ensures { RunsAndReports setup.verification (F.held files.now) given.entry
-        (closures_of (map H.stands_for setup.closures.natives.items)
-        (map H.stands_for setup.closures.shelf.items))
+        (hosted (map H.stands_for setup.closures.natives.items)
+        (map H.stands_for setup.closures.shelf.items) setup.takes_rules)
         (I.remaining streams.old.input) (record {
           said_before = heard_by C.said C.broken streams.old.voice;
           said = heard_by C.said C.broken streams.new.voice;

@@ -1,26 +1,26 @@
 //! Runs a program over any files, streams and console. Nothing here calls the system, so that contracts say
 //! what is written, by what the files hold and the streams give.
-ghost use Rattle.std.specs.Prelude.{◌≡◌, [], IfOk, IfErr, map, option_map, unwrap_or};
+ghost use Rattle.std.specs.Prelude.{◌≡◌, IfOk, map};
 ghost use Rattle.std.specs.Io.Buffered.{writer_contents, writer_inner};
-ghost use Rattle.kb_exit.specs.Voice.{Says, heard_by};
+ghost use Rattle.kb_run.specs.Voice.{Says, heard_by};
 ghost use Rattle.kb_run.specs.Run.{CarriesOut, Runs, Plays, PlaysAny};
-ghost use Rattle.kb_run.specs.Run.{closures_of, script_bytes, warning_text};
-ghost use Rattle.kb_run.specs.Run.{HasFiles, FailsReadingFiles, files_in};
-ghost use Rattle.kb_bindings.specs.Load.{files_of};
+ghost use Rattle.kb_run.specs.Run.{hosted, script_bytes, warning_text};
+ghost use Rattle.kb_files.specs.SourceFiles.{files_in};
+ghost use Rattle.kb_files.specs.Inputs.{files_of};
 ghost use Rattle.kb_script.specs.Shelf.{beside};
 ghost use Rattle.kb_run.specs.Headline.{IsSound};
 ghost use Rattle.kb_run.specs.Run.{LoadsBy};
+ghost use Rattle.kb_bindings.specs.Load.{MarksAreRight};
 ghost use Rattle.kb_bindings.specs.Warning.{warnings_of};
 
-use crate::directory::{DirBytes, lent_all, read_directories};
+use crate::exit_status::script_stop;
+use crate::outcome::Stop;
 use crate::setup::{HostClosures, Setup, Verification};
 use crate::streams::Streams;
-use kb_base::Failure;
-use kb_disk::{CannotRead, FileSource, bytes_named, file_named, lent};
-use kb_exit::{Console, Stop, Voice, WarningLine, script_stop};
-use kb_files::{Inputs, LoadFault};
-use kb_keys::Platform;
-use kb_options::Options;
+use crate::voice::{Console, Voice};
+use kb_base::{Failure, WarningLine};
+use kb_disk::{FileSource, Options, file_named, read_files};
+use kb_files::{Inputs, LoadFault, SourceFiles};
 use kb_registry::HostCommand;
 use kb_script::stream_script;
 use kb_session::Session;
@@ -86,6 +86,7 @@ fn load<H: HostCommand>(
 ) -> Result<Session<H>, Failure<LoadFault>>
     ensures read { LoadsBy verification (files_of inputs.entry) (map H.stands_for natives.items) result }
     ensures sound { IfOk result (λ session. IsSound verification session.state) }
+    ensures right { IfOk result (λ session. MarksAreRight (files_of inputs.entry) session.state.sources) }
 {
     match verification {
         Verification::Verified => Session::load(alloc, inputs, natives),
@@ -110,8 +111,8 @@ fn run_loaded<
     streams: &mut Streams<I, O, C>,
 ) -> Result<(), Stop<'a>>
     ensures { Runs setup.verification (files_of inputs.entry)
-        (closures_of (map H.stands_for setup.closures.natives.items)
-        (map H.stands_for setup.closures.shelf.items))
+        (hosted (map H.stands_for setup.closures.natives.items)
+        (map H.stands_for setup.closures.shelf.items) setup.takes_rules)
         (script_bytes S.remaining script (I.remaining streams.old.input)) (record {
           said_before = heard_by C.said C.broken streams.old.voice;
           said = heard_by C.said C.broken streams.new.voice;
@@ -122,11 +123,13 @@ fn run_loaded<
     let Setup {
         verification,
         closures,
+        takes_rules,
     } = setup;
     let HostClosures { natives, mut shelf } = closures;
     match load(alloc, verification, inputs, natives) {
         Ok(mut session) => {
             say_warnings(&session, &mut streams.voice);
+            session.take_rule_lines(takes_rules);
             let end = play_any(
                 alloc,
                 script,
@@ -142,49 +145,6 @@ fn run_loaded<
     }
 }
 
-/// The platform of a load, and the bytes of its files.
-#[derive(Drop)]
-struct FileBytes {
-    platform: Platform,
-    layout: Option<Vec<u8>>,
-    defaults: Option<Vec<u8>>,
-    user: Option<Vec<u8>>,
-    directories: Vec<DirBytes>,
-}
-
-/// Reads all files of a load.
-#[tactic(auto, using(crate::proofs::RunLemmas::files))]
-fn read_files<'a, F: FileSource>(
-    alloc: Global,
-    given: &Options<'a>,
-    files: &F,
-) -> Result<FileBytes, Failure<CannotRead<'a>>>
-    ensures ok { IfOk result (λ read. HasFiles (F.held files.now) given.now (files_in read)) }
-    ensures err { IfErr result (FailsReadingFiles (F.held files.now) given.now) }
-{
-    let layout = bytes_named(files, alloc, given.layout)?;
-    let defaults = bytes_named(files, alloc, given.defaults)?;
-    let user = bytes_named(files, alloc, given.user)?;
-    let directories = read_directories(alloc, given.dirs.as_slice(), files)?;
-    Ok(FileBytes {
-        platform: given.platform,
-        layout,
-        defaults,
-        user,
-        directories,
-    })
-}
-
-/// The bytes of a file, or none if there is no file.
-fn lent_or_empty(bytes: &Option<Vec<u8>>) -> &[u8]
-    ensures { result.now ≡ unwrap_or (option_map (λ bytes. bytes.items) bytes.now) [] }
-{
-    match bytes {
-        Some(bytes) => bytes.as_slice(),
-        None => &[],
-    }
-}
-
 /// Runs the script over the files of a load.
 fn run_files<
     'a,
@@ -196,13 +156,13 @@ fn run_files<
 >(
     alloc: Global,
     setup: Setup<H>,
-    read: &FileBytes,
+    read: &SourceFiles,
     script: Option<S>,
     streams: &mut Streams<I, O, C>,
 ) -> Result<(), Stop<'a>>
     ensures { Runs setup.verification (files_in read.now)
-        (closures_of (map H.stands_for setup.closures.natives.items)
-        (map H.stands_for setup.closures.shelf.items))
+        (hosted (map H.stands_for setup.closures.natives.items)
+        (map H.stands_for setup.closures.shelf.items) setup.takes_rules)
         (script_bytes S.remaining script (I.remaining streams.old.input)) (record {
           said_before = heard_by C.said C.broken streams.old.voice;
           said = heard_by C.said C.broken streams.new.voice;
@@ -210,14 +170,8 @@ fn run_files<
           has = O.contents (writer_inner streams.new.trace);
         }) result }
 {
-    let extensions = lent_all(alloc, read.directories.as_slice())?;
-    let inputs = Inputs {
-        layout: lent(&read.layout),
-        defaults: lent_or_empty(&read.defaults),
-        user: lent_or_empty(&read.user),
-        platform: read.platform,
-        extensions: extensions.as_slice(),
-    };
+    let extensions = read.extension_files(alloc)?;
+    let inputs = read.inputs(extensions.as_slice());
     run_loaded(alloc, setup, inputs, script, streams)
 }
 
@@ -232,7 +186,7 @@ fn run_files<
 /// match, or opens, keeps or leaves a chord, no handler gets stuck, and nothing but refused memory stops the
 /// session.
 ///
-/// Errors: why the run stopped before its end.
+/// Errors: why the run stopped before its end; what was written stays.
 #[tactic(auto, using(crate::proofs::RunLemmas::files))]
 pub fn carry_out<
     'a,
@@ -249,8 +203,8 @@ pub fn carry_out<
     streams: &mut Streams<I, O, C>,
 ) -> Result<(), Stop<'a>>
     ensures { CarriesOut setup.verification (F.held files.now) given.entry
-        (closures_of (map H.stands_for setup.closures.natives.items)
-        (map H.stands_for setup.closures.shelf.items))
+        (hosted (map H.stands_for setup.closures.natives.items)
+        (map H.stands_for setup.closures.shelf.items) setup.takes_rules)
         (I.remaining streams.old.input) (record {
           said_before = heard_by C.said C.broken streams.old.voice;
           said = heard_by C.said C.broken streams.new.voice;

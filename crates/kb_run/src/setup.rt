@@ -21,4 +21,6 @@ pub struct HostClosures<H> {
 pub struct Setup<H> {
     pub verification: Verification,
     pub closures: HostClosures<H>,
+    /// Whether lines `rule KEY COMMAND [TEXT]` of the script add rules, as in a program without any argument.
+    pub takes_rules: bool,
 }

@@ -1,6 +1,6 @@
 //! The streams of a run.
 
-use kb_exit::{Console, Voice};
+use crate::voice::{Console, Voice};
 use std::io::{BufWriter, Read, Write};
 
 /// The streams of a run.

@@ -2,14 +2,14 @@
 ghost use Rattle.std.specs.Prelude.{◌≡◌, map};
 ghost use Rattle.std.specs.Process.{exit_status};
 ghost use Rattle.kb_run.specs.Report.{IsStatus, RunsOnSystem};
-ghost use Rattle.kb_run.specs.Run.{closures_of};
+ghost use Rattle.kb_run.specs.Run.{hosted};
 
+use crate::outcome::Stop;
 use crate::report::{report, run_and_report};
 use crate::setup::{Setup, Verification};
 use crate::streams::Streams;
-use kb_disk::SystemFiles;
-use kb_exit::{Stop, SystemConsole, Voice};
-use kb_options::Options;
+use crate::voice::{SystemConsole, Voice};
+use kb_disk::{Options, SystemFiles};
 use kb_registry::HostCommand;
 use std::alloc::Global;
 use std::io;
@@ -27,8 +27,8 @@ pub fn run_on_system<R: Files + Print + Eprint + Input, H: HostCommand>(
     given: Options<'_>,
 ) -> u8
     ensures run { RunsOnSystem setup.verification given.entry
-        (closures_of (map H.stands_for setup.closures.natives.items)
-        (map H.stands_for setup.closures.shelf.items)) result }
+        (hosted (map H.stands_for setup.closures.natives.items)
+        (map H.stands_for setup.closures.shelf.items) setup.takes_rules) result }
     ensures status { IsStatus setup.verification result }
 {
     let mut voice = Voice::new(SystemConsole { rt });

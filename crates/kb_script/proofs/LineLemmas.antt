@@ -1,6 +1,6 @@
 -- Bytes that are a text, the first line of bytes, and texts that are numbers.
 use Rattle.std.proofs.Common.{◌≡◌, ℕ, Bool, true, false, List, [], ◌∷◌, length, refl, sym, ap, ◌∙◌}
-use Rattle.std.proofs.Common.{cond, zero, suc, codes, ◌++◌}
+use Rattle.std.proofs.Common.{cond, zero, suc}
 use Rattle.std.proofs.Common.{arith, take, drop, ◌+◌, ◌-◌, ◌<◌, ◌^◌, subst}
 use Rattle.std.specs.Prelude.{Some, None, position, Result, Ok, Err, not, ◌&&◌, nat_eq, nat_lt}
 use Rattle.std.specs.List.{slice_split, onto_first, list_all}
@@ -16,12 +16,6 @@ use Rattle.std.proofs.lemmas.Bool.{ltb-true, ltb-false, lt-ltb, ne_eqb, false≢
 use Rattle.std.proofs.lemmas.List.Elements.{All-from_get_or}
 use Rattle.std.proofs.lemmas.List.Sums.{fails_before_first}
 use Rattle.kb_script.specs.Script.{number_of, lines_of, is_line_feed, without_return, without_returns}
-use Rattle.kb_keys.specs.declared.keystroke.Keystroke.{Keystroke}
-use Rattle.kb_keys.specs.Keystroke.{keystroke_of}
-use Rattle.kb_script.specs.Script.{event_said, key_event, line_said, or_unread, pressed_event, split_word, words_said}
-use Rattle.kb_script.specs.Shelf.{tells}
-use Rattle.kb_session.specs.State.{happens}
-use Rattle.kb_trace.specs.declared.event.Event.TheVariants as event
 
 pub is_text : (bs : List ℕ) → IsUtf8 bs → is_utf8 bs ≡ true
 is_text bs h = is_utf8-from_IsUtf8 bs h
@@ -128,21 +122,3 @@ no_number digits none =
     (Some (digits_value 10 digits)) None) (sym none)
 
 pub ruleset numbers = (number, no_number)
-
--- ---- key presses
-
-split_key : (rest : List ℕ) → split_word (codes "key " ++ rest) ≡ Some (codes "key", rest)
-split_key rest =
-    ap (λ (b : Bool). cond b (Some (codes "key", rest)) None)
-    (lt-ltb 3 (suc (suc (suc (suc (length rest))))) (omega arith))
-
-pub pressed : (number : ℕ) (line rest : List ℕ) (key : Keystroke) → line ≡ codes "key " ++ rest
-    → is_utf8 line ≡ true → keystroke_of rest ≡ Ok key
-    → line_said number line ≡ Some (tells (happens (event.Key key)))
-pressed number line rest key begins text read =
-    let text : is_utf8 (codes "key " ++ rest) ≡ true = subst (λ (l : List ℕ). is_utf8 l ≡ true) begins text in
-    let said : words_said (codes "key " ++ rest) (split_word (codes "key " ++ rest)) ≡ event_said (key_event rest) =
-    ap (words_said (codes "key " ++ rest)) (split_key rest) in
-    let told : event_said (key_event rest) ≡ Some (tells (happens (event.Key key))) =
-    ap (λ r. event_said (pressed_event r)) read in
-    ap (line_said number) begins ∙ rw text (ap (λ s. Some (or_unread number s)) (said ∙ told))

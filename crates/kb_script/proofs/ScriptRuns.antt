@@ -120,17 +120,24 @@ new_lines : (said : List Said) (old new : Traced Stand) (n : ℕ) → new ≡ af
 new_lines said old new n session before =
     rw (before, session) (drop-append_seam old.trace (fold move said old.state).lines)
 
--- the meaning of a line, with the marks that the session found
+-- what a line says, with the marks that the session found
+abbrev with_marks : List EntryPattern → Option Said → List Said
+with_marks marks said = option_to_list (option_map (marked marks) said)
+
+-- the meaning of a line, with these marks
 abbrev said_at : List EntryPattern → ℕ → List ℕ → List Said
-said_at marks number line = option_to_list (option_map (marked marks) (line_said number line))
+said_at marks number line = with_marks marks (line_said number line)
 
 -- a line ran, and its trace lines are written
-pub line_on : (marks : List EntryPattern) (number : ℕ) (line : List ℕ) (old new : Traced Stand)
-    (a b : Option (List ℕ)) (n : ℕ) → new ≡ after_all move (said_at marks number line) old
+pub line_on : (marks : List EntryPattern) (number : ℕ) (line : List ℕ) (read : Option Said)
+    (old new : Traced Stand) (a b : Option (List ℕ)) (n : ℕ) → read ≡ line_said number line
+    → new ≡ after_all move (with_marks marks read) old
     → n ≡ length old.trace → Appends a b (text_of_lines (drop n new.trace))
     → RunsSaid (option_to_list (line_said number line)) old new a b
-line_on marks number line old new a b n session before written =
+line_on marks number line read old new a b n is moved before written =
     let said = said_at marks number line in
+    let session : new ≡ after_all move said old =
+    moved ∙ ap (λ (o : Option Said). after_all move (with_marks marks o) old) is in
     record {
       said = said;
       tells = bare_marked marks (line_said number line) ∙ bare_line number line;
@@ -158,16 +165,19 @@ lacks (Some said) old new a b n session before part =
     (new_lines (said ∷ []) old new n session before ∙ ap (λ o. o.lines) (fold-one move said old.state)) part)
 
 -- a line ran, and its trace lines are not all written
-pub line_lacks : (marks : List EntryPattern) (number : ℕ) (line : List ℕ) (old new : Traced Stand)
-    (a b : Option (List ℕ)) (n : ℕ) (refused : WriteRefused)
-    → new ≡ after_all move (said_at marks number line) old
+pub line_lacks : (marks : List EntryPattern) (number : ℕ) (line : List ℕ) (read : Option Said)
+    (old new : Traced Stand) (a b : Option (List ℕ)) (n : ℕ) (refused : WriteRefused)
+    → read ≡ line_said number line → new ≡ after_all move (with_marks marks read) old
     → n ≡ length old.trace → AppendsPart a b (text_of_lines (drop n new.trace))
     → BreaksSaid (Fault refused) (option_to_list (line_said number line)) old new a b
-line_lacks marks number line old new a b n refused session before part = record {
-  said = said_at marks number line;
-  tells = bare_marked marks (line_said number line) ∙ bare_line number line;
-  breaks = lacks (option_map (marked marks) (line_said number line)) old new a b n session before part;
-}
+line_lacks marks number line read old new a b n refused is moved before part =
+    let session : new ≡ after_all move (said_at marks number line) old =
+    moved ∙ ap (λ (o : Option Said). after_all move (with_marks marks o) old) is in
+    record {
+      said = said_at marks number line;
+      tells = bare_marked marks (line_said number line) ∙ bare_line number line;
+      breaks = lacks (option_map (marked marks) (line_said number line)) old new a b n session before part;
+    }
 
 pub keeps_same : (a : Option (List ℕ)) → Keeps a a
 keeps_same None = tt
@@ -190,7 +200,14 @@ line_stops number line old new a some halts same = record {
   breaks = stops_now (line_said number line) old new a some halts same;
 }
 
-pub ruleset one_line = (line_stops)
+-- memory was refused to a line that was read
+pub read_stops : (number : ℕ) (line : List ℕ) (read : Option Said) (old new : Traced Stand)
+    (a : Option (List ℕ)) → read ≡ line_said number line → IsSome read → Halts old.state new.state
+    → new.trace ≡ old.trace → BreaksSaid NoMemory (option_to_list (line_said number line)) old new a a
+read_stops number line read old new a is some halts same =
+    line_stops number line old new a (subst (λ (o : Option Said). IsSome o) is some) halts same
+
+pub ruleset one_line = (line_stops, read_stops)
 
 -- memory is refused while the script is read
 pub refuse_reading : (had left : Option (List ℕ)) (old new : Traced State) (shelf : List Native)

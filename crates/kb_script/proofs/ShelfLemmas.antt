@@ -99,17 +99,21 @@ rotated native (n ∷ ns) h = by (λ k. rotated native ns k) (same_native native
         (rest (sym (ap (λ (b : Bool). b || on_shelf native ns) e) ∙ h)))
 
 -- a stop that leaves the shelf unchanged
-pub halts_same : (old new : Stand) → session.Halts old.state new.state → new.shelf ≡ old.shelf → Halts old new
-halts_same old new h e = record {
+pub halts_same : (old new : Stand) → old.state.stopped ≡ false → session.Halts old.state new.state
+    → new.shelf ≡ old.shelf → Halts old new
+halts_same old new running h e = record {
+  running = running;
   session = h;
   shelf = subst (λ (l : List Native). IsPermutation old.shelf l) (sym e) (IsPermutation-refl old.shelf);
 }
 
 -- a stop that put a closure back
-pub halts_rotated : (old new : Stand) (native : Native) → session.Halts old.state new.state
+pub halts_rotated : (old new : Stand) (native : Native) → old.state.stopped ≡ false
+    → session.Halts old.state new.state
     → on_shelf native old.shelf ≡ true → new.shelf ≡ without_first native old.shelf ++ native ∷ []
     → Halts old new
-halts_rotated old new native h there e = record {
+halts_rotated old new native running h there e = record {
+  running = running;
   session = h;
   shelf = subst (λ (l : List Native). IsPermutation old.shelf l) (sym e) (rotated native old.shelf there);
 }
@@ -140,10 +144,10 @@ pub put_back : {C : Type 0} (stands_for : C → Native) (native : Native) (befor
     (command back : C) (old new : Traced State)
     → (stands_for command ≡ native) × (on_shelf native (map stands_for before) ≡ true)
     × (map stands_for taken ≡ without_first native (map stands_for before))
-    → back ≡ command → after ≡ taken ++ back ∷ [] → new ≡ halt old
+    → back ≡ command → after ≡ taken ++ back ∷ [] → old.state.stopped ≡ false → new ≡ halt old
     → Halts (stand old.state (map stands_for before)) (stand new.state (map stands_for after))
-put_back stands_for native before taken after command back old new h same is stops =
-    halts_rotated _ _ native (halted old new stops) h.1
+put_back stands_for native before taken after command back old new h same is running stops =
+    halts_rotated _ _ native running (halted old new stops) h.1
     (ap (map stands_for) is ∙ map-append stands_for taken (back ∷ [])
     ∙ ap (λ (l : List Native). l ++ stands_for back ∷ []) h.2
     ∙ ap (λ (n : Native). without_first native (map stands_for before) ++ n ∷ []) (ap stands_for same ∙ h.0))

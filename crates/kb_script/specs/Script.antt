@@ -16,7 +16,7 @@ use Rattle.kb_keys.specs.Keystroke.{keystroke_of}
 use Rattle.kb_trace.specs.declared.event.Event.{Event}
 use Rattle.kb_trace.specs.declared.event.Event.TheVariants as event
 use Rattle.kb_script.specs.Shelf.{Said, tells, takes}
-use Rattle.kb_session.specs.State.{Told, happens, reload, dispose}
+use Rattle.kb_session.specs.State.{Told, happens, reload, dispose, types_rule}
 
 abbrev pub is_space : ℕ → Bool
 is_space b = b == 32
@@ -118,17 +118,17 @@ choice_of (Some number) = if nat_lt number (2 ^ 32) then Some (event.Choose numb
 abbrev pub choice : List ℕ → Option Event
 choice digits = choice_of (number_of digits)
 
--- an event, by the first word of its line and the text after the first space; a query is all of that text
+-- another event than a press, by the first word of its line and the text after the first space; a query is
+-- all of that text
 abbrev pub event_told : List ℕ → List ℕ → Option Event
 event_told word rest =
-    if bytes_eq word (codes "key") then key_event rest
-    else (if bytes_eq word (codes "focus") then focus_event rest
+    if bytes_eq word (codes "focus") then focus_event rest
     else (if bytes_eq word (codes "set") then set_event (split_word rest)
     else (if bytes_eq word (codes "unset") then unset_event (split_word rest)
     else (if bytes_eq word (codes "enable") then enable_event rest
     else (if bytes_eq word (codes "disable") then disable_event rest
     else (if bytes_eq word (codes "palette") then Some (event.Palette rest)
-    else (if bytes_eq word (codes "choose") then choice rest else None)))))))
+    else (if bytes_eq word (codes "choose") then choice rest else None))))))
 
 -- register NATIVE, by one of the nine identifiers
 abbrev pub registration : List ℕ → Option Said
@@ -147,6 +147,24 @@ abbrev pub update : List ℕ → Option (List ℕ × List ℕ) → Option Said
 update rest None = update_of rest []
 update rest (Some parts) = update_of parts.0 parts.1
 
+-- rule KEY COMMAND [TEXT], where the command is a word, and the text is all behind the space after it
+abbrev pub rule_with : ℕ → Keystroke → List ℕ → List ℕ → Option Said
+rule_with number key command text =
+    if is_word command then Some (tells (types_rule number key command text)) else None
+
+-- without that space the text is empty
+abbrev pub rule_behind : ℕ → Keystroke → List ℕ → Option (List ℕ × List ℕ) → Option Said
+rule_behind number key rest None = rule_with number key rest []
+rule_behind number key rest (Some parts) = rule_with number key parts.0 parts.1
+
+abbrev pub keyed_rule : ℕ → Result Keystroke KeyFault → List ℕ → Option Said
+keyed_rule number (Err fault) rest = None
+keyed_rule number (Ok key) rest = rule_behind number key rest (split_word rest)
+
+abbrev pub rule_said : ℕ → Option (List ℕ × List ℕ) → Option Said
+rule_said number None = None
+rule_said number (Some parts) = keyed_rule number (keystroke_of parts.0) parts.1
+
 abbrev pub event_said : Option Event → Option Said
 event_said event = option_map (λ e. tells (happens e)) event
 
@@ -156,22 +174,28 @@ lone_said word =
     if bytes_eq word (codes "reload") then Some (tells (reload [] []))
     else (if bytes_eq word (codes "palette") then Some (tells (happens (event.Palette []))) else None)
 
--- a line, by its first word and the text after the first space
-abbrev pub word_said : List ℕ → List ℕ → Option Said
-word_said word rest =
+-- a line that isn't a press, by its number, its first word and the text after the first space
+abbrev pub other_said : ℕ → List ℕ → List ℕ → Option Said
+other_said number word rest =
     if bytes_eq word (codes "reload") then Some (tells (reload rest []))
     else (if bytes_eq word (codes "register") then registration rest
     else (if bytes_eq word (codes "dispose") then disposal rest
     else (if bytes_eq word (codes "update") then update rest (split_word rest)
-    else event_said (event_told word rest))))
+    else (if bytes_eq word (codes "rule") then rule_said number (split_word rest)
+    else event_said (event_told word rest)))))
 
-abbrev pub words_said : List ℕ → Option (List ℕ × List ℕ) → Option Said
-words_said text None = lone_said text
-words_said text (Some parts) = word_said parts.0 parts.1
+-- a line, by its number, its first word and the text after the first space
+abbrev pub word_said : ℕ → List ℕ → List ℕ → Option Said
+word_said number word rest =
+    if bytes_eq word (codes "key") then event_said (key_event rest) else other_said number word rest
+
+abbrev pub words_said : ℕ → List ℕ → Option (List ℕ × List ℕ) → Option Said
+words_said number text None = lone_said text
+words_said number text (Some parts) = word_said number parts.0 parts.1
 
 -- the meaning of a line that parses
-abbrev pub text_said : List ℕ → Option Said
-text_said line = if is_utf8 line then words_said line (split_word line) else None
+abbrev pub text_said : ℕ → List ℕ → Option Said
+text_said number line = if is_utf8 line then words_said number line (split_word line) else None
 
 abbrev pub or_unread : ℕ → Option Said → Said
 or_unread number None = tells (happens (event.Unread number))
@@ -180,7 +204,7 @@ or_unread number (Some said) = said
 -- an empty line and one that begins with # have no meaning
 abbrev pub line_said : ℕ → List ℕ → Option Said
 line_said number [] = None
-line_said number (b ∷ bs) = if b == 35 then None else Some (or_unread number (text_said (b ∷ bs)))
+line_said number (b ∷ bs) = if b == 35 then None else Some (or_unread number (text_said number (b ∷ bs)))
 
 -- the meaning of lines, numbered from `number`
 abbrev pub said_from : ℕ → List (List ℕ) → List Said

@@ -1,10 +1,13 @@
 -- A session with its shelf, and the effect of a script's line on both. The shelf lists the host's
 -- closures that aren't registered, as the natives that they implement.
-use Rattle.std.specs.Prelude.{◌≡◌, Bool, true, false, List, [], ◌∷◌, ◌++◌, if◌then◌else◌}
+use Rattle.std.specs.Prelude.{◌≡◌, Bool, true, false, List, [], ◌∷◌, ◌++◌, Option, Some, if◌then◌else◌}
 use Rattle.std.specs.List.{list_any}
 use Rattle.std.specs.List.Sorted.{IsPermutation}
 use Rattle.kb_core.specs.declared.native.Native.{Native}
 use Rattle.kb_handler_table.specs.Live.{same_native}
+use Rattle.kb_resolve.specs.declared.found.Found.{Found}
+use Rattle.kb_resolve.specs.declared.found.Found.TheVariants.{Nothing}
+use Rattle.kb_session.specs.Inspect.{Finds}
 use Rattle.kb_session.specs.Session as session
 use Rattle.kb_session.specs.State.{State, Told, happens, register, dispose, Answered, ticket, gave, refused}
 use Rattle.kb_session.specs.State.{Stepped, step}
@@ -65,10 +68,16 @@ move said s = move_unless s.state.stopped said s
 abbrev pub halt : Traced Stand → Traced Stand
 halt old = record old { state = record old.state { state = record old.state.state { stopped = true } } }
 
--- memory was refused: the session is halted, and the shelf still has all its closures
+-- memory was refused to a running session: it is halted, and the shelf still has all its closures
 pub record Halts (old new : Stand) : Type 0 where
+  pub running : old.state.stopped ≡ false
   pub session : session.Halts old.state new.state
   pub shelf : IsPermutation old.shelf new.shelf
+
+-- what a line found: what its event found, if it says one
+abbrev pub FindsSaid : Option Said → State → State → Found → Type 0
+FindsSaid (Some (tells (happens e))) old new found = Finds e old new found
+FindsSaid said old new found = found ≡ Nothing
 
 -- ---- for private functions
 

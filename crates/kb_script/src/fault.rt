@@ -1,4 +1,5 @@
 //! The faults of scripts.
+use kb_base::FaultKind;
 use thiserror::Error;
 
 /// The reason why a script did not run to its end, other than refused memory.
@@ -23,18 +24,18 @@ pub enum ScriptFault {
 
 impl ScriptFault {
     ghost use Rattle.std.specs.Prelude.{◌≡◌};
-    ghost use Rattle.kb_script.specs.Fault.{script_number};
+    ghost use Rattle.kb_script.specs.Fault.{script_kind};
 
-    /// The number of the fault in the table of faults. (Our decision.)
-    pub fn number(self) -> u32
-        ensures { result ≡ script_number self }
+    /// The fault in the table of all faults, which has its number and its name.
+    pub fn kind(self) -> FaultKind
+        ensures { result ≡ script_kind self }
     {
         match self {
-            ScriptFault::Stopped => 97,
-            ScriptFault::TooLong => 100,
-            ScriptFault::ReadFailed => 101,
-            ScriptFault::WriteFailed => 102,
-            ScriptFault::Trapped => 103,
+            ScriptFault::Stopped => FaultKind::Stopped,
+            ScriptFault::TooLong => FaultKind::TooLong,
+            ScriptFault::ReadFailed => FaultKind::ReadFailed,
+            ScriptFault::WriteFailed => FaultKind::WriteFailed,
+            ScriptFault::Trapped => FaultKind::Trapped,
         }
     }
 }

@@ -1,6 +1,6 @@
 //! The lines of a script and their parser.
-ghost use Rattle.std.specs.Prelude.{◌≡◌, ◌<◌, ◌∷◌, ◌++◌, ℕ, List, codes, false, true, None, Some, Ok};
-ghost use Rattle.std.specs.Prelude.{IfOk, IfSome, IsSome, OnErr, MatchOption, option_map, position, length};
+ghost use Rattle.std.specs.Prelude.{◌≡◌, ◌<◌, ◌∷◌, false, true, length, option_map, position};
+ghost use Rattle.std.specs.Prelude.{IfOk, IfSome, IsSome, OnErr, MatchOption};
 ghost use Rattle.std.specs.Char.{is_ascii_digit};
 ghost use Rattle.std.specs.List.{list_any, list_all};
 ghost use Rattle.std.specs.Str.{is_utf8};
@@ -8,8 +8,6 @@ ghost use Rattle.kb_core.specs.Native.{named};
 ghost use Rattle.kb_keys.specs.Keystroke.{keystroke_of};
 ghost use Rattle.kb_script.specs.Script as script;
 ghost use Rattle.kb_script.specs.ScriptLine.{said_by, TakesAs};
-ghost use Rattle.kb_script.specs.Shelf.{tells};
-ghost use Rattle.kb_session.specs.State.{happens};
 ghost use Rattle.kb_trace.specs.declared.event.Event.TheVariants as event;
 
 use kb_base::{Failure, NoMemory, Refusal, Text, is_blank_text};
@@ -25,7 +23,9 @@ use std::str;
 /// A parsed line of a script.
 #[derive(Drop)]
 pub enum ScriptLine<'a> {
-    /// An event: `key KEY`, `focus SCOPE`, `palette [QUERY]`, `choose N`, `enable EXTENSION` or
+    /// `key KEY`: a press of the key.
+    Key(Keystroke),
+    /// Another event: `focus SCOPE`, `palette [QUERY]`, `choose N`, `enable EXTENSION` or
     /// `disable EXTENSION`; or `Unread` for a line that doesn't parse.
     Event(Event),
     /// `set SCOPE KEY JSON`: sets a key in a scope.
@@ -40,6 +40,9 @@ pub enum ScriptLine<'a> {
     Dispose(Ticket),
     /// `update EXTENSION JSON`: gives the extension the handlers of these bytes, which may be empty.
     Update(&'a str, &'a str),
+    /// `rule KEY COMMAND [TEXT]`, in the line with this number: adds a rule at the bottom of the user's
+    /// rules, if the session takes such lines. Without a text it is empty.
+    Rule(u64, Keystroke, &'a str, &'a str),
 }
 
 /// Parses one line. `None` for blank lines and comments: an empty line, or one that begins with `#`. A
@@ -55,10 +58,7 @@ pub fn read_line<'a>(
 {
     match line {
         [] | [b'#', ..] => Ok(None),
-        _ => match read_text(alloc, line)? {
-            Some(said) => Ok(Some(said)),
-            None => Ok(Some(ScriptLine::Event(Event::Unread(number)))),
-        },
+        _ => Ok(Some(read_text(alloc, number, line)?)),
     }
 }
 
@@ -91,12 +91,20 @@ fn without_return(line: &[u8]) -> &[u8]
     }
 }
 
-fn read_text<'a>(alloc: Global, line: &'a [u8]) -> Result<Option<ScriptLine<'a>>, NoMemory>
-    ensures { IfOk result (λ said. option_map said_by said ≡ script.text_said line.now) }
+/// Parses a line that says something. Its text is read and split once.
+fn read_text<'a>(alloc: Global, number: u64, line: &'a [u8]) -> Result<ScriptLine<'a>, NoMemory>
+    ensures { IfOk result (λ said.
+        said_by said ≡ script.or_unread number (script.text_said number line.now)) }
 {
-    match text_of(line) {
-        Some(text) => read_words(alloc, text),
-        None => Ok(None),
+    let Some(text) = text_of(line) else {
+        return Ok(ScriptLine::Event(Event::Unread(number)));
+    };
+    match split_word(text) {
+        Some((word, rest)) => read_words(alloc, number, word, rest),
+        None => match read_lone(alloc, text) {
+            Some(said) => Ok(said),
+            None => Ok(ScriptLine::Event(Event::Unread(number))),
+        },
     }
 }
 
@@ -112,48 +120,50 @@ fn text_of(line: &[u8]) -> Option<&str>
     }
 }
 
-/// The key of a line `key KEY` with a text that is a key, `None` for any other line. Most lines are such
-/// presses, so they are told by their first bytes, and no [`ScriptLine`] is made.
-#[tactic(auto, using(crate::proofs::LineLemmas::pressed))]
-pub(crate) fn pressed_key(line: &[u8]) -> Option<Keystroke>
-    ensures { IfSome result (λ key. (number : ℕ)
-        → script.line_said number line.now ≡ Some (tells (happens (event.Key key)))) }
+/// Parses a line of several words. Most are presses, so these are told first.
+fn read_words<'a>(
+    alloc: Global,
+    number: u64,
+    word: &str,
+    rest: &'a str,
+) -> Result<ScriptLine<'a>, NoMemory>
+    ensures { IfOk result (λ said.
+        said_by said ≡ script.or_unread number (script.word_said number word.now rest.now)) }
 {
-    key_in(text_of(line)?)
-}
-
-fn key_in(text: &str) -> Option<Keystroke>
-    ensures { IfSome result (λ key. (rest : List ℕ)
-        × (text.now ≡ codes "key " ++ rest) × (keystroke_of rest ≡ Ok key)) }
-{
-    let key = text.strip_prefix("key ")?;
-    Keystroke::parse(key).ok()
-}
-
-/// Parses a line: one of several words by its first word, or one of a single word.
-fn read_words<'a>(alloc: Global, text: &'a str) -> Result<Option<ScriptLine<'a>>, NoMemory>
-    ensures { IfOk result (λ said. option_map said_by said
-        ≡ script.words_said text.now (script.split_word text.now)) }
-{
-    match split_word(text) {
-        Some((word, rest)) => read_word(alloc, word, rest),
-        None => Ok(read_lone(alloc, text)),
+    if word == "key" {
+        return Ok(read_key(number, rest));
+    }
+    match read_word(alloc, number, word, rest)? {
+        Some(said) => Ok(said),
+        None => Ok(ScriptLine::Event(Event::Unread(number))),
     }
 }
 
-/// Parses a line of several words, by its first word.
+/// The press of a key, or a line that doesn't parse.
+fn read_key<'a>(number: u64, key: &str) -> ScriptLine<'a>
+    ensures { said_by result ≡ script.or_unread number (script.event_said (script.key_event key.now)) }
+{
+    match Keystroke::parse(key) {
+        Ok(key) => ScriptLine::Key(key),
+        Err(_) => ScriptLine::Event(Event::Unread(number)),
+    }
+}
+
+/// Parses a line that isn't a press, by its first word.
 fn read_word<'a>(
     alloc: Global,
+    number: u64,
     word: &str,
     rest: &'a str,
 ) -> Result<Option<ScriptLine<'a>>, NoMemory>
-    ensures { IfOk result (λ said. option_map said_by said ≡ script.word_said word.now rest.now) }
+    ensures { IfOk result (λ said. option_map said_by said ≡ script.other_said number word.now rest.now) }
 {
     match word {
         "reload" => Ok(Some(ScriptLine::Reload(rest))),
         "register" => Ok(read_register(rest)),
         "dispose" => Ok(read_dispose(rest)),
         "update" => Ok(read_update(rest)),
+        "rule" => Ok(read_rule(number, rest)),
         _ => read_event(alloc, word, rest),
     }
 }
@@ -168,7 +178,7 @@ fn line_of<'a>(event: Option<Event>) -> Option<ScriptLine<'a>>
     }
 }
 
-/// Parses an event, by the first word of its line.
+/// Parses another event than a press, by the first word of its line.
 fn read_event<'a>(
     alloc: Global,
     word: &str,
@@ -178,7 +188,6 @@ fn read_event<'a>(
         option_map said_by said ≡ script.event_said (script.event_told word.now rest.now)) }
 {
     match word {
-        "key" => Ok(line_of(read_key(rest))),
         "focus" => Ok(line_of(read_focus(alloc, rest)?)),
         "set" => read_set(alloc, rest),
         "unset" => Ok(read_unset(rest)),
@@ -244,6 +253,50 @@ fn update_of<'a>(id: &'a str, json: &'a str) -> Option<ScriptLine<'a>>
     }
 }
 
+/// The rule of a line: a key, a command, and a text if a space follows the command.
+fn read_rule(number: u64, rest: &str) -> Option<ScriptLine<'_>>
+    ensures { option_map said_by result ≡ script.rule_said number (script.split_word rest.now) }
+{
+    let (key, rest) = split_word(rest)?;
+    keyed_rule(number, key, rest)
+}
+
+/// The rule of a line on the key with this text.
+fn keyed_rule<'a>(number: u64, key: &str, rest: &'a str) -> Option<ScriptLine<'a>>
+    ensures { option_map said_by result ≡ script.keyed_rule number (keystroke_of key.now) rest.now }
+{
+    match Keystroke::parse(key) {
+        Ok(key) => rule_behind(number, key, rest),
+        Err(_) => None,
+    }
+}
+
+/// The rule of a line on this key, by what stands behind the key.
+fn rule_behind<'a>(number: u64, key: Keystroke, rest: &'a str) -> Option<ScriptLine<'a>>
+    ensures { option_map said_by result
+        ≡ script.rule_behind number key rest.now (script.split_word rest.now) }
+{
+    match split_word(rest) {
+        Some((command, text)) => rule_with(number, key, command, text),
+        None => rule_with(number, key, rest, ""),
+    }
+}
+
+fn rule_with<'a>(
+    number: u64,
+    key: Keystroke,
+    command: &'a str,
+    text: &'a str,
+) -> Option<ScriptLine<'a>>
+    ensures { option_map said_by result ≡ script.rule_with number key command.now text.now }
+{
+    if is_word(command) {
+        Some(ScriptLine::Rule(number, key, command, text))
+    } else {
+        None
+    }
+}
+
 /// The number that a text of decimal digits denotes, or `None` if it has no digits, other characters,
 /// or is too large. The digits are checked first, since `parse` accepts a sign too.
 #[tactic(auto, using(crate::proofs::LineLemmas::numbers))]
@@ -275,15 +328,6 @@ fn read_choice(digits: &str) -> Option<Event>
     let number = read_number(digits)?;
     match u32::try_from(number) {
         Ok(number) => Some(Event::Choose(number)),
-        Err(_) => None,
-    }
-}
-
-fn read_key(key: &str) -> Option<Event>
-    ensures { result ≡ script.key_event key.now }
-{
-    match Keystroke::parse(key) {
-        Ok(key) => Some(Event::Key(key)),
         Err(_) => None,
     }
 }

@@ -7,15 +7,13 @@ ghost use Rattle.kb_script.specs.ScriptRun.{Answers, RunsSaid, BreaksSaid, scrip
 ghost use Rattle.kb_script.specs.Stream.{Streams, StreamsSaid, StreamBreaks, left_of};
 ghost use Rattle.kb_script.specs.declared.script_run.Kept.TheVariants.{Unwritten};
 ghost use Rattle.kb_script.specs.Shelf.{beside};
-ghost use Rattle.kb_session.specs.State.{stops};
 ghost use Rattle.kb_stream.specs.Reading.{ConsumesAtMost};
 ghost use Rattle.kb_stream.specs.Writing.{AppendsPart, text_of_lines};
 
 use crate::fault::ScriptFault;
-use crate::script::split_line;
+use crate::script::{read_line, split_line};
 use crate::shelf::obey;
 use kb_base::Failure;
-use kb_execute::Finish;
 use kb_registry::HostCommand;
 use kb_session::Session;
 use kb_stream::{ReadFault, WriteRefused, read_within, write_whole};
@@ -170,7 +168,7 @@ fn run_lines<W: Write, C: HostCommand>(
 
 /// Runs one line of a script: changes session and shelf, and then writes the trace lines that it added.
 /// Returns whether a handler trapped.
-#[tactic(auto, using(crate::proofs::ScriptRuns::one_line))]
+#[tactic(auto, using(crate::proofs::ScriptRuns::one_line, crate::proofs::ShelfLemmas::halting))]
 fn run_line<W: Write, C: HostCommand>(
     alloc: Global,
     number: u64,
@@ -192,11 +190,15 @@ fn run_line<W: Write, C: HostCommand>(
         (W.contents writer.old) (W.contents writer.new)) }
 {
     let before = session.trace().len();
-    let Ok(finish) = obey(alloc, number, line, session, shelf) else {
+    let Ok(said) = read_line(alloc, number, line) else {
+        session.stop();
+        return Err(Failure::NoMemory);
+    };
+    let Ok(ended) = obey(said, session, shelf) else {
         return Err(Failure::NoMemory);
     };
     match write_from(before, writer, session) {
-        Ok(()) => Ok(is_trap(finish)),
+        Ok(()) => Ok(ended.finish.stops()),
         Err(refused) => Err(Failure::Fault(refused)),
     }
 }
@@ -209,16 +211,6 @@ fn drop_written<C: HostCommand>(kept: Kept, mark: usize, session: &mut Session<C
     match kept {
         Kept::All => {}
         Kept::Unwritten => session.truncate_trace(mark),
-    }
-}
-
-/// Whether the command of an event trapped, which stops the session.
-fn is_trap(finish: Finish) -> bool
-    ensures { result ≡ stops finish }
-{
-    match finish {
-        Finish::Trapped => true,
-        Finish::Done | Finish::NotFound | Finish::BadArguments => false,
     }
 }
 

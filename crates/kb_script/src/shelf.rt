@@ -3,110 +3,89 @@
 ghost use Rattle.std.specs.Prelude.{◌≡◌, ◌<◌, false, true, map, option_map, option_to_list, position};
 ghost use Rattle.std.specs.Prelude.{vec_len, vec_capacity, OnOk, OnErr, IfOk, IsSome, MatchOption};
 ghost use Rattle.kb_handler_table.specs.Live.{same_native};
-ghost use Rattle.kb_script.specs.Script as script;
 ghost use Rattle.kb_script.specs.ScriptRun.{marked};
-ghost use Rattle.kb_script.specs.Shelf.{tells, takes, beside, move, Obeys, on_shelf, without_first, Halts};
-ghost use Rattle.kb_session.specs.State.{dispose, stops};
+ghost use Rattle.kb_execute.specs.Start.{stops};
+ghost use Rattle.kb_script.specs.ScriptLine.{said_by};
+ghost use Rattle.kb_script.specs.Shelf.{FindsSaid, Halts, Obeys, beside, move, on_shelf, takes, tells};
+ghost use Rattle.kb_script.specs.Shelf.{without_first};
+ghost use Rattle.kb_session.specs.State.{dispose};
 ghost use Rattle.kb_stream.specs.Fold.{after_all};
 
-use crate::script::{ScriptLine, pressed_key, read_line};
+use crate::script::ScriptLine;
 use kb_base::NoMemory;
 use kb_core::Native;
-use kb_execute::Finish;
 use kb_registry::{HostCommand, Ticket};
-use kb_session::{Session, SessionFault};
+use kb_session::{EventEnd, Session, SessionFault};
 use kb_trace::Event;
-use std::alloc::{AllocError, Global};
+use std::alloc::AllocError;
 
-/// Parses a line and applies it to session and shelf. Returns how a command that it started ended. The
-/// contract's marks are those that the session found. If memory is refused, also while parsing, the session
-/// is stopped, and the shelf still has all its closures.
+/// Applies a parsed line to session and shelf; `None` is a line that says nothing (`read_line`). Returns how
+/// the command that it started ended, and what a press found. The contract's marks are those that the session
+/// found. If memory is refused, the session is stopped, the trace is as it was, and the shelf still has all
+/// its closures.
 #[tactic(auto, using(crate::proofs::ShelfLemmas::halting, kb_session::proofs::Stopping::answers_quietly))]
 pub fn obey<C: HostCommand>(
-    alloc: Global,
-    number: u64,
-    line: &[u8],
+    said: Option<ScriptLine<'_>>,
     session: &mut Session<C>,
     shelf: &mut Vec<C>,
-) -> Result<Finish, NoMemory>
+) -> Result<EventEnd, NoMemory>
     requires { session.old.state.stopped ≡ false }
     ensures ok { OnOk result (beside session.new (map C.stands_for shelf.new.items)
         ≡ after_all move (option_to_list
-        (option_map (marked session.new.state.sources.user.unread) (script.line_said number line.now)))
+        (option_map (marked session.new.state.sources.user.unread) (option_map said_by said.entry)))
         (beside session.old (map C.stands_for shelf.old.items))) }
-    ensures stops { IfOk result (λ finish. session.new.state.stopped ≡ stops finish) }
+    ensures stops { IfOk result (λ ended. session.new.state.stopped ≡ stops ended.finish) }
+    ensures found { IfOk result (λ ended.
+        FindsSaid (option_map said_by said.entry) session.old.state session.new.state ended.found) }
     ensures err { OnErr result (Halts (beside session.old (map C.stands_for shelf.old.items)).state
         (beside session.new (map C.stands_for shelf.new.items)).state) }
     ensures trace { OnErr result (session.new.trace ≡ session.old.trace) }
-    ensures asked { OnErr result (IsSome (script.line_said number line.now)) }
+    ensures asked { OnErr result (IsSome (option_map said_by said.entry)) }
 {
-    match pressed_key(line) {
-        Some(key) => match session.handle_fully(Event::Key(key)) {
-            Ok(handled) => Ok(handled.finish),
+    match said {
+        Some(ScriptLine::Key(key)) => match session.press(key) {
+            Ok(ended) => Ok(ended),
             Err(_) => Err(AllocError),
         },
-        None => obey_other(alloc, number, line, session, shelf),
-    }
-}
-
-/// The same as [`obey`] for any line.
-#[tactic(auto, using(crate::proofs::ShelfLemmas::halting, kb_session::proofs::Stopping::answers_quietly))]
-fn obey_other<C: HostCommand>(
-    alloc: Global,
-    number: u64,
-    line: &[u8],
-    session: &mut Session<C>,
-    shelf: &mut Vec<C>,
-) -> Result<Finish, NoMemory>
-    requires { session.old.state.stopped ≡ false }
-    ensures ok { OnOk result (beside session.new (map C.stands_for shelf.new.items)
-        ≡ after_all move (option_to_list
-        (option_map (marked session.new.state.sources.user.unread) (script.line_said number line.now)))
-        (beside session.old (map C.stands_for shelf.old.items))) }
-    ensures stops { IfOk result (λ finish. session.new.state.stopped ≡ stops finish) }
-    ensures err { OnErr result (Halts (beside session.old (map C.stands_for shelf.old.items)).state
-        (beside session.new (map C.stands_for shelf.new.items)).state) }
-    ensures trace { OnErr result (session.new.trace ≡ session.old.trace) }
-    ensures asked { OnErr result (IsSome (script.line_said number line.now)) }
-{
-    match read_line(alloc, number, line) {
-        Ok(Some(ScriptLine::Event(event))) => match session.handle_fully(event) {
-            Ok(handled) => Ok(handled.finish),
+        Some(ScriptLine::Event(event)) => match session.handle_fully(event) {
+            Ok(handled) => Ok(handled.ended),
             Err(_) => Err(AllocError),
         },
-        Ok(Some(ScriptLine::Set(scope, key, value))) => {
+        Some(ScriptLine::Set(scope, key, value)) => {
             match session.set_context(scope, key, value) {
-                Ok(_) => Ok(Finish::Done),
+                Ok(_) => Ok(EventEnd::without_command()),
                 Err(_) => Err(AllocError),
             }
         }
-        Ok(Some(ScriptLine::Unset(scope, key))) => match session.unset_context(scope, key) {
-            Ok(_) => Ok(Finish::Done),
+        Some(ScriptLine::Unset(scope, key)) => match session.unset_context(scope, key) {
+            Ok(_) => Ok(EventEnd::without_command()),
             Err(_) => Err(AllocError),
         },
-        Ok(Some(ScriptLine::Reload(text))) => match session.reload_user(text.as_bytes()) {
-            Ok(_) => Ok(Finish::Done),
+        Some(ScriptLine::Reload(text)) => match session.reload_user(text.as_bytes()) {
+            Ok(_) => Ok(EventEnd::without_command()),
             Err(_) => Err(AllocError),
         },
-        Ok(Some(ScriptLine::Update(id, json))) => {
+        Some(ScriptLine::Update(id, json)) => {
             match session.update_extension(id, json.as_bytes()) {
-                Ok(_) => Ok(Finish::Done),
+                Ok(_) => Ok(EventEnd::without_command()),
                 Err(_) => Err(AllocError),
             }
         }
-        Ok(Some(ScriptLine::Register(native))) => {
+        Some(ScriptLine::Rule(number, key, command, text)) => {
+            match session.add_rule(number, key, command, text) {
+                Ok(_) => Ok(EventEnd::without_command()),
+                Err(_) => Err(AllocError),
+            }
+        }
+        Some(ScriptLine::Register(native)) => {
             register_first(native, session, shelf)?;
-            Ok(Finish::Done)
+            Ok(EventEnd::without_command())
         }
-        Ok(Some(ScriptLine::Dispose(ticket))) => {
+        Some(ScriptLine::Dispose(ticket)) => {
             give_back(ticket, session, shelf)?;
-            Ok(Finish::Done)
+            Ok(EventEnd::without_command())
         }
-        Ok(None) => Ok(Finish::Done),
-        Err(_) => {
-            session.stop();
-            Err(AllocError)
-        }
+        None => Ok(EventEnd::without_command()),
     }
 }
 

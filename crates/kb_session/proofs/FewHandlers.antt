@@ -5,7 +5,8 @@ use Rattle.std.specs.Prelude.{⊤, Option, Some, None, Result, Ok, Err, IfOk, if
 use Rattle.std.proofs.lemmas.Bool.{ltb-false}
 use Rattle.kb_files.specs.Fault.{refused_by, refused_file}
 use Rattle.kb_bindings.specs.Load as load
-use Rattle.kb_bindings.specs.Load.{Files, Held, HeldRules}
+use Rattle.kb_bindings.specs.Load.{Held, HeldRules}
+use Rattle.kb_files.specs.Inputs.{Files}
 use Rattle.kb_base.specs.declared.note.EntryPattern.{EntryPattern}
 use Rattle.kb_files.specs.Extensions.{ExtensionBytes, HeldExtension}
 use Rattle.kb_bindings.specs.Load.{held_by}
@@ -16,6 +17,7 @@ use Rattle.kb_files.specs.declared.fault.LoadFault.{LoadFault}
 use Rattle.kb_files.specs.declared.fault.LoadFile.TheVariants as file
 use Rattle.kb_bindings.specs.declared.load.Loaded.{Loaded}
 use Rattle.kb_base.specs.Reading.{◌>>=◌, seen}
+use Rattle.kb_base.specs.declared.fault.FaultKind.TheVariants.{TooLarge}
 use Rattle.kb_base.specs.Refusal.{refused_for}
 use Rattle.kb_context.specs.Scopes.{RevisedScopes}
 use Rattle.kb_files.specs.Layout.{layout_scopes}
@@ -54,7 +56,7 @@ rules_few : (files : Files)
 rules_few files =
     bind (λ _. ⊤) (λ (rules : HeldRules). Few rules.extensions) (lists_held files.defaults files.user) _ (any _)
     (λ lists i. bind Few (λ (rules : HeldRules). Few rules.extensions) (extensions_held files.extensions) _
-    (held_few files.extensions _ refl (refused_file file.Extensions (refused_for 44))) (λ held j. j))
+    (held_few files.extensions _ refl (refused_file file.Extensions (refused_for TooLarge))) (λ held j. j))
 
 all_few : (files : Files) → IfOk (held_by files) (λ held. Few held.rules.extensions)
 all_few files =

@@ -2,7 +2,8 @@
 use Rattle.std.proofs.Common.{◌≡◌, List, refl, ap, ◌∙◌, subst, sym, inl}
 use Rattle.std.specs.Prelude.{Result, Ok, Err, IfOk, IfErr}
 use Rattle.kb_bindings.specs.Load as load
-use Rattle.kb_bindings.specs.Load.{Files, Held, held_by, sources_by}
+use Rattle.kb_bindings.specs.Load.{Held, held_by, sources_by}
+use Rattle.kb_files.specs.Inputs.{Files}
 use Rattle.kb_base.specs.declared.note.EntryPattern.{EntryPattern}
 use Rattle.kb_files.specs.Extensions.{handlers_of}
 use Rattle.kb_bindings.specs.Unread.{unread_of}
@@ -14,8 +15,8 @@ use Rattle.kb_base.specs.declared.failure.Failure.{Failure}
 use Rattle.kb_base.specs.declared.failure.Failure.TheVariants as failure
 use Rattle.kb_core.specs.declared.native.Native.{Native}
 use Rattle.kb_keys.specs.declared.platform.Platform.{Platform}
-use Rattle.kb_load_commands.specs.Checked.{LiveChecked}
-use Rattle.kb_load_commands.specs.Raw.{raw_held}
+use Rattle.kb_extension_code.specs.Checked.{LiveChecked}
+use Rattle.kb_extension_code.specs.Raw.{raw_held}
 use Rattle.kb_registry.specs.Live.{Live}
 use Rattle.kb_session.specs.Session.{CommandsFail, IsOf, Loads, LoadsRaw, Seen, loaded_raw, loaded_session, marks_by}
 use Rattle.kb_session.specs.Session.{raw_load_held}

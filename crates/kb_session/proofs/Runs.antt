@@ -3,9 +3,9 @@ use Rattle.std.proofs.Common.{◌≡◌, true, false, List, [], ◌∷◌, refl,
 use Rattle.std.specs.Prelude.{◌||◌}
 use Rattle.kb_session.specs.declared.fault.SessionFault.{SessionFault}
 use Rattle.kb_session.specs.declared.fault.SessionFault.TheVariants as fault
-use Rattle.kb_session.specs.Session.{took, halt, half_done, Halts, HaltsAt, FailsAt, FailsAmong}
+use Rattle.kb_session.specs.Session.{took, halt, half_done, Halts, HaltsAt, HaltsRunning, FailsAt, FailsAmong}
 use Rattle.kb_session.specs.Session.{is_left, is_late}
-use Rattle.kb_session.specs.State.{State, Told, happens, reload, register, dispose, step_unless, next}
+use Rattle.kb_session.specs.State.{State, Told, happens, reload, register, dispose, types_rule, step_unless, next}
 use Rattle.kb_session.specs.State.{out_of}
 use Rattle.kb_stream.specs.Fold.{Traced, nothing, fold, after_all}
 use Rattle.kb_stream.proofs.FoldLemmas.{fold-still, RunsUpTo, run_start, run_step, run_end}
@@ -83,6 +83,7 @@ halts_at (happens (event.Unread number)) old new h = halt_halts old new h
 halts_at (reload bytes marks) old new h = halt_halts old new h
 halts_at (register native) old new h = halt_halts old new h
 halts_at (dispose number) old new h = halt_halts old new h
+halts_at (types_rule number key command text) old new h = halt_halts old new h
 
 -- the fault of an event is the fault of the run
 pub runs_fail : (old now new : Traced State) (events left rest : List Told) (event : Told) (f : SessionFault)
@@ -93,8 +94,8 @@ runs_fail old now new events left rest event (fault.Refused refusal) runs is sam
 runs_fail old now new events left rest event fault.NoMemory runs is same running fails =
     let h = halts_at event now new fails.1 in (
       running,
-      run_stop next Halts old now new events rest event
-          (subst (λ (l : List Told). RunsUpTo next old events now l) is runs) h.0 h.1,
+      run_stop next HaltsRunning old now new events rest event
+          (subst (λ (l : List Told). RunsUpTo next old events now l) is runs) (fails.0, h.0) h.1,
     )
 runs_fail old now new events left rest event fault.Stopped runs is same running fails = (
   ap (λ b. b || is_left events old.state) running ∙ same ∙ ap (λ told. is_left told now.state) is

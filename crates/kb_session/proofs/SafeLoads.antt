@@ -6,15 +6,16 @@ use Rattle.std.proofs.lemmas.List.Elements.{All-cons, All-nil}
 use Rattle.kb_base.specs.Reading.{seen}
 use Rattle.kb_base.specs.declared.failure.Failure.{Failure}
 use Rattle.kb_base.specs.declared.note.EntryPattern.{EntryPattern}
-use Rattle.kb_bindings.specs.Load.{Files, Held, held_by, sources_by}
+use Rattle.kb_bindings.specs.Load.{Held, held_by, sources_by}
+use Rattle.kb_files.specs.Inputs.{Files}
 use Rattle.kb_bindings.specs.declared.load.Loaded.{Loaded}
 use Rattle.kb_core.specs.declared.native.Native.{Native}
 use Rattle.kb_files.specs.Extensions.{HeldExtension, extensions_by, handlers_of, outlines_of}
 use Rattle.kb_files.specs.declared.extension_file.Extension.{Extension}
 use Rattle.kb_files.specs.declared.fault.LoadFault.{LoadFault}
 use Rattle.kb_keys.specs.declared.platform.Platform.{Platform}
-use Rattle.kb_lifecycle.specs.Settled.{AreNumbered}
-use Rattle.kb_lifecycle.proofs.Loads.{loaded_is_settled}
+use Rattle.kb_extension_code.specs.Settled.{AreNumbered}
+use Rattle.kb_extension_code.proofs.Loads.{loaded_is_settled}
 use Rattle.kb_session.specs.Session.{IsOf, Loads, Seen, marks_by}
 use Rattle.kb_session.specs.State.{IsSafe}
 

@@ -22,30 +22,32 @@ use Rattle.kb_registry.specs.declared.fault.RegistryFault.{RegistryFault}
 use Rattle.kb_registry.specs.declared.fault.RegistryFault.TheVariants.{InUse}
 use Rattle.kb_resolve.specs.Pressed as press
 use Rattle.kb_resolve.specs.Pressed.{Step}
+use Rattle.kb_keys.specs.declared.keystroke.Keystroke.{Keystroke}
 use Rattle.kb_rules.specs.RuleList.{Listed}
 use Rattle.kb_base.specs.declared.note.Origin.TheVariants.{User}
 use Rattle.kb_palette.specs.declared.listing.Entry.{Entry}
 use Rattle.kb_session.specs.Palette.{entry_at}
 use Rattle.kb_session.specs.Press.{press_started, rule_started}
-use Rattle.kb_session.specs.State.{State, Told, Stepped, happens, reload, register, dispose, stops}
+use Rattle.kb_session.specs.State.{State, Told, Stepped, happens, reload, register, dispose, types_rule}
+use Rattle.kb_session.specs.State.{rule_typed}
 use Rattle.kb_session.specs.State.{taken_unless, refusal_of, reloaded, registering, disposing}
 use Rattle.kb_session.specs.State.{disposing_unless, code_updated, disabling_refusal, enabling_refusal}
 use Rattle.kb_session.specs.State.{choosing, extension_refusal, is_new, named_in, switched, switched_to, updated}
 use Rattle.kb_session.specs.State.{step_on, step_unless, IsSafe, RunsOn}
 use Rattle.kb_session.proofs.Stopping.{switched_quiet}
 use Rattle.kb_handler_table.specs.Codes.{CodesData}
-use Rattle.kb_lifecycle.specs.Dependencies.{Placed}
-use Rattle.kb_lifecycle.specs.Switching.{disable_refusal, enable_refusal}
-use Rattle.kb_lifecycle.proofs.Closures.{disposed_stays_settled, registered_stays_settled}
-use Rattle.kb_lifecycle.proofs.NamedLemmas.{named_there}
-use Rattle.kb_lifecycle.proofs.Switches.{disabled_stays_settled, enabled_stays_settled}
-use Rattle.kb_lifecycle.proofs.Exchanges.{updated_stays_settled}
+use Rattle.kb_extension_code.specs.Dependencies.{Placed}
+use Rattle.kb_extension_code.specs.Switching.{disable_refusal, enable_refusal}
+use Rattle.kb_extension_code.proofs.Closures.{disposed_stays_settled, registered_stays_settled}
+use Rattle.kb_extension_code.proofs.NamedLemmas.{named_there}
+use Rattle.kb_extension_code.proofs.Switches.{disabled_stays_settled, enabled_stays_settled}
+use Rattle.kb_extension_code.proofs.Exchanges.{updated_stays_settled}
 use Rattle.kb_soundness.specs.Sound.{IsDone}
 use Rattle.kb_soundness.specs.Stays.{IsSound}
 use Rattle.kb_soundness.proofs.NeverStuck.{starts_never_stuck}
 use Rattle.kb_execute.specs.RunCommands.{Planned, plan_of, run_commands}
 use Rattle.kb_execute.specs.Start.{Started, and_then, ran, run_all, run_one, run_plan, start_live, start_of}
-use Rattle.kb_execute.specs.Start.{started_as, started_with}
+use Rattle.kb_execute.specs.Start.{started_as, started_with, stops}
 use Rattle.kb_execute.specs.declared.start.Finish.{Finish}
 use Rattle.kb_execute.specs.declared.start.Finish.TheVariants.{Done, NotFound, BadArguments, Trapped}
 use Rattle.kb_trace.specs.Lines as line
@@ -233,12 +235,19 @@ disposing_goes None number s running safe held = (running, safe)
 disposing_goes (Some native) number s running safe held =
     unless_goes (caller_of native s.live.code) native number s running safe held refl
 
+typed_goes : (taken : Bool) (number : ℕ) (key : Keystroke) (command text : List ℕ) (s : State)
+    → s.stopped ≡ false → IsSafe s → GoesOn (rule_typed taken number key command text s)
+typed_goes true number key command text s running safe = (running, safe)
+typed_goes false number key command text s running safe = (running, safe)
+
 step_on_goes : (told : Told) (s : State) → s.stopped ≡ false → IsSafe s → GoesOn (step_on told s)
 step_on_goes (happens e) s running safe = taken_goes (refusal_of e s) e s refl running safe
 step_on_goes (reload bytes marks) s running safe = reloaded_goes (rules_in marks User bytes) s running safe
 step_on_goes (register native) s running safe =
     registering_goes (registration_fault native s.live) native s running safe
 step_on_goes (dispose number) s running safe = disposing_goes (holder number s.live) number s running safe refl
+step_on_goes (types_rule number key command text) s running safe =
+    typed_goes s.takes_rules number key command text s running safe
 
 pub runs_on : RunsOn
 runs_on told s running safe =

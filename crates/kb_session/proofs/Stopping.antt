@@ -1,7 +1,7 @@
 -- Only a key press and a choice can stop a running session.
 use Rattle.std.specs.Prelude.{⊤}
 use Rattle.std.proofs.Common.{◌≡◌, ◌∙◌, Bool, true, false, Option, Some, None, Result, Ok, Err, ℕ, ap, refl}
-use Rattle.std.proofs.Common.{length, sym, take}
+use Rattle.std.proofs.Common.{length, sym, take, List}
 use Rattle.kb_base.specs.declared.refusal.Refusal.{Refusal}
 use Rattle.kb_code.specs.Handler.{HandlerData}
 use Rattle.kb_core.specs.declared.native.Native.{Native}
@@ -11,13 +11,14 @@ use Rattle.kb_registry.specs.Live.{registration_fault, holder}
 use Rattle.kb_registry.specs.declared.fault.RegistryFault.{RegistryFault}
 use Rattle.kb_rules.specs.RuleList.{Listed}
 use Rattle.kb_base.specs.declared.note.Origin.TheVariants.{User}
-use Rattle.kb_session.specs.Session.{Answers, Does, half_done, halt, HaltsAt, IsHalf, Takes, Undone}
-use Rattle.kb_session.specs.State.{State, Told, happens, reload, register, dispose, Answered, step_on, step_unless}
+use Rattle.kb_keys.specs.declared.keystroke.Keystroke.{Keystroke}
+use Rattle.kb_session.specs.Session.{Answers, Does, half_done, halt, HalfDone, HaltsAt, IsHalf, Takes, Undone}
+use Rattle.kb_session.specs.State.{State, Told, happens, reload, register, dispose, types_rule, Answered, step_on, step_unless}
 use Rattle.kb_session.specs.State.{out_of, taken_unless, refusal_of, reloaded, registering, disposing}
 use Rattle.kb_session.specs.State.{disposing_unless, code_updated, named_in, switched, switched_to}
-use Rattle.kb_session.specs.State.{switch_target, updated}
+use Rattle.kb_session.specs.State.{rule_typed, switch_target, updated}
 use Rattle.kb_handler_table.specs.Codes.{CodesData}
-use Rattle.kb_lifecycle.specs.Dependencies.{Placed}
+use Rattle.kb_extension_code.specs.Dependencies.{Placed}
 use Rattle.kb_stream.specs.Fold.{after, Traced}
 use Rattle.kb_trace.specs.declared.event.Answer.{Answer}
 use Rattle.kb_trace.specs.declared.event.Event.{Event}
@@ -76,12 +77,18 @@ held_quiet : (o : Option Native) (number : ℕ) (s : State) → (disposing o num
 held_quiet None number s = refl
 held_quiet (Some native) number s = disposing_quiet (caller_of native s.live.code) native number s
 
+typed_quiet : (taken : Bool) (number : ℕ) (key : Keystroke) (command text : List ℕ) (s : State)
+    → (rule_typed taken number key command text s).state.stopped ≡ s.stopped
+typed_quiet true number key command text s = refl
+typed_quiet false number key command text s = refl
+
 -- so the step of any other input leaves a running session running
 step_quiet : (told : Told) (s : State) → IsQuiet told → (step_on told s).state.stopped ≡ s.stopped
 step_quiet (happens e) s quiet = taken_quiet (refusal_of e s) e s quiet
 step_quiet (reload bytes marks) s quiet = reloaded_quiet (rules_in marks User bytes) s
 step_quiet (register native) s quiet = registering_quiet (registration_fault native s.live) native s
 step_quiet (dispose number) s quiet = held_quiet (holder number s.live) number s
+step_quiet (types_rule number key command text) s quiet = typed_quiet s.takes_rules number key command text s
 
 -- the same of a call that handled an input
 pub does_quietly : (told : Told) (old new : Traced State) (a : Answer) → IsQuiet told → Does told old a new
@@ -138,3 +145,10 @@ half_halts (event.Unread number) old mid new h is = undone old mid new h is
 half_halts event.NoClosure old mid new h is = undone old mid new h is
 
 pub ruleset taking = (takes_done, half_halts)
+
+-- the same for a key press
+pub press_halts : (key : Keystroke) (old mid new : Traced State) → HalfDone old mid → IsCut old mid new
+    → HaltsAt (happens (event.Key key)) old new
+press_halts key old mid new h is = half_halts (event.Key key) old mid new h is
+
+pub ruleset pressing = (press_halts)

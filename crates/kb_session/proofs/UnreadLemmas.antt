@@ -4,6 +4,7 @@ use Rattle.std.proofs.Common.{append_assoc}
 use Rattle.std.specs.Prelude.{Option, Some, None, Result, Ok, Err}
 use Rattle.kb_base.specs.declared.refusal.Refusal.{Refusal}
 use Rattle.kb_files.specs.RuleFile.{rules_in}
+use Rattle.kb_keys.specs.declared.keystroke.Keystroke.{Keystroke}
 use Rattle.kb_rules.specs.RuleList.{Listed}
 use Rattle.kb_base.specs.declared.note.Origin.TheVariants.{User}
 use Rattle.kb_palette.specs.declared.listing.Entry.{Entry}
@@ -12,13 +13,13 @@ use Rattle.kb_session.specs.Session.{Halts}
 use Rattle.kb_core.specs.declared.native.Native.{Native}
 use Rattle.kb_registry.specs.Live.{registration_fault, holder}
 use Rattle.kb_registry.specs.declared.fault.RegistryFault.{RegistryFault}
-use Rattle.kb_session.specs.State.{State, Told, happens, reload, register, dispose, step, step_on}
+use Rattle.kb_session.specs.State.{State, Told, happens, reload, register, dispose, types_rule, step, step_on}
 use Rattle.kb_session.specs.State.{step_unless}
 use Rattle.kb_session.specs.State.{next, taken_unless, reloaded, refusal_of, registering, disposing}
 use Rattle.kb_session.specs.State.{disposing_unless, code_updated, named_in, switched, switched_to}
-use Rattle.kb_session.specs.State.{choosing, switch_target, updated}
+use Rattle.kb_session.specs.State.{choosing, rule_typed, switch_target, updated}
 use Rattle.kb_handler_table.specs.Codes.{CodesData}
-use Rattle.kb_lifecycle.specs.Dependencies.{Placed}
+use Rattle.kb_extension_code.specs.Dependencies.{Placed}
 use Rattle.kb_code.specs.Handler.{HandlerData}
 use Rattle.kb_handler_table.specs.Live.{caller_of}
 use Rattle.kb_base.specs.declared.note.EntryPattern.{EntryPattern}
@@ -86,6 +87,11 @@ dispose_lists : (native : Option Native) (number : ℕ) (s : State)
 dispose_lists None number s = refl
 dispose_lists (Some native) number s = unless_lists (caller_of native s.live.code) native number s
 
+typed_lists : (taken : Bool) (number : ℕ) (key : Keystroke) (command text : List ℕ) (s : State)
+    → (rule_typed taken number key command text s).state.unread ≡ s.unread
+typed_lists true number key command text s = refl
+typed_lists false number key command text s = refl
+
 on_grows : (told : Told) (s : State) → Grows s.unread (step_on told s).state.unread
 on_grows (happens e) s = same_grows s.unread (step_on (happens e) s).state.unread (event_lists (refusal_of e s) e s)
 on_grows (reload bytes marks) s = reload_grows (rules_in marks User bytes) s
@@ -95,6 +101,9 @@ on_grows (register native) s =
 on_grows (dispose number) s =
     same_grows s.unread (step_on (dispose number) s).state.unread
     (dispose_lists (holder number s.live) number s)
+on_grows (types_rule number key command text) s =
+    same_grows s.unread (step_on (types_rule number key command text) s).state.unread
+    (typed_lists s.takes_rules number key command text s)
 
 unless_grows : (stopped : Bool) (told : Told) (s : State) → Grows s.unread (step_unless stopped told s).state.unread
 unless_grows true told s = same_grows s.unread s.unread refl

@@ -1,13 +1,13 @@
 -- What a host can ask a session: how a command that an event starts ends, and what a key press finds.
-use Rattle.std.specs.Prelude.{ℕ, ◌∷◌, [], ◌++◌, Option, Some, None}
-use Rattle.kb_bindings.specs.Sources.{enablement, pressed, rules_of}
-use Rattle.kb_context.specs.Scopes.{context}
+use Rattle.std.specs.Prelude.{◌≡◌, ℕ, Option, Some, None}
+use Rattle.kb_bindings.specs.Sources.{IsPlaceOf, found_behind, pressed}
 use Rattle.kb_execute.specs.declared.start.Finish.{Finish}
 use Rattle.kb_execute.specs.declared.start.Finish.TheVariants.{Done}
 use Rattle.kb_keys.specs.declared.keystroke.Keystroke.{Keystroke}
 use Rattle.kb_palette.specs.declared.listing.Entry.{Entry}
 use Rattle.kb_resolve.specs.Resolved.{Resolution}
-use Rattle.kb_resolve.specs.Resolver.{resolved}
+use Rattle.kb_resolve.specs.declared.found.Found.{Found}
+use Rattle.kb_resolve.specs.declared.found.Found.TheVariants.{Nothing}
 use Rattle.kb_session.specs.Palette.{choice_started, entry_at}
 use Rattle.kb_session.specs.Press.{press_started}
 use Rattle.kb_session.specs.State.{State}
@@ -17,8 +17,13 @@ use Rattle.kb_trace.specs.declared.event.Event.TheVariants as event
 
 -- what a press of a key finds, behind the keystrokes of the open chord
 abbrev pub found_by : Keystroke → State → Resolution
-found_by key s =
-    resolved (s.pressed ++ key ∷ []) (context s.core.scopes) (enablement s.sources) (rules_of s.sources)
+found_by key s = found_behind s.pressed key s.core.scopes s.sources
+
+-- what an event found: a key press what its search finds, at a position among the rules that are in force
+-- then and still afterwards; any other event nothing
+abbrev pub Finds : Event → State → State → Found → Type 0
+Finds (event.Key key) old new found = IsPlaceOf new.sources found (found_by key old)
+Finds e old new found = found ≡ Nothing
 
 -- how the command of a chosen entry ends
 abbrev pub choice_finish : ℕ → Option Entry → State → Finish

@@ -9,7 +9,8 @@ use Rattle.kb_core.specs.declared.native.Native.{Native}
 use Rattle.kb_core.specs.Core.{Core}
 use Rattle.kb_keys.specs.declared.keystroke.Keystroke.{Keystroke}
 use Rattle.kb_bindings.specs.Load as load
-use Rattle.kb_bindings.specs.Load.{Files, held_by}
+use Rattle.kb_bindings.specs.Load.{held_by}
+use Rattle.kb_files.specs.Inputs.{Files}
 use Rattle.kb_files.specs.Extensions.{handlers_of}
 use Rattle.kb_bindings.specs.Sources.{Sources}
 use Rattle.kb_session.specs.State.{State, Told, happens, Answered, did, refused, step, step_on, out_of, next}
@@ -17,11 +18,11 @@ use Rattle.kb_session.specs.State.{IsSafe, loaded_state, named_in, switching, up
 use Rattle.kb_code.specs.Face.{same_face}
 use Rattle.kb_handler_table.specs.Codes.{CodesData}
 use Rattle.kb_handler_table.specs.Live as table
-use Rattle.kb_lifecycle.specs.Dependencies.{Placed}
+use Rattle.kb_extension_code.specs.Dependencies.{Placed}
 use Rattle.kb_files.specs.declared.fault.LoadFault.{LoadFault}
 use Rattle.kb_bindings.specs.declared.load.Loaded.{Loaded}
-use Rattle.kb_load_commands.specs.Checked.{LiveChecked}
-use Rattle.kb_load_commands.specs.Raw.{raw_held}
+use Rattle.kb_extension_code.specs.Checked.{LiveChecked}
+use Rattle.kb_extension_code.specs.Raw.{raw_held}
 use Rattle.kb_registry.specs.Live.{Live}
 use Rattle.kb_session.specs.declared.fault.SessionFault.{SessionFault}
 use Rattle.kb_session.specs.declared.fault.SessionFault.TheVariants.{Refused, NoMemory, Stopped}
@@ -108,6 +109,10 @@ Answers told old a new =
 abbrev pub Takes : Told → Seen → Answer → Seen → Type 0
 Takes told old a new = Answers told old (answered a) new
 
+-- the session takes rules in lines of a script, or doesn't
+abbrev pub with_rule_lines : Bool → Seen → Seen
+with_rule_lines are_taken old = record old { state = record old.state { takes_rules = are_taken } }
+
 -- memory was refused: the session is stopped and otherwise unchanged
 abbrev pub halt : Seen → Seen
 halt old = record old { state = record old.state { stopped = true } }
@@ -119,6 +124,10 @@ half_done core pressed s = record s { core = core; pressed = pressed; stopped = 
 
 abbrev pub Halts : State → State → Type 0
 Halts old new = new ≡ half_done new.core new.pressed old
+
+-- memory was refused to a running session
+abbrev pub HaltsRunning : State → State → Type 0
+HaltsRunning old new = (old.stopped ≡ false) × Halts old new
 
 -- only a key press and a choice can be incomplete, and the trace never has lines of an incomplete input
 abbrev pub HaltsAt : Told → Seen → Seen → Type 0
@@ -154,11 +163,11 @@ is_late told s = s.stopped || is_left told s
 abbrev pub RunsThrough : Type 0
 RunsThrough = (told : List Told) (s : State) → s.stopped ≡ false → IsSafe s → is_late told s ≡ false
 
--- the fault of a run of events: memory was refused in one of them, or the session was stopped before
--- the last one
+-- the fault of a run of events: memory was refused in one of them, before which the session wasn't stopped;
+-- or the session was stopped before the last one
 abbrev pub FailsAmong : SessionFault → List Told → Seen → Seen → Type 0
 FailsAmong (Refused refusal) told old new = ⊥
-FailsAmong NoMemory told old new = (old.state.stopped ≡ false) × StopsAmong next Halts told old new
+FailsAmong NoMemory told old new = (old.state.stopped ≡ false) × StopsAmong next HaltsRunning told old new
 FailsAmong Stopped told old new = (is_late told old.state ≡ true) × (new ≡ after_all next told old)
 
 -- ---- for private functions

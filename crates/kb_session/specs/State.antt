@@ -1,10 +1,11 @@
 -- The model of a session: its state, and for each input the next state, the trace lines and the answer.
 use Rattle.std.specs.Prelude.{◌≡◌, ℕ, ◌+◌, Bool, true, false, List, [], ◌∷◌, ◌++◌, Option}
-use Rattle.std.specs.Prelude.{Some, None, not, option_map, if◌then◌else◌}
+use Rattle.std.specs.Prelude.{Some, None, not, option_map, if◌then◌else◌, length}
 use Rattle.std.specs.Prelude.{Result, Ok, Err}
 use Rattle.std.specs.Option.{option_map_or}
+use Rattle.kb_base.specs.declared.fault.FaultKind.TheVariants as kind
 use Rattle.kb_base.specs.Refusal.{refused_for}
-use Rattle.kb_context.specs.ScopeFault.{number_of}
+use Rattle.kb_context.specs.ScopeFault.{kind_of}
 use Rattle.kb_context.specs.Scopes.{ScopesData, context, place_of, set_fault, with_value, without_value}
 use Rattle.kb_context.specs.Scopes.{with_focus}
 use Rattle.kb_context.specs.declared.fault.ScopeFault.{ScopeFault}
@@ -19,16 +20,18 @@ use Rattle.kb_core.specs.Core.{Core}
 use Rattle.kb_files.specs.RuleFile.{rules_in}
 use Rattle.kb_keys.specs.declared.keystroke.Keystroke.{Keystroke}
 use Rattle.kb_registry.specs.Fault as registry
-use Rattle.kb_lifecycle.specs.Dependencies.{Placed, extension_named}
-use Rattle.kb_lifecycle.specs.Settled.{IsSettled}
-use Rattle.kb_lifecycle.specs.Switching.{disable_refusal, enable_refusal}
-use Rattle.kb_lifecycle.specs.Updating.{updated_code}
+use Rattle.kb_extension_code.specs.Dependencies.{Placed, extension_named}
+use Rattle.kb_extension_code.specs.Settled.{IsSettled}
+use Rattle.kb_extension_code.specs.Switching.{disable_refusal, enable_refusal}
+use Rattle.kb_extension_code.specs.Updating.{updated_code}
 use Rattle.kb_files.specs.declared.extension_file.Extension.{Extension}
 use Rattle.kb_handler_table.specs.Codes.{CodesData}
 use Rattle.kb_registry.specs.Live.{Live, registration_fault, registered, holder, disposed}
 use Rattle.kb_registry.specs.Live.{with_exchanged, with_switched}
 use Rattle.kb_registry.specs.declared.fault.RegistryFault.{RegistryFault}
-use Rattle.kb_rules.specs.RuleList.{Listed}
+use Rattle.kb_rules.specs.RuleList.{Listed, with_rule}
+use Rattle.kb_rules.specs.declared.rule.Rule.{Rule}
+use Rattle.serde_json.specs.Data.{string}
 use Rattle.kb_base.specs.declared.note.Origin.TheVariants.{User}
 use Rattle.kb_base.specs.declared.note.EntryPattern.{EntryPattern}
 use Rattle.kb_bindings.specs.Sources.{Sources, with_enabled, with_user_rules, pressed, still_pressed}
@@ -38,9 +41,7 @@ use Rattle.kb_palette.specs.declared.listing.Entry.{Entry}
 use Rattle.kb_palette_commands.specs.Palette.{palette_commands}
 use Rattle.kb_session.specs.Palette.{choice_started, entry_at, palette_lines}
 use Rattle.kb_session.specs.Press.{press_started}
-use Rattle.kb_execute.specs.Start.{Started}
-use Rattle.kb_execute.specs.declared.start.Finish.{Finish}
-use Rattle.kb_execute.specs.declared.start.Finish.TheVariants.{Done, NotFound, BadArguments, Trapped}
+use Rattle.kb_execute.specs.Start.{Started, stops}
 use Rattle.kb_bindings.specs.Unread.{unread_of}
 use Rattle.kb_stream.specs.Fold.{Out}
 use Rattle.kb_trace.specs.Lines as line
@@ -48,7 +49,8 @@ use Rattle.kb_trace.specs.declared.event.Event.{Event}
 use Rattle.kb_trace.specs.declared.event.Event.TheVariants as event
 
 -- the unread patterns have one list for the load and one for each successful reload; `history` has the last
--- choices, and `listed` the entries of the last palette, until one of them is chosen
+-- choices, and `listed` the entries of the last palette, until one of them is chosen; `takes_rules` says
+-- whether lines of a script add rules
 pub record State : Type 0 where
   pub core : Core
   pub sources : Sources
@@ -58,14 +60,17 @@ pub record State : Type 0 where
   pub unread : List (List EntryPattern)
   pub history : List (List ℕ)
   pub listed : Option (List Entry)
+  pub takes_rules : Bool
 
 -- an input of a session: an event; the bytes of the user's rules for a reload, with the marks of their
--- unread patterns; a native whose closure is registered; or a ticket to dispose of
+-- unread patterns; a native whose closure is registered; a ticket to dispose of; or a rule in the script's
+-- line of this number, by its key, its command and its text
 pub data Told : Type 0 where
   happens : Event → Told
   reload : List ℕ → List EntryPattern → Told
   register : Native → Told
   dispose : ℕ → Told
+  types_rule : ℕ → Keystroke → List ℕ → List ℕ → Told
 
 -- the answer to an input: done; the ticket of a registered closure; the closure of a disposed ticket; a
 -- refusal; or halted, if the session was already stopped
@@ -105,13 +110,6 @@ left_lines (key ∷ keys) = line.left_line (key ∷ keys) ∷ []
 abbrev pub leave : List ℕ → State → Stepped
 leave last s = stepped (record s { pressed = [] }) (left_lines s.pressed ++ last ∷ []) did
 
--- a trap of a handler stops the session
-abbrev pub stops : Finish → Bool
-stops Done = false
-stops NotFound = false
-stops BadArguments = false
-stops Trapped = true
-
 -- a key press has an effect, and leaves some keystrokes in the chord
 abbrev pub begun : Started → List Keystroke → State → Stepped
 begun p pressed s =
@@ -137,7 +135,7 @@ fault_of _ s = None
 
 -- the refusal of an event of an extension: there is no such extension (92), or another reason
 abbrev pub extension_refusal : (Extension → Option Refusal) → Option Placed → Option Refusal
-extension_refusal why None = Some (refused_for 92)
+extension_refusal why None = Some (refused_for kind.UnknownExtension)
 extension_refusal why (Some p) = why p.extension
 
 -- the extension that an identifier names
@@ -154,7 +152,7 @@ disabling_refusal id s = extension_refusal (λ e. disable_refusal e s.sources.ex
 abbrev pub refusal_of : Event → State → Option Refusal
 refusal_of (event.Enable id) s = enabling_refusal id s
 refusal_of (event.Disable id) s = disabling_refusal id s
-refusal_of e s = option_map (λ fault. refused_for (number_of fault)) (fault_of e s)
+refusal_of e s = option_map (λ fault. refused_for (kind_of fault)) (fault_of e s)
 
 -- the state with other live commands
 abbrev pub with_live : Live → State → State
@@ -199,7 +197,7 @@ switching enabled id s =
 
 -- the code that an update gives an extension, or why it is refused
 abbrev pub code_updated : Option Placed → List ℕ → State → Result CodesData Refusal
-code_updated None bytes s = Err (refused_for 92)
+code_updated None bytes s = Err (refused_for kind.UnknownExtension)
 code_updated (Some p) bytes s = updated_code p.extension s.sources.extensions s.live bytes
 
 -- the state with other code of an extension, live or not
@@ -229,7 +227,7 @@ with_choice command s = record s { history = noted command s.history; listed = N
 abbrev pub choosing : Option Entry → ℕ → State → Stepped
 choosing (Some e) number s =
     begun (choice_started number e.command s.live s.core) s.pressed (with_choice e.command s)
-choosing None number s = refuse (refused_for 96) s
+choosing None number s = refuse (refused_for kind.NoEntry) s
 
 -- the effect of an event without a refusal: a change of the focus ends a chord, and changes of keys don't; a
 -- choice and an update may be refused yet, and a registration without a closure of the host is
@@ -245,7 +243,7 @@ taken (event.Choose number) s = choosing (entry_at number s.listed) number s
 taken (event.Enable id) s = switching true id s
 taken (event.Disable id) s = switching false id s
 taken (event.Update id bytes) s = updated (code_updated (named_in id s) bytes s) (named_in id s) s
-taken event.NoClosure s = refuse (refused_for 98) s
+taken event.NoClosure s = refuse (refused_for kind.NoClosure) s
 taken (event.Unread number) s = stepped s (line.unread_line number ∷ []) did
 
 abbrev pub taken_unless : Option Refusal → Event → State → Stepped
@@ -264,12 +262,35 @@ abbrev pub reloaded : Result Listed Refusal → State → Stepped
 reloaded (Ok user) s = leave line.reloaded_line (with_user user s)
 reloaded (Err r) s = refuse r s
 
+-- the rule of a line: it has no clause, and the text is its argument; its place is the number of the user's
+-- rules above it
+abbrev pub typed_rule : Keystroke → List ℕ → List ℕ → ℕ → Rule
+typed_rule key command text place = record {
+  chord = key ∷ [];
+  command = command;
+  when = None;
+  args = Some (string text);
+  origin = User;
+  place = place;
+}
+
+-- the state with that rule at the bottom of the user's
+abbrev pub with_typed : Keystroke → List ℕ → List ℕ → State → State
+with_typed key command text s =
+    let rule = typed_rule key command text (length s.sources.user.rules) in
+    record s { sources = with_user_rules (with_rule rule s.sources.user) s.sources }
+
+-- a rule of a line is added, and ends the chord, if the session takes such lines; else the line is unread
+abbrev pub rule_typed : Bool → ℕ → Keystroke → List ℕ → List ℕ → State → Stepped
+rule_typed true number key command text s = leave (line.rule_line key) (with_typed key command text s)
+rule_typed false number key command text s = stepped s (line.unread_line number ∷ []) did
+
 -- a closure for a native is registered, unless that is refused; an open chord stays
 abbrev pub registering : Option RegistryFault → Native → State → Stepped
 registering None native s =
     stepped (with_live (registered native s.live) s)
     (line.registered_line (name_of native) (s.live.made + 1) ∷ []) (ticket (s.live.made + 1))
-registering (Some fault) native s = refuse (refused_for (registry.number_of fault)) s
+registering (Some fault) native s = refuse (refused_for (registry.kind_of fault)) s
 
 -- the closure of a ticket is removed, unless a live handler calls its native; an open chord stays
 abbrev pub disposing_unless : Option HandlerData → Native → ℕ → State → Stepped
@@ -277,12 +298,12 @@ disposing_unless None native number s =
     stepped (with_live (disposed number s.live) s) (line.disposed_line (name_of native) number ∷ [])
     (gave native)
 disposing_unless (Some caller) native number s =
-    refuse (record { number = 73; detail = Some caller.command }) s
+    refuse (record { kind = kind.InUse; detail = Some caller.command }) s
 
 -- the same for a ticket, if a closure has it
 abbrev pub disposing : Option Native → ℕ → State → Stepped
 disposing (Some native) number s = disposing_unless (caller_of native s.live.code) native number s
-disposing None number s = refuse (refused_for 72) s
+disposing None number s = refuse (refused_for kind.StaleTicket) s
 
 -- the step of a running session
 abbrev pub step_on : Told → State → Stepped
@@ -290,6 +311,7 @@ step_on (happens e) s = taken_unless (refusal_of e s) e s
 step_on (reload bytes marks) s = reloaded (rules_in marks User bytes) s
 step_on (register native) s = registering (registration_fault native s.live) native s
 step_on (dispose number) s = disposing (holder number s.live) number s
+step_on (types_rule number key command text) s = rule_typed s.takes_rules number key command text s
 
 abbrev pub step_unless : Bool → Told → State → Stepped
 step_unless true told s = stepped s [] halted
@@ -313,6 +335,7 @@ loaded_state scopes sources live = record {
   unread = unread_of sources ∷ [];
   history = [];
   listed = None;
+  takes_rules = false;
 }
 
 -- all handlers of a session are verified, and it is settled: no live handler traps

@@ -2,7 +2,7 @@
 ghost use Rattle.std.specs.Prelude.{◌≡◌};
 ghost use Rattle.kb_session.specs.Fault as fault;
 
-use kb_base::{Failure, NoMemory, Refusal};
+use kb_base::{Failure, FaultKind, NoMemory, Refusal};
 use std::alloc::AllocError;
 use thiserror::Error;
 
@@ -31,15 +31,15 @@ pub(crate) fn fault_in<F>(failure: Failure<F>) -> Result<F, NoMemory>
 }
 
 impl SessionFault {
-    /// The number of the fault in the table of faults: that of the refusal, 5 for `NoMemory`, 97 for
-    /// `Stopped`. (Our decision.)
-    pub fn number(&self) -> u32
-        ensures { result ≡ fault.session_number self.now }
+    /// The fault in the table of all faults: that of the refusal, `NoMemory` (5) or `Stopped` (97). (Our
+    /// decision.)
+    pub fn kind(&self) -> FaultKind
+        ensures { result ≡ fault.session_kind self.now }
     {
         match self {
-            SessionFault::Refused(refusal) => refusal.number,
-            SessionFault::NoMemory => 5,
-            SessionFault::Stopped => 97,
+            SessionFault::Refused(refusal) => refusal.kind,
+            SessionFault::NoMemory => FaultKind::NoMemory,
+            SessionFault::Stopped => FaultKind::Stopped,
         }
     }
 }

@@ -8,5 +8,5 @@ mod press;
 pub mod session;
 
 pub use fault::SessionFault;
-pub use handled::Handled;
+pub use handled::{EventEnd, Handled};
 pub use session::Session;

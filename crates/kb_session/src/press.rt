@@ -2,11 +2,13 @@
 ghost use Rattle.std.specs.Prelude.{◌≡◌, [], ◌∷◌, ◌++◌, IfOk, OnOk, OnErr, option_map, string_bytes};
 ghost use Rattle.serde_json.specs.View.{view};
 ghost use Rattle.kb_stream.specs.Lines.{Begins};
-ghost use Rattle.kb_bindings.specs.Sources.{pressed, still_pressed};
+ghost use Rattle.kb_bindings.specs.Sources.{IsPlaceOf, found_behind, pressed, still_pressed};
 ghost use Rattle.kb_execute.specs.declared.start.Finish.TheVariants.{Done};
+ghost use Rattle.kb_resolve.specs.Pressed.{step_of};
 ghost use Rattle.kb_session.specs.Press.{press_started, rule_started};
 ghost use Rattle.kb_trace.specs.Lines as line;
 
+use crate::handled::EventEnd;
 use kb_base::NoMemory;
 use kb_bindings::Bindings;
 use kb_execute::{Finish, HeldCore, start_command};
@@ -30,7 +32,7 @@ pub(crate) fn press_key<C: HostCommand>(
     chord: &mut ChordState,
     bindings: &Bindings,
     trace: &mut Lines,
-) -> Result<Finish, NoMemory>
+) -> Result<EventEnd, NoMemory>
     ensures core { let does = pressed chord.old key core.old.scopes bindings.now in
         let p = press_started (line.key_text chord.old key) does registry.now core.old in
         OnOk result (core.new ≡ p.core) }
@@ -39,14 +41,42 @@ pub(crate) fn press_key<C: HostCommand>(
         OnOk result (trace.new ≡ trace.old ++ p.lines) }
     ensures finish { let does = pressed chord.old key core.old.scopes bindings.now in
         let p = press_started (line.key_text chord.old key) does registry.now core.old in
-        IfOk result (λ finish. finish ≡ p.finish) }
+        IfOk result (λ ended. ended.finish ≡ p.finish) }
+    ensures found { IfOk result (λ ended.
+        IsPlaceOf bindings.now ended.found (found_behind chord.old key core.old.scopes bindings.now)) }
     ensures pressed { OnOk result (chord.new ≡ still_pressed chord.old key core.old.scopes bindings.now) }
     ensures err { OnErr result (Begins trace.old trace.new) }
 {
     core.refresh()?;
     let key = &key;
     let text = lines::key_text(trace, chord.pressed(), *key)?;
-    match bindings.press(chord, *key, core.core().scopes())? {
+    let press = bindings.press(chord, *key, core.core().scopes())?;
+    let finish = carry_out(alloc, text, press.does, registry, core, trace)?;
+    Ok(EventEnd {
+        finish,
+        found: press.found,
+    })
+}
+
+/// Does what a press does, and adds its trace lines. The first line begins with `text`.
+#[tactic(auto, using(kb_stream::proofs::Undoing::undoing))]
+fn carry_out<C: HostCommand>(
+    alloc: Global,
+    text: String,
+    does: Pressed<'_>,
+    registry: &Registry<C>,
+    core: &mut HeldCore,
+    trace: &mut Lines,
+) -> Result<Finish, NoMemory>
+    ensures core { let p = press_started (string_bytes text) (step_of does.entry) registry.now core.old in
+        OnOk result (core.new ≡ p.core) }
+    ensures trace { let p = press_started (string_bytes text) (step_of does.entry) registry.now core.old in
+        OnOk result (trace.new ≡ trace.old ++ p.lines) }
+    ensures finish { let p = press_started (string_bytes text) (step_of does.entry) registry.now core.old in
+        IfOk result (λ finish. finish ≡ p.finish) }
+    ensures err { OnErr result (Begins trace.old trace.new) }
+{
+    match does {
         Pressed::Start(rule) => start_rule(alloc, text, rule, registry, core, trace),
         Pressed::More => done_with(trace, text, ": chord"),
         Pressed::Left => done_with(trace, text, ": left"),

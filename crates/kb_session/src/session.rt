@@ -2,33 +2,35 @@
 ghost use Rattle.std.specs.Prelude.{◌≡◌, false, [], ◌∷◌, ◌++◌, take, map};
 ghost use Rattle.std.specs.Prelude.{OnOk, OnErr, IfOk, IfErr};
 ghost use Rattle.kb_base.specs.Refusal.{refused_for};
-ghost use Rattle.kb_context.specs.ScopeFault.{number_of};
+ghost use Rattle.kb_context.specs.ScopeFault.{kind_of};
 ghost use Rattle.kb_rules.specs.RuleList.{AreRightlyMarked};
-ghost use Rattle.kb_bindings.specs.Load.{files_of, MarksAreRight};
+ghost use Rattle.kb_bindings.specs.Load.{MarksAreRight};
+ghost use Rattle.kb_files.specs.Inputs.{files_of};
 ghost use Rattle.kb_bindings.specs.Unread.{unread_of};
 ghost use Rattle.kb_base.specs.declared.failure.Failure.TheVariants as failure;
 ghost use Rattle.kb_session.specs.Session.{Loads, LoadsRaw, Takes, Does, halt, Undone, HalfDone, IsHalf};
 ghost use Rattle.kb_session.specs.Session.{loaded_session};
 ghost use Rattle.kb_session.specs.Session.{FailsAt, FailsAmong, is_late};
 ghost use Rattle.kb_bindings.specs.Sources.{source_of};
-ghost use Rattle.kb_session.specs.Inspect.{finish_of};
-ghost use Rattle.kb_session.specs.State.{IsSafe, happens, reload, next, left_lines, with_user, stops};
+ghost use Rattle.kb_execute.specs.Start.{stops};
+ghost use Rattle.kb_session.specs.Inspect.{Finds, finish_of};
+ghost use Rattle.kb_session.specs.State.{IsSafe, happens, reload, next, left_lines, with_user};
 ghost use Rattle.kb_bindings.specs.Warning.{warnings_of};
 ghost use Rattle.kb_session.specs.declared.fault.SessionFault.TheVariants.{NoMemory};
 ghost use Rattle.kb_stream.specs.Fold.{after_all};
 ghost use Rattle.kb_trace.specs.Lines as line;
 
 use crate::fault::{SessionFault, fault_in};
-use crate::handled::{Handled, started_nothing};
+use crate::handled::{EventEnd, Handled, started_nothing};
 use crate::press::press_key;
-use kb_base::{EntryPattern, Failure, NoMemory, Refusal, Seq, Warning};
+use kb_base::{EntryPattern, Failure, FaultKind, NoMemory, Refusal, Seq, Warning};
 use kb_bindings::{Bindings, Loaded, load_files, unread_rules};
 use kb_context::{ContextValue, ScopeFault, Scopes};
 use kb_core::Core;
-use kb_execute::{Finish, HeldCore};
+use kb_execute::HeldCore;
+use kb_extension_code::{checked_commands, raw_commands};
 use kb_files::{Inputs, LoadFault, read_rules};
 use kb_keys::Keystroke;
-use kb_load_commands::{checked_commands, raw_commands};
 use kb_palette::{Entry, History};
 use kb_registry::{HostCommand, Registry};
 use kb_resolve::ChordState;
@@ -45,12 +47,13 @@ mod context;
 mod extensions;
 mod inspect;
 mod palette;
+mod rules;
 
 /// A session of the engine, with the host's closures for native commands. Contracts see its state and its
 /// trace. The state consists of the core with its text and scopes, the sources of the key bindings with the
 /// extensions and which of them are enabled, the commands that are live or not, the keystrokes of the open
 /// chord, whether the session is stopped, the unread patterns of the load and of each reload, the history of
-/// choices in the palette, and the entries of the last palette.
+/// choices in the palette, the entries of the last palette, and whether lines of a script add rules.
 ///
 /// Refused memory or a trap of a handler stops the session for good. Each later call returns `Stopped`.
 /// The trace then ends with the line of the trap, or with the last line before the call that was
@@ -65,6 +68,7 @@ pub struct Session<C: HostCommand> {
     unread: Seq<Seq<EntryPattern>>,
     history: History,
     listed: Option<Seq<Entry>>,
+    takes_rules: bool,
     trace: Lines,
     alloc: Global,
 }
@@ -102,6 +106,7 @@ impl<C: HostCommand> Model for Session<C> {
         unread = s.unread;
         history = s.history;
         listed = s.listed;
+        takes_rules = s.takes_rules;
       };
       trace = s.trace;
     } };
@@ -209,6 +214,7 @@ impl<C: HostCommand> Session<C> {
             unread,
             history,
             listed: None,
+            takes_rules: false,
             trace: Lines::new(alloc),
             alloc,
         })
@@ -299,12 +305,13 @@ impl<C: HostCommand> Session<C> {
     /// without arguments, also if it was disabled or hidden since. A handler that traps has its trace line,
     /// and stops the session. (These are our decisions.)
     ///
-    /// Refusals: a scope that doesn't exist (20); a key too many (22); a choice of an entry that the last
-    /// palette doesn't have, or without a palette (96); an extension that doesn't exist (92);
-    /// enabling it while it depends on one that isn't enabled (93), or while a native command that its
-    /// handlers call has no registered closure (74); disabling it while an enabled one depends on it (94); an
-    /// update by a file with a fault (1 to 4, 40 to 44, 50 to 53), with other commands than before (95), or
-    /// with a handler that isn't accepted (60 to 69).
+    /// A refused event has its trace line, and changes nothing else, an open chord included. Refusals: a
+    /// scope that doesn't exist (20); a key too many (22); a choice of an entry that the last palette doesn't
+    /// have, or without a palette (96); an extension that doesn't exist (92); enabling it while it depends on
+    /// one that isn't enabled (93), or while a native command that its handlers call has no registered
+    /// closure (74); disabling it while an enabled one depends on it (94); an update by a file with a fault
+    /// (1 to 4, 40 to 44, 50 to 53), with other commands than before (95), or with a handler that isn't
+    /// accepted (60 to 69); a registration for which the host has no closure (98).
     ///
     /// Errors: `Stopped` if the session was already stopped; `NoMemory` if memory was refused. Then the
     /// session is stopped and otherwise unchanged, except for the core and the chord if the event is a
@@ -319,14 +326,39 @@ impl<C: HostCommand> Session<C> {
         }
     }
 
-    /// Handles one event as `handle` does, and also returns how a command that it started ended (`finish`).
+    /// Presses a key, as the event `Key` of `handle` does; no press is refused. Returns how the command that
+    /// it started ended, and what its search found: the rule that it took, by its position.
+    ///
+    /// Errors: those of `handle`.
+    #[tactic(auto, using(crate::proofs::Stopping::taking, crate::proofs::Stopping::pressing))]
+    pub fn press(&mut self, key: Keystroke) -> Result<EventEnd, SessionFault>
+        ensures ok { OnOk result (Takes (happens (Event.Key key)) self.old Answer.Did self.new) }
+        ensures stops { IfOk result (λ ended. self.new.state.stopped ≡ stops ended.finish) }
+        ensures finish { IfOk result (λ ended. ended.finish ≡ finish_of (Event.Key key) self.old.state) }
+        ensures found { IfOk result (λ ended.
+            Finds (Event.Key key) self.old.state self.new.state ended.found) }
+        ensures err { IfErr result (λ fault. FailsAt fault (happens (Event.Key key)) self.old self.new) }
+    {
+        if self.stopped {
+            return Err(SessionFault::Stopped);
+        }
+        let mark = self.trace.len();
+        match self.take_key(key) {
+            Ok(ended) => Ok(ended),
+            Err(_) => Err(self.halted_at(mark)),
+        }
+    }
+
+    /// Handles one event as `handle` does, and also returns how it ended. A caller of `press` makes no event.
     ///
     /// Errors: those of `handle`.
     #[tactic(auto, using(crate::proofs::Stopping::taking))]
     pub fn handle_fully(&mut self, event: Event) -> Result<Handled, SessionFault>
         ensures ok { IfOk result (λ handled. Takes (happens event) self.old handled.answer self.new) }
-        ensures stops { IfOk result (λ handled. self.new.state.stopped ≡ stops handled.finish) }
-        ensures finish { IfOk result (λ handled. handled.finish ≡ finish_of event self.old.state) }
+        ensures stops { IfOk result (λ handled. self.new.state.stopped ≡ stops handled.ended.finish) }
+        ensures finish { IfOk result (λ handled. handled.ended.finish ≡ finish_of event self.old.state) }
+        ensures found { IfOk result (λ handled.
+            Finds event self.old.state self.new.state handled.ended.found) }
         ensures err { IfErr result (λ fault. FailsAt fault (happens event) self.old self.new) }
     {
         if self.stopped {
@@ -339,33 +371,22 @@ impl<C: HostCommand> Session<C> {
         }
     }
 
-    /// Handles one event. If memory is refused, the trace may have some of its lines. A key press, of which
-    /// there are most, goes by itself: the match on all events first makes places for all their texts.
+    /// Handles one event. If memory is refused, the trace may have some of its lines.
     #[tactic(auto, using(crate::proofs::Stopping::stopping))]
     fn take(&mut self, event: Event) -> Result<Handled, NoMemory>
         requires running { self.old.state.stopped ≡ false }
         ensures ok { IfOk result (λ handled. Does (happens event) self.old handled.answer self.new) }
-        ensures stops { IfOk result (λ handled. self.new.state.stopped ≡ stops handled.finish) }
-        ensures finish { IfOk result (λ handled. handled.finish ≡ finish_of event self.old.state) }
+        ensures stops { IfOk result (λ handled. self.new.state.stopped ≡ stops handled.ended.finish) }
+        ensures finish { IfOk result (λ handled. handled.ended.finish ≡ finish_of event self.old.state) }
+        ensures found { IfOk result (λ handled.
+            Finds event self.old.state self.new.state handled.ended.found) }
         ensures err { OnErr result (IsHalf event self.old self.new) }
     {
         match event {
-            Event::Key(key) => self.press(key),
-            event => self.take_any(event),
-        }
-    }
-
-    /// Handles one event, as `take` does.
-    #[tactic(auto, using(crate::proofs::Stopping::stopping))]
-    fn take_any(&mut self, event: Event) -> Result<Handled, NoMemory>
-        requires running { self.old.state.stopped ≡ false }
-        ensures ok { IfOk result (λ handled. Does (happens event) self.old handled.answer self.new) }
-        ensures stops { IfOk result (λ handled. self.new.state.stopped ≡ stops handled.finish) }
-        ensures finish { IfOk result (λ handled. handled.finish ≡ finish_of event self.old.state) }
-        ensures err { OnErr result (IsHalf event self.old self.new) }
-    {
-        match event {
-            Event::Key(key) => self.press(key),
+            Event::Key(key) => Ok(Handled {
+                answer: Answer::Did,
+                ended: self.take_key(key)?,
+            }),
             Event::Choose(number) => self.choose(number),
             Event::Focus(scope) => started_nothing(self.focus(scope.as_str())),
             Event::SetKey(scope, key, value) => {
@@ -386,8 +407,8 @@ impl<C: HostCommand> Session<C> {
         }
     }
 
-    /// Reads the user's rules again, from the bytes of their file. A successful reload ends an open
-    /// chord (our decision). A refused file changes nothing but the trace.
+    /// Reads the user's rules again, from the bytes of their file. A successful reload ends an open chord
+    /// (our decision). A refused file (1 to 4, 41) changes nothing but the trace.
     ///
     /// Errors: `Stopped` if the session was already stopped; `NoMemory` if memory was refused. Then the
     /// session is stopped and otherwise unchanged.
@@ -410,7 +431,7 @@ impl<C: HostCommand> Session<C> {
         }
     }
 
-    /// Handles the events in order.
+    /// Handles the events in order. A refused event doesn't end the run.
     ///
     /// Errors: `Stopped` if the session was already stopped, or if a trap of a handler stopped it
     /// before the last event; `NoMemory` if memory was refused in an event. Then no later event is
@@ -449,14 +470,16 @@ impl<C: HostCommand> Session<C> {
         SessionFault::NoMemory
     }
 
-    fn press(&mut self, key: Keystroke) -> Result<Handled, NoMemory>
-        ensures ok { IfOk result (λ handled.
-            Does (happens (Event.Key key)) self.old handled.answer self.new) }
-        ensures stops { IfOk result (λ handled. self.new.state.stopped ≡ stops handled.finish) }
-        ensures finish { IfOk result (λ handled. handled.finish ≡ finish_of (Event.Key key) self.old.state) }
+    /// Presses a key. If memory is refused, the trace may have some of its lines.
+    fn take_key(&mut self, key: Keystroke) -> Result<EventEnd, NoMemory>
+        ensures ok { OnOk result (Does (happens (Event.Key key)) self.old Answer.Did self.new) }
+        ensures stops { IfOk result (λ ended. self.new.state.stopped ≡ stops ended.finish) }
+        ensures finish { IfOk result (λ ended. ended.finish ≡ finish_of (Event.Key key) self.old.state) }
+        ensures found { IfOk result (λ ended.
+            Finds (Event.Key key) self.old.state self.new.state ended.found) }
         ensures err { OnErr result (HalfDone self.old self.new) }
     {
-        let finish = press_key(
+        let ended = press_key(
             self.alloc,
             key,
             &self.registry,
@@ -465,11 +488,8 @@ impl<C: HostCommand> Session<C> {
             &self.bindings,
             &mut self.trace,
         )?;
-        self.stopped = stops(finish);
-        Ok(Handled {
-            answer: Answer::Did,
-            finish,
-        })
+        self.stopped = ended.finish.stops();
+        Ok(ended)
     }
 
     /// Sets the focus to a scope. An open chord ends. The lines are written first, since only they
@@ -529,7 +549,7 @@ impl<C: HostCommand> Session<C> {
         ensures ok { IfOk result (λ answer. Does (happens Event.NoClosure) self.old answer self.new) }
         ensures err { OnErr result (Undone self.old self.new) }
     {
-        self.refuse(Refusal::of(98))
+        self.refuse(Refusal::of(FaultKind::NoClosure))
     }
 
     #[tactic(auto, using(kb_stream::proofs::Undoing::undoing))]
@@ -568,14 +588,14 @@ impl<C: HostCommand> Session<C> {
 
     /// Truncates the trace to its first `mark` lines, and adds the line of a refusal.
     fn refuse_instead(&mut self, mark: usize, fault: ScopeFault) -> Result<Answer, NoMemory>
-        ensures answer { IfOk result (λ answer. answer ≡ Answer.Refused (refused_for (number_of fault))) }
+        ensures answer { IfOk result (λ answer. answer ≡ Answer.Refused (refused_for (kind_of fault))) }
         ensures ok { OnOk result (self.new ≡ record self.old {
-          trace = take mark self.old.trace ++ line.refused_line (refused_for (number_of fault)) ∷ [];
+          trace = take mark self.old.trace ++ line.refused_line (refused_for (kind_of fault)) ∷ [];
         }) }
         ensures err { OnErr result (self.new ≡ record self.old { trace = take mark self.old.trace }) }
     {
         self.truncate_trace(mark);
-        self.refuse(Refusal::of(fault.number()))
+        self.refuse(Refusal::of(fault.kind()))
     }
 
     /// Adds the line of a refusal.
@@ -636,14 +656,4 @@ fn first_lists(
     let mut lists = Seq::new(alloc);
     lists.push(bindings.unread(alloc)?)?;
     Ok((lists, History::new(alloc)?))
-}
-
-/// Whether a command that ended in this way stops the session.
-fn stops(finish: Finish) -> bool
-    ensures { result ≡ stops finish }
-{
-    match finish {
-        Finish::Trapped => true,
-        Finish::Done | Finish::NotFound | Finish::BadArguments => false,
-    }
 }

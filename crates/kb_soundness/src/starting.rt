@@ -11,8 +11,8 @@ use kb_core::{Args, Core};
 use kb_vm::Outcome;
 use std::alloc::Global;
 
-/// Starts a command as `kb_vm::start` does. If each live handler is verified, a start with fitting
-/// arguments never ends with a trap, in each state of the core (our decision).
+/// Starts a command as `kb_vm::start` does, also where memory is refused. If each live handler is verified, a
+/// start with fitting arguments never ends with a trap, in each state of the core (our decision).
 pub fn start<'r, L: Commands>(
     alloc: Global,
     commands: &'r L,
@@ -29,8 +29,9 @@ pub fn start<'r, L: Commands>(
     kb_vm::start(alloc, commands, command, args, core)
 }
 
-/// Runs a live handler with arguments that fit it, as `kb_vm::start_coded` does. If each live handler is
-/// verified, it never ends with a trap, in each state of the core (our decision).
+/// Runs a live handler with arguments that fit it, as `kb_vm::start_coded` does, also where memory is
+/// refused. If each live handler is verified, it never ends with a trap, in each state of the core (our
+/// decision).
 pub fn start_coded<'r, L: Commands>(
     alloc: Global,
     commands: &'r L,

@@ -74,7 +74,7 @@ fn bytes_of_extension<'a>(source: &ExtensionSource<'a>) -> ExtensionFiles<'a>
 impl<'a> SourceFiles<'a> {
     ghost use Rattle.kb_source_files.specs.SourceFiles.{file_of_origin, file_of};
 
-    /// The bytes of the extensions' files, in load order. `inputs` takes them.
+    /// The bytes of the extensions' files, in load order. `inputs` takes them. Error: `NoMemory`.
     pub fn extension_files(&self, alloc: Global) -> Result<Vec<ExtensionFiles<'a>>, NoMemory>
         ensures { IfOk result (λ files.
             map extension_bytes files.items ≡ map bytes_of_extension self.now.extensions.now) }

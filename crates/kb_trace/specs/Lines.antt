@@ -5,8 +5,10 @@ use Rattle.serde_json.specs.Data.{string}
 use Rattle.serde_json.specs.Written.{compact_text}
 use Rattle.kb_keys.specs.declared.keystroke.Keystroke.{Keystroke}
 use Rattle.kb_keys.specs.Chord.{chord_spelling}
+use Rattle.kb_keys.specs.Keystroke.{spelling}
 use Rattle.kb_core.specs.declared.buffer.Buffer.{Buffer}
-use Rattle.kb_base.specs.Faults.{fault_name}
+use Rattle.kb_base.specs.Fault.{fault_words}
+use Rattle.kb_base.specs.declared.fault.FaultKind.{FaultKind}
 use Rattle.kb_base.specs.declared.refusal.Refusal.{Refusal}
 
 -- key ctrl+k ctrl+c
@@ -35,6 +37,10 @@ unset_line scope key = codes "unset " ++ (scope ++ (codes " " ++ key))
 
 abbrev pub reloaded_line : List ℕ
 reloaded_line = codes "reloaded"
+
+-- rule ctrl+s
+abbrev pub rule_line : Keystroke → List ℕ
+rule_line key = codes "rule " ++ spelling key
 
 -- palette 2
 abbrev pub palette_line : ℕ → List ℕ
@@ -74,13 +80,12 @@ abbrev pub run_line : List ℕ → List ℕ
 run_line command = codes "run " ++ command
 
 -- refused 4 Syntax, and refused 73 InUse x.hi
-abbrev pub refused_words : ℕ → Option (List ℕ) → List ℕ
-refused_words number None = codes "refused " ++ (decimal number ++ (codes " " ++ fault_name number))
-refused_words number (Some detail) =
-    codes "refused " ++ (decimal number ++ (codes " " ++ (fault_name number ++ (codes " " ++ detail))))
+abbrev pub refused_words : FaultKind → Option (List ℕ) → List ℕ
+refused_words fault None = codes "refused " ++ fault_words fault
+refused_words fault (Some detail) = codes "refused " ++ (fault_words fault ++ (codes " " ++ detail))
 
 abbrev pub refused_line : Refusal → List ℕ
-refused_line refusal = refused_words refusal.number refusal.detail
+refused_line refusal = refused_words refusal.kind refusal.detail
 
 -- not found type
 abbrev pub not_found_line : List ℕ → List ℕ
@@ -95,10 +100,9 @@ abbrev pub unread_line : ℕ → List ℕ
 unread_line number = codes "unread line " ++ decimal number
 
 -- trap 83 OutOfBudget x.hi 2
-abbrev pub trap_line : ℕ → List ℕ → ℕ → List ℕ
-trap_line number command place =
-    codes "trap " ++ (decimal number ++ (codes " " ++ (fault_name number
-    ++ (codes " " ++ (command ++ (codes " " ++ decimal place))))))
+abbrev pub trap_line : FaultKind → List ℕ → ℕ → List ℕ
+trap_line fault command place =
+    codes "trap " ++ (fault_words fault ++ (codes " " ++ (command ++ (codes " " ++ decimal place))))
 
 -- a text as a JSON string
 abbrev pub json_string : List ℕ → List ℕ

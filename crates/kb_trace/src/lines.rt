@@ -6,7 +6,7 @@ ghost use Rattle.kb_trace.specs.Lines as line;
 ghost use Rattle.kb_trace.specs.Lines.{has_itself};
 
 use json::Writer;
-use kb_base::{NoMemory, Refusal, fault_name};
+use kb_base::{FaultKind, NoMemory, Refusal};
 use kb_core::Buffer;
 use kb_keys::{Keystroke, write_strokes};
 use kb_stream::Lines;
@@ -106,6 +106,17 @@ pub fn reloaded_line(lines: &mut Lines) -> Result<(), NoMemory>
 {
     let mut text = lines.begin_line();
     text.push_str("reloaded")?;
+    lines.push(text)
+}
+
+/// `rule KEY`: a rule on this key was added at the bottom of the user's rules.
+pub fn rule_line(lines: &mut Lines, key: Keystroke) -> Result<(), NoMemory>
+    ensures ok { OnOk result (lines.new ≡ lines.old ++ line.rule_line key ∷ []) }
+    ensures err { OnErr result (lines.new ≡ lines.old) }
+{
+    let mut text = lines.begin_line();
+    text.push_str("rule ")?;
+    key.write_to(&mut text)?;
     lines.push(text)
 }
 
@@ -218,16 +229,15 @@ fn refused_text(text: String, refusal: &Refusal) -> Result<String, NoMemory>
     ensures { IfOk result (λ made. string_bytes made ≡ string_bytes text ++ line.refused_line refusal.now) }
 {
     let mut text = text;
-    let number = refusal.number;
-    let name = refusal.name();
+    let fault = refusal.kind;
     match &refusal.detail {
         Some(detail) => {
             let detail = detail.as_str();
-            write!(text, "refused {number} {name} {detail}")?;
+            write!(text, "refused {fault} {detail}")?;
             Ok(text)
         }
         None => {
-            write!(text, "refused {number} {name}")?;
+            write!(text, "refused {fault}")?;
             Ok(text)
         }
     }
@@ -273,16 +283,15 @@ pub fn unread_line(lines: &mut Lines, number: u64) -> Result<(), NoMemory>
 /// `trap NUMBER NAME COMMAND PLACE`: a handler trapped at the instruction with the index PLACE.
 pub fn trap_line(
     lines: &mut Lines,
-    number: u32,
+    fault: FaultKind,
     command: &str,
     place: usize,
 ) -> Result<(), NoMemory>
-    ensures ok { OnOk result (lines.new ≡ lines.old ++ line.trap_line number command.now place ∷ []) }
+    ensures ok { OnOk result (lines.new ≡ lines.old ++ line.trap_line fault command.now place ∷ []) }
     ensures err { OnErr result (lines.new ≡ lines.old) }
 {
     let mut text = lines.begin_line();
-    let name = fault_name(number);
-    write!(text, "trap {number} {name} {command} {place}")?;
+    write!(text, "trap {fault} {command} {place}")?;
     lines.push(text)
 }
 

@@ -23,8 +23,8 @@ use Rattle.kb_verify.proofs.Edges.{reach_within}
 use Rattle.kb_verify.specs.declared.fault.VerifyFault.{VerifyFault}
 use Rattle.kb_verify.specs.declared.fault.VerifyFault.TheVariants.{Wrong, OverBudget, OverDepth}
 use Rattle.kb_verify.specs.Faults.{IsEmpty, IsFault, IsFailure, IsSameFault, IsTrueFault, IsRefused, has_defect}
-use Rattle.kb_verify.specs.Faults.{is_dear, is_deep, not_code, number_in}
-use Rattle.kb_verify.specs.Fault.{number_of}
+use Rattle.kb_verify.specs.Faults.{is_dear, is_deep, not_code, kind_in}
+use Rattle.kb_verify.specs.Fault.{kind_of}
 use Rattle.kb_code.specs.Blocks.{IsFormed}
 use Rattle.kb_code.specs.Code.{code_fault}
 use Rattle.kb_code.specs.declared.fault.CodeFault.{CodeFault}
@@ -199,10 +199,10 @@ module _ (commands : Commands) (h : HandlerData) where
 
   -- the number of what refuses it is that of its fault
   pub refused_number : (r : IsRefused commands h) (fault : VerifyFault) → IsFault commands h fault →
-      number_in r ≡ number_of fault
+      kind_in r ≡ kind_of fault
   refused_number (has_defect d p is) (Wrong e q) y =
       let same = fault_unique (Wrong d p) (Wrong e q) is y in
-      ap (λ x. number_of (Wrong x p)) same.0 ∙ ap (λ n. number_of (Wrong e n)) same.1
+      ap (λ x. kind_of (Wrong x p)) same.0 ∙ ap (λ n. kind_of (Wrong e n)) same.1
   refused_number (has_defect d p is) (OverBudget path) y =
       absurd (wrong_not d p is y.1 (pathed (route_of path.items) y.2))
   refused_number (has_defect d p is) (OverDepth q) y =

@@ -1,20 +1,22 @@
--- The number and the place of each fault.
+-- The kind and the place of each fault.
 use Rattle.std.specs.Prelude.{ℕ}
+use Rattle.kb_base.specs.declared.fault.FaultKind.{FaultKind}
+use Rattle.kb_base.specs.declared.fault.FaultKind.TheVariants as kind
 use Rattle.kb_verify.specs.declared.fault.Defect.TheVariants as defect
 use Rattle.kb_verify.specs.declared.fault.VerifyFault.{VerifyFault}
 use Rattle.kb_verify.specs.declared.fault.VerifyFault.TheVariants.{Wrong, OverBudget, OverDepth}
 
-abbrev pub number_of : VerifyFault → ℕ
-number_of (Wrong defect.MissingOperand place) = 60
-number_of (Wrong defect.WrongOperand place) = 61
-number_of (Wrong defect.UnknownCommand place) = 62
-number_of (Wrong defect.WrongArgument place) = 63
-number_of (Wrong defect.BadJump place) = 64
-number_of (Wrong defect.FallsOff place) = 65
-number_of (Wrong defect.ShapesDiffer place) = 66
-number_of (Wrong defect.TooHigh place) = 67
-number_of (OverDepth place) = 68
-number_of (OverBudget path) = 69
+abbrev pub kind_of : VerifyFault → FaultKind
+kind_of (Wrong defect.MissingOperand place) = kind.MissingOperand
+kind_of (Wrong defect.WrongOperand place) = kind.WrongOperand
+kind_of (Wrong defect.UnknownCommand place) = kind.UnknownCommand
+kind_of (Wrong defect.WrongArgument place) = kind.WrongArgument
+kind_of (Wrong defect.BadJump place) = kind.BadJump
+kind_of (Wrong defect.FallsOff place) = kind.FallsOff
+kind_of (Wrong defect.ShapesDiffer place) = kind.ShapesDiffer
+kind_of (Wrong defect.TooHigh place) = kind.TooHigh
+kind_of (OverDepth place) = kind.OverDepth
+kind_of (OverBudget path) = kind.OverBudget
 
 abbrev pub place_of : VerifyFault → ℕ
 place_of (Wrong wrong place) = place

@@ -1,5 +1,7 @@
 -- What each fault means for a handler.
 use Rattle.std.specs.Prelude.{◌≡◌, ℕ, ◌<◌, ◌⊎◌, length, Some}
+use Rattle.kb_base.specs.declared.fault.FaultKind.{FaultKind}
+use Rattle.kb_base.specs.declared.fault.FaultKind.TheVariants as kind
 use Rattle.kb_base.specs.declared.failure.Failure.{Failure}
 use Rattle.kb_base.specs.declared.failure.Failure.TheVariants.{NoMemory, Fault}
 use Rattle.kb_code.specs.Blocks.{IsFormed}
@@ -13,7 +15,7 @@ use Rattle.kb_verify.specs.declared.fault.Defect.TheVariants as defect
 use Rattle.kb_verify.specs.declared.fault.VerifyFault.{VerifyFault}
 use Rattle.kb_verify.specs.declared.fault.VerifyFault.TheVariants.{Wrong, OverBudget, OverDepth}
 use Rattle.kb_verify.specs.Callable.{Commands}
-use Rattle.kb_verify.specs.Fault.{number_of}
+use Rattle.kb_verify.specs.Fault.{kind_of}
 use Rattle.kb_verify.specs.Shapes.{HasShapes, IsFirstWrong}
 use Rattle.kb_verify.specs.Paths.{Steps, IsWithinBudget, IsOverBudget}
 use Rattle.kb_verify.specs.Route.{route_of}
@@ -60,12 +62,12 @@ pub data IsRefused (commands : Commands) (h : HandlerData) : Type 0 where
   not_code : (fault : CodeFault) → 0 < length h.code → HasShapes commands h →
       code_fault Two h.code ≡ Some fault → IsRefused commands h
 
--- the number of the fault
-abbrev pub number_in : {commands : Commands} {h : HandlerData} → IsRefused commands h → ℕ
-number_in (has_defect defect place is) = number_of (Wrong defect place)
-number_in (is_dear path formed has over) = 69
-number_in (is_deep place formed has within deep) = 68
-number_in (not_code fault some has is) = code.number_of fault
+-- the kind of the fault
+abbrev pub kind_in : {commands : Commands} {h : HandlerData} → IsRefused commands h → FaultKind
+kind_in (has_defect defect place is) = kind_of (Wrong defect place)
+kind_in (is_dear path formed has over) = kind.OverBudget
+kind_in (is_deep place formed has within deep) = kind.OverDepth
+kind_in (not_code fault some has is) = code.kind_of fault
 
 -- a handler is accepted, or it has a fault
 abbrev pub IsDecided : Commands → HandlerData → Type 0

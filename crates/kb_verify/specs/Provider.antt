@@ -3,7 +3,7 @@
 use Rattle.std.specs.Prelude.{ℕ, Bool, List, [], ◌∷◌, if◌then◌else◌}
 use Rattle.std.specs.FinMap as map
 use Rattle.std.specs.List.{list_any}
-use Rattle.std.specs.Str.{str_eq_ignore_ascii_case}
+use Rattle.kb_base.specs.ExtensionId.{same_id}
 use Rattle.kb_code.specs.Handler.{HandlerData}
 use Rattle.kb_core.specs.Native.{name_of, declaration_of}
 use Rattle.kb_core.specs.declared.native.Native.{Native}
@@ -31,7 +31,7 @@ with_handlers (h ∷ rest) commands = with_handlers rest (with_first h.command h
 
 -- an extension is among the dependencies; ASCII letter case is ignored
 abbrev pub is_needed : List ℕ → List (List ℕ) → Bool
-is_needed id dependencies = list_any (λ other. str_eq_ignore_ascii_case id other) dependencies
+is_needed id dependencies = list_any (λ other. same_id id other) dependencies
 
 -- with the handlers of those extensions that are among the dependencies
 abbrev pub with_needed : List (List ℕ) → List Provided → Commands → Commands

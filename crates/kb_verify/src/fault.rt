@@ -1,7 +1,8 @@
 //! The faults for which the verifier rejects a handler.
 ghost use Rattle.std.specs.Prelude.{◌≡◌};
-ghost use Rattle.kb_verify.specs.Fault.{number_of, place_of};
+ghost use Rattle.kb_verify.specs.Fault.{kind_of, place_of};
 
+use kb_base::FaultKind;
 use thiserror::Error;
 
 /// A defect at a reachable place. The cases are our decision. They are in the order of their numbers,
@@ -46,7 +47,7 @@ pub enum Step {
     Turns(Vec<Step>),
 }
 
-/// The reason why a handler isn't accepted. A place is the index of an instruction, from 0. The numbers
+/// The reason why a handler isn't accepted. A place is the index of an instruction, from 0. The cases
 /// and the order of the checks are our decision.
 #[derive(Debug, Drop, Error)]
 pub enum VerifyFault {
@@ -63,21 +64,21 @@ pub enum VerifyFault {
 }
 
 impl VerifyFault {
-    /// The number of the fault in messages: 60 to 69.
-    pub fn number(&self) -> u32
-        ensures { result ≡ number_of self.now }
+    /// The fault in the table of all faults, which has its number and its name.
+    pub fn kind(&self) -> FaultKind
+        ensures { result ≡ kind_of self.now }
     {
         match self {
-            VerifyFault::Wrong(Defect::MissingOperand, _) => 60,
-            VerifyFault::Wrong(Defect::WrongOperand, _) => 61,
-            VerifyFault::Wrong(Defect::UnknownCommand, _) => 62,
-            VerifyFault::Wrong(Defect::WrongArgument, _) => 63,
-            VerifyFault::Wrong(Defect::BadJump, _) => 64,
-            VerifyFault::Wrong(Defect::FallsOff, _) => 65,
-            VerifyFault::Wrong(Defect::ShapesDiffer, _) => 66,
-            VerifyFault::Wrong(Defect::TooHigh, _) => 67,
-            VerifyFault::OverDepth(_) => 68,
-            VerifyFault::OverBudget(_) => 69,
+            VerifyFault::Wrong(Defect::MissingOperand, _) => FaultKind::MissingOperand,
+            VerifyFault::Wrong(Defect::WrongOperand, _) => FaultKind::WrongOperand,
+            VerifyFault::Wrong(Defect::UnknownCommand, _) => FaultKind::UnknownCommand,
+            VerifyFault::Wrong(Defect::WrongArgument, _) => FaultKind::WrongArgument,
+            VerifyFault::Wrong(Defect::BadJump, _) => FaultKind::BadJump,
+            VerifyFault::Wrong(Defect::FallsOff, _) => FaultKind::FallsOff,
+            VerifyFault::Wrong(Defect::ShapesDiffer, _) => FaultKind::ShapesDiffer,
+            VerifyFault::Wrong(Defect::TooHigh, _) => FaultKind::TooHigh,
+            VerifyFault::OverDepth(_) => FaultKind::OverDepth,
+            VerifyFault::OverBudget(_) => FaultKind::OverBudget,
         }
     }
 

@@ -4,7 +4,7 @@ ghost use Rattle.kb_verify.specs.Provider.{callable_of, is_needed, provided, wit
 ghost use Rattle.kb_verify.specs.Provider.{with_needed};
 
 use crate::callable::Callable;
-use kb_base::{NoMemory, Text};
+use kb_base::{ExtensionId, NoMemory, same_id};
 use kb_code::Handler;
 use kb_core::Native;
 use std::alloc::Global;
@@ -24,7 +24,7 @@ pub struct Provider<'a> {
 pub fn callable_of(
     alloc: Global,
     natives: &[Native],
-    dependencies: &[Text],
+    dependencies: &[ExtensionId],
     providers: &[Provider<'_>],
     own: &[Handler],
 ) -> Result<Callable, NoMemory>
@@ -52,7 +52,7 @@ fn add_natives(alloc: Global, natives: &[Native], callable: &mut Callable) -> Re
 /// Adds the handlers of the providers that are among the dependencies.
 fn add_needed(
     alloc: Global,
-    dependencies: &[Text],
+    dependencies: &[ExtensionId],
     providers: &[Provider<'_>],
     callable: &mut Callable,
 ) -> Result<(), NoMemory>
@@ -69,11 +69,11 @@ fn add_needed(
 
 /// Whether an extension with this identifier is among the dependencies. ASCII letter case is ignored (our
 /// decision).
-pub fn is_needed(id: &str, dependencies: &[Text]) -> bool
+pub fn is_needed(id: &str, dependencies: &[ExtensionId]) -> bool
     ensures { result ≡ is_needed id.now dependencies.now }
 {
     for other in dependencies {
-        if id.eq_ignore_ascii_case(other.as_str()) {
+        if same_id(id, other.as_str()) {
             return true;
         }
     }

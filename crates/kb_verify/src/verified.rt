@@ -64,10 +64,10 @@ impl Verified {
     }
 }
 
-/// Verifies a handler against the commands that it may call, in time linear in its code. A handler that
-/// isn't accepted is returned with its first fault. Our decision: defects of places, 60 to 67, come
-/// before the budget, 69, and the budget before the depth, 68. `NoMemory` also returns the handler. The
-/// check of a handler without code never allocates.
+/// Verifies a handler against the commands that it may call, in time linear in its code. The check of a
+/// handler without code never allocates. Errors, each with the handler: the first fault of a handler that
+/// isn't accepted, or `NoMemory`. Our decision: defects of places, 60 to 67, come before the budget, 69, and
+/// the budget before the depth, 68.
 pub fn verify(
     alloc: Global,
     handler: Handler,

@@ -1,13 +1,14 @@
--- The number of each trap.
-use Rattle.std.specs.Prelude.{ℕ}
+-- The kind of each trap.
+use Rattle.kb_base.specs.declared.fault.FaultKind.{FaultKind}
+use Rattle.kb_base.specs.declared.fault.FaultKind.TheVariants as kind
 use Rattle.kb_vm.specs.declared.trap.Trap.{Trap}
 use Rattle.kb_vm.specs.declared.trap.Trap.TheVariants.{MissingOperand, UnknownCommand, WrongArgument}
 use Rattle.kb_vm.specs.declared.trap.Trap.TheVariants.{OutOfBudget, TooDeep, BadCode}
 
-abbrev pub number_of : Trap → ℕ
-number_of MissingOperand = 80
-number_of UnknownCommand = 81
-number_of WrongArgument = 82
-number_of OutOfBudget = 83
-number_of TooDeep = 84
-number_of BadCode = 85
+abbrev pub kind_of : Trap → FaultKind
+kind_of MissingOperand = kind.TrapMissingOperand
+kind_of UnknownCommand = kind.TrapUnknownCommand
+kind_of WrongArgument = kind.TrapWrongArgument
+kind_of OutOfBudget = kind.OutOfBudget
+kind_of TooDeep = kind.CallTooDeep
+kind_of BadCode = kind.BadCode

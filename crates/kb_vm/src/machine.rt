@@ -46,7 +46,7 @@ pub(crate) struct Frame<'r, 'a> {
 }
 
 /// The state of a run: the frame of the running handler, the waiting frames, the core, the trace lines
-/// of calls so far, and the cost so far in instructions (`spent`).
+/// of calls so far, and the cost so far (`spent`): the instructions, and what native commands reported.
 #[derive(Drop)]
 pub(crate) struct Machine<'r, 'a> {
     pub frame: Frame<'r, 'a>,
@@ -108,7 +108,8 @@ pub enum End<'r> {
 pub struct Outcome<'r> {
     /// The core after the run.
     pub core: Core,
-    /// The cost: the number of instructions that began, plus the costs that native commands reported.
+    /// The cost: the number of instructions that began, plus what each native command reported. Contracts
+    /// know of the latter only that it is from 0 to the native command's budget.
     pub spent: u64,
     /// One trace line for each call, in order.
     pub lines: Lines,

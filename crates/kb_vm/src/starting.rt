@@ -19,14 +19,15 @@ use kb_core::{Args, Core, Native, Ran};
 use kb_stream::Lines;
 use std::alloc::Global;
 
-/// Runs a command with arguments on a core. A native command costs what its closure reports. A handler
-/// runs until it returns, traps, or is refused memory. Each instruction that begins costs 1, also if it
-/// traps, and each call of a native command costs what its closure reports. The whole budget of a
-/// callee is taken from its caller's remaining budget, whatever the callee really costs. So the cost of
-/// the run is at most the budget of the started command. Arguments that don't fit the command are a
-/// trap at place 0. Memory is refused only before anything is done, or at an instruction that creates a
-/// text or calls a command, and a trap takes precedence over refused memory. (All of these are our
-/// decisions.)
+/// Runs a command with arguments on a core. A handler runs until it returns, traps (80 to 85), or is refused
+/// memory. Each instruction that begins costs 1, also if it traps, and each native command that is started or
+/// called costs what its closure reports; the contract knows only that this is from 0 to the native command's
+/// budget. The whole budget of a callee is taken from its caller's remaining budget, whatever the callee
+/// really costs. So the cost of the run is at most the budget of the started command. Arguments that don't
+/// fit the command are a trap at place 0. Memory is refused only before anything is done, or at an
+/// instruction that creates a text or calls a command, and a trap takes precedence over refused memory. After
+/// a trap or refused memory core, lines and cost are those of that instruction. Without a live command of the
+/// name nothing is done (`NotFound`). (All of these are our decisions.)
 pub fn start<'r, L: Commands>(
     alloc: Global,
     commands: &'r L,
@@ -44,8 +45,8 @@ pub fn start<'r, L: Commands>(
     }
 }
 
-/// Runs a live handler with arguments that fit it, as `start` runs the command of its name. Nothing is
-/// looked up, and the arguments aren't compared with its parameters again.
+/// Runs a live handler with arguments that fit it, as `start` runs the command of its name. Nothing is looked
+/// up, and the arguments aren't compared with its parameters again. Traps and refused memory are as there.
 pub fn start_coded<'r, L: Commands>(
     alloc: Global,
     commands: &'r L,

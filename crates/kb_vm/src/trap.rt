@@ -1,8 +1,10 @@
 //! The reasons for which a handler traps.
 ghost use Rattle.std.specs.Prelude.{◌≡◌};
-ghost use Rattle.kb_vm.specs.Trap.{number_of};
+ghost use Rattle.kb_vm.specs.Trap.{kind_of};
 
-/// The reason why a handler can't continue at an instruction. The numbers are our decision.
+use kb_base::FaultKind;
+
+/// The reason why a handler can't continue at an instruction. The cases are our decision.
 #[derive(Clone, Copy, Debug, PartialEq, Eq)]
 pub enum Trap {
     /// The stack has fewer operands than the instruction takes.
@@ -21,17 +23,17 @@ pub enum Trap {
 }
 
 impl Trap {
-    /// The number of the trap in traces.
-    pub fn number(self) -> u32
-        ensures { result ≡ number_of self }
+    /// The fault in the table of all faults, which has its number and its name.
+    pub fn kind(self) -> FaultKind
+        ensures { result ≡ kind_of self }
     {
         match self {
-            Trap::MissingOperand => 80,
-            Trap::UnknownCommand => 81,
-            Trap::WrongArgument => 82,
-            Trap::OutOfBudget => 83,
-            Trap::TooDeep => 84,
-            Trap::BadCode => 85,
+            Trap::MissingOperand => FaultKind::TrapMissingOperand,
+            Trap::UnknownCommand => FaultKind::TrapUnknownCommand,
+            Trap::WrongArgument => FaultKind::TrapWrongArgument,
+            Trap::OutOfBudget => FaultKind::OutOfBudget,
+            Trap::TooDeep => FaultKind::CallTooDeep,
+            Trap::BadCode => FaultKind::BadCode,
         }
     }
 }

@@ -1,10 +1,11 @@
--- The numbers of the faults of when clauses.
-use Rattle.std.specs.Prelude.{ℕ}
+-- The kinds of the faults of when clauses.
+use Rattle.kb_base.specs.declared.fault.FaultKind.{FaultKind}
+use Rattle.kb_base.specs.declared.fault.FaultKind.TheVariants as kind
 use Rattle.kb_when.specs.declared.fault.WhenFault.{WhenFault}
 use Rattle.kb_when.specs.declared.fault.WhenFault.TheVariants.{BadToken, Unexpected, TooDeep, BadNumber}
 
-abbrev pub number_of : WhenFault → ℕ
-number_of BadToken = 30
-number_of Unexpected = 31
-number_of TooDeep = 32
-number_of BadNumber = 33
+abbrev pub kind_of : WhenFault → FaultKind
+kind_of BadToken = kind.BadToken
+kind_of Unexpected = kind.Unexpected
+kind_of TooDeep = kind.ClauseTooDeep
+kind_of BadNumber = kind.BadNumber

@@ -1,10 +1,10 @@
 //! Faults of when clauses.
 ghost use Rattle.std.specs.Prelude.{◌≡◌};
 
-use kb_base::Failure;
+use kb_base::{Failure, FaultKind};
 use thiserror::Error;
 
-/// Why a text is not a when clause. The numbers are our decision.
+/// Why a text is not a when clause. The cases are our decision.
 #[derive(Clone, Copy, Debug, PartialEq, Eq, Error)]
 pub enum WhenFault {
     /// A character begins no token, or a quoted text or a pattern is not closed.
@@ -22,17 +22,17 @@ pub enum WhenFault {
 }
 
 impl WhenFault {
-    ghost use Rattle.kb_when.specs.WhenFault.{number_of};
+    ghost use Rattle.kb_when.specs.WhenFault.{kind_of};
 
-    /// The fault's number in traces and messages: 30 to 33.
-    pub fn number(self) -> u32
-        ensures { result ≡ number_of self }
+    /// The fault in the table of all faults, which has its number and its name.
+    pub fn kind(self) -> FaultKind
+        ensures { result ≡ kind_of self }
     {
         match self {
-            WhenFault::BadToken => 30,
-            WhenFault::Unexpected => 31,
-            WhenFault::TooDeep => 32,
-            WhenFault::BadNumber => 33,
+            WhenFault::BadToken => FaultKind::BadToken,
+            WhenFault::Unexpected => FaultKind::Unexpected,
+            WhenFault::TooDeep => FaultKind::ClauseTooDeep,
+            WhenFault::BadNumber => FaultKind::BadNumber,
         }
     }
 }

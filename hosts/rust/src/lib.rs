@@ -1,28 +1,7 @@
-//! Pafjirn for Rust: a keybinding and command engine. It calls the C library; a host needs no unsafe code.
-//!
-//! ```no_run
-//! use pafjirn::{Engine, File};
-//!
-//! fn main() -> Result<(), pafjirn::Error> {
-//!     let mut engine = Engine::new()?;
-//!     engine.file(File::User, br#"[{ "key": "ctrl+h", "command": "type", "args": "hello" }]"#)?;
-//!     engine.load()?;
-//!     print!("{}", engine.press("ctrl+h")?.trace());
-//!     Ok(())
-//! }
-//! ```
-//!
-//! With Cargo it needs nothing but the library of `tools/build-library`, which it links statically;
-//! `build.rs` says where it is searched for. With rustc alone:
-//!
-//! ```sh
-//! PREFIX=$(tools/build-library)
-//! rustc --edition 2021 --crate-type rlib --crate-name pafjirn -L "$PREFIX/lib" hosts/rust/src/lib.rs
-//! rustc --edition 2021 --extern pafjirn=libpafjirn.rlib -L "$PREFIX/lib" \
-//!     -C link-arg="-Wl,-rpath,$PREFIX/lib" host.rs
-//! ```
+#![doc = include_str!("../README.md")]
 #![deny(missing_docs)]
 #![deny(unsafe_code)]
+#![deny(unsafe_op_in_unsafe_fn)]
 
 use std::fmt;
 
@@ -91,7 +70,10 @@ pub enum Error {
     /// An earlier event stopped the session.
     Stopped,
     /// A handler couldn't go on, which stopped the session. No verified handler does this.
-    Trapped,
+    Trapped {
+        /// The lines that the event added to the trace up to there, each with its line feed.
+        trace: String,
+    },
     /// The library gave an answer that this crate doesn't know.
     Unknown(u32),
 }
@@ -108,7 +90,7 @@ impl fmt::Display for Error {
             Error::Stopped => {
                 f.write_str("stopped: an event before stopped the session; make a new engine")
             }
-            Error::Trapped => f.write_str("trapped"),
+            Error::Trapped { .. } => f.write_str("trapped"),
             Error::Unknown(answer) => {
                 write!(f, "the answer {answer}, which include/pafjirn.h explains")
             }
@@ -346,7 +328,7 @@ impl Engine {
         match answer {
             sys::DONE => Ok(()),
             sys::REFUSED => Err(Error::Refused(self.handle.text(sys::NOTICE))),
-            answer => Err(error_of(answer)),
+            answer => Err(self.error_of(answer)),
         }
     }
 
@@ -357,24 +339,26 @@ impl Engine {
             sys::REFUSED => Ending::Refused,
             sys::NOT_FOUND => Ending::NotFound,
             sys::BAD_ARGUMENTS => Ending::BadArguments,
-            answer => return Err(error_of(answer)),
+            answer => return Err(self.error_of(answer)),
         };
         Ok(Told {
             engine: self,
             ending,
         })
     }
-}
 
-/// The error for an answer that is neither done nor refused.
-fn error_of(answer: u32) -> Error {
-    match answer {
-        sys::OUT_OF_ORDER => Error::OutOfOrder,
-        sys::NO_KEY => Error::NoKey,
-        sys::NO_MEMORY => Error::NoMemory,
-        sys::STOPPED => Error::Stopped,
-        sys::TRAPPED => Error::Trapped,
-        answer => Error::Unknown(answer),
+    /// The error for an answer that is neither done nor refused.
+    fn error_of(&mut self, answer: u32) -> Error {
+        match answer {
+            sys::OUT_OF_ORDER => Error::OutOfOrder,
+            sys::NO_KEY => Error::NoKey,
+            sys::NO_MEMORY => Error::NoMemory,
+            sys::STOPPED => Error::Stopped,
+            sys::TRAPPED => Error::Trapped {
+                trace: self.handle.text(sys::TRACE),
+            },
+            answer => Error::Unknown(answer),
+        }
     }
 }
 
@@ -442,7 +426,10 @@ pub struct Records<'e, L> {
     is_over: bool,
 }
 
-impl<L: Iterator<Item: AsRef<[u8]>>> Iterator for Records<'_, L> {
+impl<L: Iterator> Iterator for Records<'_, L>
+where
+    L::Item: AsRef<[u8]>,
+{
     type Item = Result<Record, Error>;
 
     fn next(&mut self) -> Option<Result<Record, Error>> {
@@ -453,5 +440,24 @@ impl<L: Iterator<Item: AsRef<[u8]>>> Iterator for Records<'_, L> {
         let told = self.engine.line(line.as_ref()).map(Told::record);
         self.is_over = told.is_err();
         Some(told)
+    }
+}
+
+#[cfg(test)]
+mod tests {
+    use super::*;
+
+    /// A load verifies all handlers, so no file makes the library answer that one trapped.
+    #[test]
+    fn the_trace_of_a_trapped_event_is_told() -> Result<(), Error> {
+        let mut engine = Engine::new()?;
+        engine.load()?;
+        engine.press("x")?;
+        let trapped = Error::Trapped {
+            trace: "key x: unbound\n".into(),
+        };
+        assert_eq!(engine.told(sys::TRAPPED).err(), Some(trapped.clone()));
+        assert_eq!(trapped.to_string(), "trapped");
+        Ok(())
     }
 }

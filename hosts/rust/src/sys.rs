@@ -37,13 +37,13 @@ struct Raw {
     live: bool,
 }
 
-// SAFETY: these are the declarations of the header (tools/check-header compares them). A function without a
-// pointer to bytes is safe for each `Raw` of this file.
+// These are the declarations of the header (tools/check-header compares them). Rust 1.63, which Debian has,
+// can't say that a function of such a block is safe, so each call is in unsafe code.
 #[link(name = "pafjirn")]
-unsafe extern "C" {
-    safe fn pafjirn_new(engine: &mut Raw) -> u32;
-    safe fn pafjirn_free(engine: &mut Raw);
-    safe fn pafjirn_platform(engine: &mut Raw, platform: u32) -> u32;
+extern "C" {
+    fn pafjirn_new(engine: &mut Raw) -> u32;
+    fn pafjirn_free(engine: &mut Raw);
+    fn pafjirn_platform(engine: &mut Raw, platform: u32) -> u32;
     fn pafjirn_file(engine: &mut Raw, file: u32, bytes: *const u8, length: usize) -> u32;
     fn pafjirn_extension(
         engine: &mut Raw,
@@ -53,7 +53,7 @@ unsafe extern "C" {
         handlers: *const u8,
         handlers_length: usize,
     ) -> u32;
-    safe fn pafjirn_load(engine: &mut Raw) -> u32;
+    fn pafjirn_load(engine: &mut Raw) -> u32;
     fn pafjirn_line(engine: &mut Raw, line: *const u8, length: usize) -> u32;
     fn pafjirn_key(engine: &mut Raw, key: *const u8, length: usize) -> u32;
     fn pafjirn_focus(engine: &mut Raw, scope: *const u8, length: usize) -> u32;
@@ -90,11 +90,11 @@ unsafe extern "C" {
         key_length: usize,
     ) -> u32;
     fn pafjirn_palette(engine: &mut Raw, query: *const u8, length: usize) -> u32;
-    safe fn pafjirn_choose(engine: &mut Raw, number: u32) -> u32;
+    fn pafjirn_choose(engine: &mut Raw, number: u32) -> u32;
     fn pafjirn_read(engine: &mut Raw, part: u32, from: usize, into: *mut u8, room: usize) -> usize;
-    safe fn pafjirn_taken(engine: &mut Raw) -> u32;
-    safe fn pafjirn_place(engine: &mut Raw) -> usize;
-    safe fn pafjirn_entries(engine: &mut Raw) -> usize;
+    fn pafjirn_taken(engine: &mut Raw) -> u32;
+    fn pafjirn_place(engine: &mut Raw) -> usize;
+    fn pafjirn_entries(engine: &mut Raw) -> usize;
     fn pafjirn_entry(
         engine: &mut Raw,
         number: u32,
@@ -117,11 +117,13 @@ impl Handle {
     }
 
     pub fn make(&mut self) -> u32 {
-        pafjirn_new(&mut self.0)
+        // SAFETY: the handle is one of this file, and the call takes no pointer.
+        unsafe { pafjirn_new(&mut self.0) }
     }
 
     pub fn platform(&mut self, platform: u32) -> u32 {
-        pafjirn_platform(&mut self.0, platform)
+        // SAFETY: the handle is one of this file, and the call takes no pointer.
+        unsafe { pafjirn_platform(&mut self.0, platform) }
     }
 
     pub fn file(&mut self, file: u32, bytes: &[u8]) -> u32 {
@@ -145,7 +147,8 @@ impl Handle {
     }
 
     pub fn load(&mut self) -> u32 {
-        pafjirn_load(&mut self.0)
+        // SAFETY: the handle is one of this file, and the call takes no pointer.
+        unsafe { pafjirn_load(&mut self.0) }
     }
 
     pub fn line(&mut self, line: &[u8]) -> u32 {
@@ -218,19 +221,23 @@ impl Handle {
     }
 
     pub fn choose(&mut self, number: u32) -> u32 {
-        pafjirn_choose(&mut self.0, number)
+        // SAFETY: the handle is one of this file, and the call takes no pointer.
+        unsafe { pafjirn_choose(&mut self.0, number) }
     }
 
     pub fn taken(&mut self) -> u32 {
-        pafjirn_taken(&mut self.0)
+        // SAFETY: the handle is one of this file, and the call takes no pointer.
+        unsafe { pafjirn_taken(&mut self.0) }
     }
 
     pub fn place(&mut self) -> usize {
-        pafjirn_place(&mut self.0)
+        // SAFETY: the handle is one of this file, and the call takes no pointer.
+        unsafe { pafjirn_place(&mut self.0) }
     }
 
     pub fn entries(&mut self) -> usize {
-        pafjirn_entries(&mut self.0)
+        // SAFETY: the handle is one of this file, and the call takes no pointer.
+        unsafe { pafjirn_entries(&mut self.0) }
     }
 
     pub fn entry(&mut self, number: u32, part: u32) -> String {
@@ -264,7 +271,8 @@ impl Handle {
 
 impl Drop for Handle {
     fn drop(&mut self) {
-        pafjirn_free(&mut self.0);
+        // SAFETY: the handle is one of this file, and the call takes no pointer.
+        unsafe { pafjirn_free(&mut self.0) };
     }
 }
 

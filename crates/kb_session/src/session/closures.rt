@@ -10,14 +10,14 @@ ghost use Rattle.kb_trace.specs.Lines as line;
 
 use crate::fault::SessionFault;
 use crate::session::Session;
-use kb_base::{NoMemory, Refusal};
+use kb_base::{FaultKind, NoMemory, Refusal};
 use kb_core::Native;
-use kb_registry::{HostCommand, RegistryFault, Ticket};
+use kb_registry::{HostCommand, Ticket};
 use kb_trace::lines;
 
 impl<C: HostCommand> Session<C> {
-    /// Registers a closure for its native command, and returns its ticket. An open chord stays open
-    /// (our decision).
+    /// Registers a closure for its native command, and returns its ticket. An open chord stays open (our
+    /// decision). A refusal has its trace line.
     ///
     /// Errors, each with the closure: `Refused` if a closure is already registered for the native
     /// command (70), or after 1,000,000 registrations (71); `Stopped` if the session was already
@@ -33,15 +33,15 @@ impl<C: HostCommand> Session<C> {
         }
         match self.registry.registration_fault(command.native()) {
             None => self.admit(command),
-            Some(fault) => match self.note_refusal(Refusal::of(fault.number())) {
+            Some(fault) => match self.note_refusal(Refusal::of(fault.kind())) {
                 Ok(refusal) => Err((command, SessionFault::Refused(refusal))),
                 Err(_) => Err((command, self.halted())),
             },
         }
     }
 
-    /// Ends the registration with a ticket, and returns its closure. An open chord stays open (our
-    /// decision).
+    /// Ends the registration with a ticket, and returns its closure. An open chord stays open (our decision).
+    /// A refusal has its trace line, and the closure stays registered.
     ///
     /// Errors: `Refused` if no registered closure has the ticket (72), or if a live handler calls the
     /// native command (73, with the command of the first such handler); `Stopped` if the session was
@@ -57,7 +57,7 @@ impl<C: HostCommand> Session<C> {
         }
         match self.registry.holder(ticket) {
             Some(native) => self.release_unless_called(native, ticket),
-            None => Err(self.refuse_disposal(Refusal::of(RegistryFault::StaleTicket.number()))),
+            None => Err(self.refuse_disposal(Refusal::of(FaultKind::StaleTicket))),
         }
     }
 
@@ -74,7 +74,7 @@ impl<C: HostCommand> Session<C> {
         };
         match caller.command().copied() {
             Ok(command) => Err(self.refuse_disposal(Refusal {
-                number: RegistryFault::InUse.number(),
+                kind: FaultKind::InUse,
                 detail: Some(command),
             })),
             Err(_) => Err(self.halted()),

@@ -4,17 +4,17 @@ ghost use Rattle.kb_base.specs.Failure.{Gives};
 ghost use Rattle.kb_session.specs.Session.{Does, FailsAt, KeepsFace, Takes, Undone};
 ghost use Rattle.kb_session.specs.Session.{has_switched, has_updated};
 ghost use Rattle.kb_session.specs.State.{code_updated, disabling_refusal, enabling_refusal, happens};
-ghost use Rattle.kb_lifecycle.specs.Dependencies.{extension_named};
+ghost use Rattle.kb_extension_code.specs.Dependencies.{extension_named};
 ghost use Rattle.kb_session.specs.State.{is_new, left_lines, named_in, spelled, switch_line, switch_target};
 ghost use Rattle.kb_session.specs.State.{switched};
 ghost use Rattle.kb_trace.specs.declared.event.Event.TheVariants as event;
 
 use crate::fault::{SessionFault, fault_in};
 use crate::session::Session;
-use kb_base::{Failure, NoMemory, Refusal};
+use kb_base::{Failure, FaultKind, NoMemory, Refusal};
+use kb_extension_code::{disable_obstacle, enable_obstacle, extension_named, updated_code};
 use kb_files::Extension;
 use kb_handler_table::Codes;
-use kb_lifecycle::{disable_obstacle, enable_obstacle, extension_named, updated_code};
 use kb_registry::HostCommand;
 use kb_trace::{Answer, lines};
 
@@ -89,7 +89,7 @@ impl<C: HostCommand> Session<C> {
     {
         let extensions = self.bindings.extensions();
         let Some(named) = extension_named(id, extensions) else {
-            return Ok(Some(Refusal::of(92)));
+            return Ok(Some(Refusal::of(FaultKind::UnknownExtension)));
         };
         match enable_obstacle(named.extension, extensions, &self.registry) {
             Some(obstacle) => Ok(Some(obstacle.refusal()?)),
@@ -103,7 +103,7 @@ impl<C: HostCommand> Session<C> {
     {
         let extensions = self.bindings.extensions();
         let Some(named) = extension_named(id, extensions) else {
-            return Ok(Some(Refusal::of(92)));
+            return Ok(Some(Refusal::of(FaultKind::UnknownExtension)));
         };
         match disable_obstacle(named.extension, extensions) {
             Some(obstacle) => Ok(Some(obstacle.refusal()?)),
@@ -187,7 +187,7 @@ impl<C: HostCommand> Session<C> {
                     bytes,
                 )
             }
-            None => Err(Failure::Fault(Refusal::of(92))),
+            None => Err(Failure::Fault(Refusal::of(FaultKind::UnknownExtension))),
         }
     }
 

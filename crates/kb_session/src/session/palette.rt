@@ -1,18 +1,21 @@
 //! The palette of a session: the list of commands for a query, and the choice of an entry.
 ghost use Rattle.std.specs.Prelude.{◌≡◌, ◌++◌, false, IfOk, OnOk, OnErr, option_map};
+ghost use Rattle.kb_execute.specs.Start.{stops};
+ghost use Rattle.kb_resolve.specs.declared.found.Found.TheVariants.{Nothing};
 ghost use Rattle.kb_session.specs.Inspect.{finish_of};
 ghost use Rattle.kb_session.specs.Palette.{choice_started, entry_at, entry_lines, palette_lines};
 ghost use Rattle.kb_session.specs.Session.{Does, HalfChosen, Undone};
-ghost use Rattle.kb_session.specs.State.{happens, stops};
+ghost use Rattle.kb_session.specs.State.{happens};
 ghost use Rattle.kb_stream.specs.Lines.{Begins};
 ghost use Rattle.kb_trace.specs.declared.event.Event.TheVariants as event;
 
-use crate::handled::{Handled, started_nothing};
-use crate::session::{Session, stops};
-use kb_base::{NoMemory, Refusal, Seq};
+use crate::handled::{EventEnd, Handled, started_nothing};
+use crate::session::Session;
+use kb_base::{FaultKind, NoMemory, Refusal, Seq};
 use kb_execute::{Finish, HeldCore, start_command};
 use kb_palette::{Entry, list};
 use kb_registry::{HostCommand, Registry};
+use kb_resolve::Found;
 use kb_stream::Lines;
 use kb_trace::{Answer, lines};
 use std::alloc::Global;
@@ -52,13 +55,14 @@ impl<C: HostCommand> Session<C> {
         requires running { self.old.state.stopped ≡ false }
         ensures ok { IfOk result (λ handled.
             Does (happens (event.Choose number)) self.old handled.answer self.new) }
-        ensures stops { IfOk result (λ handled. self.new.state.stopped ≡ stops handled.finish) }
+        ensures stops { IfOk result (λ handled. self.new.state.stopped ≡ stops handled.ended.finish) }
         ensures finish { IfOk result (λ handled.
-            handled.finish ≡ finish_of (event.Choose number) self.old.state) }
+            handled.ended.finish ≡ finish_of (event.Choose number) self.old.state) }
+        ensures found { IfOk result (λ handled. handled.ended.found ≡ Nothing) }
         ensures err { OnErr result (HalfChosen self.old self.new) }
     {
         let Some(entry) = entry_at(&self.listed, number) else {
-            return started_nothing(self.refuse(Refusal::of(96)));
+            return started_nothing(self.refuse(Refusal::of(FaultKind::NoEntry)));
         };
         let command = entry.command.as_str();
         let finish = start_choice(
@@ -71,10 +75,13 @@ impl<C: HostCommand> Session<C> {
         )?;
         self.history.note(command)?;
         self.listed = None;
-        self.stopped = stops(finish);
+        self.stopped = finish.stops();
         Ok(Handled {
             answer: Answer::Did,
-            finish,
+            ended: EventEnd {
+                finish,
+                found: Found::Nothing,
+            },
         })
     }
 }

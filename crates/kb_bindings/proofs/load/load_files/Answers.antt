@@ -1,7 +1,8 @@
 use Rattle.std.proofs.Common.{◌≡◌, sym, subst}
 use Rattle.std.specs.Prelude.{Ok}
 use Rattle.kb_files.specs.Extensions.{extensions_held}
-use Rattle.kb_bindings.specs.Load.{files_of, lists_held, loaded}
+use Rattle.kb_bindings.specs.Load.{lists_held, loaded}
+use Rattle.kb_files.specs.Inputs.{files_of}
 use Rattle.kb_bindings.specs.Sources.{Sources}
 use Rattle.kb_bindings.specs.Unread.{unread_of}
 use Rattle.kb_bindings.proofs.LoadLemmas.{all_loaded, loaded_from, sources_made}

@@ -1,7 +1,7 @@
 use Rattle.std.proofs.Common.{rules, ◌≡◌, refl}
 use Rattle.std.specs.Prelude.{is_none, slice_get}
-use Rattle.kb_check_report.specs.Problems.{files_in}
-use Rattle.kb_check_report.proofs.TellLemmas.{checked}
+use Rattle.kb_check.specs.Problems.{files_in}
+use Rattle.kb_check_report.proofs.CheckingLemmas.{checked}
 use Rattle.kb_check_report.proofs.checking.check.Goals as goal
 
 pub returns-in-Ok : goal.returns-in-Ok

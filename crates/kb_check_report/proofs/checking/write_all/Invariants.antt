@@ -1,4 +1,4 @@
-use Rattle.kb_check_report.specs.Page.{IsPage}
+use Rattle.kb_check_report.specs.Checking.{IsPage}
 use Rattle.kb_check_report.proofs.checking.write_all.Given as goal
 
 abbrev pub invariant-loop-problem : goal.invariant-loop-problem

@@ -1,6 +1,6 @@
 use Rattle.std.proofs.Common.{◌≡◌, ◌++◌, drop, map, option_map}
 use Rattle.serde_json.specs.View.{items_view}
-use Rattle.kb_json.specs.Parts.{each, listed}
+use Rattle.kb_jsonc.specs.Parts.{each, listed}
 use Rattle.kb_execute.specs.RunCommands.{planned, planned_in}
 use Rattle.kb_execute.proofs.run_commands.read_elements.Given as goal
 

@@ -2,7 +2,7 @@ use Rattle.std.proofs.Common.{rules, ◌≡◌, ◌+◌, ◌∷◌, [], drop, sy
 use Rattle.std.specs.Prelude.{option_map}
 use Rattle.std.proofs.Math.ListN.{drop_of_length-le}
 use Rattle.std.proofs.lemmas.List.{drop_more}
-use Rattle.kb_causes.specs.Cause.{cause_data, shown}
+use Rattle.kb_explain.specs.Cause.{cause_data, shown}
 use Rattle.kb_context.specs.Scopes.{context}
 use Rattle.kb_explain.specs.Palette.{IsCauseOfItems, IsItemCause}
 use Rattle.kb_explain.proofs.PaletteLemmas.{all_causes, one_cause_more}

@@ -1,7 +1,7 @@
 use Rattle.std.proofs.Common.{◌≡◌, drop}
 use Rattle.std.specs.Prelude.{option_map}
 use Rattle.std.specs.List.{list_any}
-use Rattle.kb_causes.specs.Cause.{cause_data, CauseData}
+use Rattle.kb_explain.specs.Cause.{cause_data, CauseData}
 use Rattle.kb_context.specs.Scopes.{context}
 use Rattle.kb_explain.specs.Palette.{led, IsCauseOfItems}
 use Rattle.kb_when.specs.Marks.{when_holds}

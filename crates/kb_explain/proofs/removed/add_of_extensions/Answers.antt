@@ -1,6 +1,6 @@
-use Rattle.std.proofs.Common.{◌≡◌, ◌∷◌, ◌+◌, drop, arith}
+use Rattle.std.proofs.Common.{◌≡◌, ◌∷◌, ◌+◌, drop, map, arith}
 use Rattle.std.proofs.lemmas.Grind.{common_steps}
-use Rattle.kb_explain.specs.Removed.{removals_of, removed_by}
+use Rattle.kb_explain.specs.Removed.{removed_of}
 use Rattle.kb_explain.proofs.RemovedLemmas.{one_more_list}
 use Rattle.kb_explain.proofs.removed.add_of_extensions.Goals as goal
 
@@ -9,8 +9,6 @@ loop-extension-preserved c =
     let n = c.loop-extension.extension-index in
     let left : drop n c.args.extensions.now ≡ c.extension-item.result ∷ drop (n + 1) c.args.extensions.now =
     grind (arith, common_steps) in
-    record {
-      all = one_more_list (removed_by (removals_of c.args.removals.now) c.args.strokes.now) _ _ _ _ _ _ left
-          c.in_ok-add_of_extension.ensures.all c.loop-extension.invariant.all;
-      taken = λ before. c.in_ok-add_of_extension.ensures.taken (c.loop-extension.invariant.taken before);
-    }
+    let removals = map (λ r. r.now) c.args.removals.now in
+    one_more_list (removed_of removals c.args.strokes.now) _ _ _ _ _ _ left
+    c.in_ok-add_of_extension.ensures c.loop-extension.invariant

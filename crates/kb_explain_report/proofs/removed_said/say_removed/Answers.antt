@@ -1,5 +1,19 @@
-use Rattle.kb_explain_report.proofs.SaidLemmas.{more_after}
+use Rattle.std.proofs.Common.{List, subst}
+use Rattle.kb_explain.specs.declared.removed.Removed.{Removed}
+use Rattle.kb_explain_report.specs.RemovedSaid.{SaysOne, SaysRemoved}
+use Rattle.kb_explain_report.specs.Said.{WritesEach}
+use Rattle.kb_explain_report.proofs.SaidLemmas.{wrote_mapped}
 use Rattle.kb_explain_report.proofs.removed_said.say_removed.Goals as goal
+use Rattle.kb_rules.specs.declared.removal.Removal.{Removal}
+use Rattle.kb_rules.specs.declared.rule.Rule.{Rule}
 
-pub loop-removed-preserved : goal.loop-removed-preserved
-loop-removed-preserved g c = more_after _ _ _ c.loop-removed.invariant c.in_ok-say_one.ensures
+pub returns : goal.returns
+returns g c =
+    let old = g.W.Write.contents c.args.out.now in
+    let new = g.W.Write.contents c.say_each.new.out in
+    let is = SaysRemoved c.args.form c.args.named.now in
+    let said = subst
+    (λ (l : List Removed). WritesEach (SaysOne c.args.form c.args.named.now) l old new)
+    c.as_slice.ensures.value c.in_ok-say_each.ensures in
+    subst (λ (l : List (Rule × Removal)). WritesEach is l old new) c.in_ok-all.ensures
+    (wrote_mapped (λ r. (r.rule.now, r.by.now)) is c.in_ok-all.all.items old new said)

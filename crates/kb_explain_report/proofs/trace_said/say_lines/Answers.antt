@@ -1,6 +1,7 @@
 use Rattle.std.proofs.Common.{rules, sym}
 use Rattle.std.specs.Prelude.{string_bytes}
-use Rattle.kb_explain_report.specs.Said.{IsTraceLine, WritesLine}
+use Rattle.kb_explain_report.specs.Said.{IsTraceLine}
+use Rattle.kb_report.specs.Output.{WritesLine}
 use Rattle.kb_explain_report.proofs.SaidLemmas.{wrote_at}
 use Rattle.kb_explain_report.proofs.trace_said.say_lines.Goals as goal
 

@@ -2,7 +2,7 @@ use Rattle.std.proofs.Common.{◌≡◌, ◌++◌}
 use Rattle.std.specs.Vec.Iter.{into_iter_items}
 use Rattle.serde_json.specs.View.{items_view}
 use Rattle.kb_base.specs.Reading.{seen}
-use Rattle.kb_json.specs.Parts.{listed}
+use Rattle.kb_jsonc.specs.Parts.{listed}
 use Rattle.kb_handler_file.specs.HandlerFile.{each_read, handler_of}
 use Rattle.kb_handler_file.proofs.handler_file.read_handlers.Given as goal
 

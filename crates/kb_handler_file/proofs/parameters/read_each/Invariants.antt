@@ -1,7 +1,7 @@
 use Rattle.std.proofs.Common.{◌≡◌, ◌++◌, option_map}
 use Rattle.std.specs.Vec.Iter.{into_iter_items}
 use Rattle.serde_json.specs.View.{items_view}
-use Rattle.kb_json.specs.Parts.{each, listed}
+use Rattle.kb_jsonc.specs.Parts.{each, listed}
 use Rattle.kb_handler_file.specs.Parameters.{param_of}
 use Rattle.kb_handler_file.proofs.parameters.read_each.Given as goal
 

@@ -1,8 +1,8 @@
 use Rattle.std.proofs.Common.{IfSome, All, map, subst, sym}
 use Rattle.std.proofs.lemmas.List.Elements.{All-push}
 use Rattle.kb_resolve.specs.Enablements.{enablement_in}
-use Rattle.kb_lints.specs.declared.chords.CutOff.{CutOff}
 use Rattle.kb_lints.specs.CutOff.{IsCutOff}
+use Rattle.kb_lints.specs.declared.hidden.Hidden.{Hidden}
 use Rattle.kb_lints.proofs.chords.cut_off.Goals.{in-Some+in_ok-push, in_default}
 use Rattle.kb_lints.proofs.chords.cut_off.Goals as goal
 
@@ -10,7 +10,7 @@ pub loop-position-preserved : goal.loop-position-preserved
 loop-position-preserved c =
     let in_force = map (λ r. r.value) c.args.rules.now in
     let enablement = enablement_in c.args.enablements.now in
-    let P : CutOff → Type 0 = λ o. IsCutOff enablement in_force o.position o.by in
+    let P : Hidden → Type 0 = λ o. IsCutOff enablement in_force o.position o.by in
     let kept = c.loop-position.invariant in
     let taken = c.in_ok-by.ensures kept.taking in
     record {

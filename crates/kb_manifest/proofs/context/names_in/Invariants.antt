@@ -1,6 +1,6 @@
 use Rattle.std.proofs.Common.{◌≡◌, ◌++◌, map, string_bytes}
 use Rattle.serde_json.specs.View.{members_view}
-use Rattle.kb_json.specs.Parts.{names_of}
+use Rattle.kb_jsonc.specs.Parts.{names_of}
 use Rattle.kb_manifest.proofs.context.names_in.Given as goal
 
 -- the names so far, and then those that are left

@@ -2,7 +2,7 @@ use Rattle.std.proofs.Common.{◌≡◌, [], ap, arith}
 use Rattle.std.proofs.lemmas.Grind.{common_steps}
 use Rattle.std.specs.Vec.Iter.{into_iter_items}
 use Rattle.serde_json.specs.View.{items_view}
-use Rattle.kb_json.specs.Parts.{listed}
+use Rattle.kb_jsonc.specs.Parts.{listed}
 use Rattle.kb_manifest.proofs.JudgedLemmas.{goes_on, ends}
 use Rattle.kb_manifest.proofs.entries.read_each.Goals as goal
 

@@ -1,7 +1,7 @@
 use Rattle.std.proofs.Common.{◌≡◌, ◌+◌, length}
 use Rattle.std.specs.Vec.Iter.{into_iter_items}
 use Rattle.serde_json.specs.View.{items_view}
-use Rattle.kb_json.specs.Parts.{listed}
+use Rattle.kb_jsonc.specs.Parts.{listed}
 use Rattle.kb_manifest.proofs.JudgedLemmas.{Goes}
 use Rattle.kb_manifest.proofs.entries.read_each.Given as goal
 

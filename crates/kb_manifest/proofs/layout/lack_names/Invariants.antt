@@ -2,7 +2,7 @@ use Rattle.std.proofs.Common.{◌≡◌, codes, drop}
 use Rattle.std.specs.List.{list_any}
 use Rattle.serde_json.specs.View.{items_view}
 use Rattle.kb_manifest.specs.Layout.{lacks}
-use Rattle.kb_json.specs.Parts.{listed}
+use Rattle.kb_jsonc.specs.Parts.{listed}
 use Rattle.kb_manifest.proofs.layout.lack_names.Given as goal
 
 -- those that are left give the same

@@ -2,7 +2,7 @@ use Rattle.std.proofs.Common.{◌≡◌, option_map}
 use Rattle.serde_json.specs.Data.{object}
 use Rattle.serde_json.specs.View.{members_view}
 use Rattle.kb_manifest.specs.Layout.{key_of, keys_of}
-use Rattle.kb_json.specs.Parts.{each, pairs_of}
+use Rattle.kb_jsonc.specs.Parts.{each, pairs_of}
 use Rattle.kb_manifest.proofs.KeysLemmas.{inserted}
 use Rattle.kb_manifest.proofs.layout.read_members.Given as goal
 

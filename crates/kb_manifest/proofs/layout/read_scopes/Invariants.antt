@@ -2,7 +2,7 @@ use Rattle.std.proofs.Common.{◌≡◌, ◌++◌, option_map}
 use Rattle.std.specs.Vec.Iter.{into_iter_items}
 use Rattle.serde_json.specs.View.{items_view}
 use Rattle.kb_manifest.specs.Layout.{scope_of}
-use Rattle.kb_json.specs.Parts.{each, listed}
+use Rattle.kb_jsonc.specs.Parts.{each, listed}
 use Rattle.kb_manifest.proofs.layout.read_scopes.Given as goal
 
 -- the scopes so far, and then those that are left

@@ -1,6 +1,6 @@
 use Rattle.std.proofs.Common.{◌≡◌, is_some}
 use Rattle.serde_json.specs.View.{members_view}
-use Rattle.kb_json.specs.Parts.{each, pairs_of}
+use Rattle.kb_jsonc.specs.Parts.{each, pairs_of}
 use Rattle.kb_manifest.specs.Layout.{key_of}
 use Rattle.kb_manifest.proofs.shape.all_values.Given as goal
 

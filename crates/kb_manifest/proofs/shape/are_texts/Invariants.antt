@@ -1,6 +1,6 @@
 use Rattle.std.proofs.Common.{◌≡◌, drop, is_some}
 use Rattle.serde_json.specs.View.{items_view}
-use Rattle.kb_json.specs.Parts.{each, listed}
+use Rattle.kb_jsonc.specs.Parts.{each, listed}
 use Rattle.serde_json.specs.Find.{as_str}
 use Rattle.kb_manifest.proofs.shape.are_texts.Given as goal
 

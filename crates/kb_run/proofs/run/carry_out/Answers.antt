@@ -1,6 +1,6 @@
 use Rattle.std.proofs.Common.{inl, rules}
 use Rattle.std.proofs.lemmas.Result.{err_from_is_err_and}
-use Rattle.kb_run.specs.Run.{files_in}
+use Rattle.kb_files.specs.SourceFiles.{files_in}
 use Rattle.kb_run.proofs.RunLemmas.{files_missing, script_missing}
 use Rattle.kb_run.proofs.run.carry_out.Goals as goal
 

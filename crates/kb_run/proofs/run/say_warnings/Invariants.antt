@@ -1,5 +1,5 @@
 use Rattle.std.proofs.Common.{drop}
-use Rattle.kb_exit.specs.Voice.{Heard, Says, heard_by}
+use Rattle.kb_run.specs.Voice.{Heard, Says, heard_by}
 use Rattle.kb_run.specs.Run.{warning_text}
 use Rattle.kb_run.proofs.run.say_warnings.Given as goal
 

@@ -1,8 +1,8 @@
 use Rattle.std.proofs.Common.{map, subst}
 use Rattle.std.specs.Prelude.{Ok}
-use Rattle.kb_bindings.specs.Load.{files_of}
+use Rattle.kb_files.specs.Inputs.{files_of}
 use Rattle.kb_bindings.specs.Unread.{unread_of}
-use Rattle.kb_load_commands.specs.Checked.{LiveChecked}
+use Rattle.kb_extension_code.specs.Checked.{LiveChecked}
 use Rattle.kb_session.proofs.FewHandlers.{few_handlers}
 use Rattle.kb_session.proofs.LoadLemmas.{begun_loads}
 use Rattle.kb_session.proofs.SafeLoads.{all_loads_safe}

@@ -1,5 +1,5 @@
 use Rattle.std.proofs.Common.{map}
-use Rattle.kb_bindings.specs.Load.{files_of}
+use Rattle.kb_files.specs.Inputs.{files_of}
 use Rattle.kb_bindings.specs.Unread.{unread_of}
 use Rattle.kb_session.proofs.FewHandlers.{few_handlers}
 use Rattle.kb_session.proofs.LoadLemmas.{raw_begun_loads, raw_commands_fail}

@@ -1,7 +1,7 @@
 use Rattle.std.proofs.Common.{◌∙◌, ap, sym}
 use Rattle.kb_code.specs.Face.{same_face}
 use Rattle.kb_handler_table.specs.Live.{handlers_of}
-use Rattle.kb_lifecycle.specs.Dependencies.{Placed, extension_named, placed_by}
+use Rattle.kb_extension_code.specs.Dependencies.{Placed, extension_named, placed_by}
 use Rattle.kb_session.specs.Session.{Seen}
 use Rattle.kb_session.specs.State.{named_in}
 use Rattle.kb_session.proofs.session.Session.take_code.Goals as goal

@@ -1,3 +1,0 @@
-pub mod Cause
-pub mod Overlap
-pub mod Seen

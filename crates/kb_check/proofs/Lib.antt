@@ -1,0 +1,3 @@
+mod CauseLemmas
+mod StartLemmas
+mod TellLemmas

@@ -1,0 +1,6 @@
+use Rattle.std.proofs.Common.{◌≡◌}
+use Rattle.kb_problems.specs.Starts.{never_said}
+use Rattle.kb_check.proofs.context_keys.add_of_extensions.Given as goal
+
+abbrev pub invariant-loop-extension : goal.invariant-loop-extension
+invariant-loop-extension l = never_said l.problems.items ≡ never_said l.fn.problems.items

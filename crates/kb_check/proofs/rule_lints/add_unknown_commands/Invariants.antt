@@ -1,0 +1,6 @@
+use Rattle.std.proofs.Common.{◌≡◌}
+use Rattle.kb_problems.specs.Starts.{never_said}
+use Rattle.kb_check.proofs.rule_lints.add_unknown_commands.Given as goal
+
+abbrev pub invariant-loop-rule : goal.invariant-loop-rule
+invariant-loop-rule l = never_said l.problems.items ≡ never_said l.fn.problems.items

@@ -1,6 +1,0 @@
-use Rattle.std.proofs.Common.{◌≡◌}
-use Rattle.kb_check_report.specs.Starts.{never_said}
-use Rattle.kb_check_report.proofs.near_members.add_near_members.Given as goal
-
-abbrev pub invariant-loop-name : goal.invariant-loop-name
-invariant-loop-name l = never_said l.problems.items ≡ never_said l.fn.problems.items

@@ -1,6 +1,0 @@
-use Rattle.std.proofs.Common.{◌≡◌}
-use Rattle.kb_check_report.specs.Starts.{never_said}
-use Rattle.kb_check_report.proofs.removal_lints.add_idle_removals.Given as goal
-
-abbrev pub invariant-loop-extension : goal.invariant-loop-extension
-invariant-loop-extension l = never_said l.problems.items ≡ never_said l.fn.problems.items

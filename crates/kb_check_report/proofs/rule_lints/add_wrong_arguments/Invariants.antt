@@ -1,6 +1,0 @@
-use Rattle.std.proofs.Common.{◌≡◌}
-use Rattle.kb_check_report.specs.Starts.{never_said}
-use Rattle.kb_check_report.proofs.rule_lints.add_wrong_arguments.Given as goal
-
-abbrev pub invariant-loop-rule : goal.invariant-loop-rule
-invariant-loop-rule l = never_said l.problems.items ≡ never_said l.fn.problems.items

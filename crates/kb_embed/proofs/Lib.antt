@@ -1,3 +1,0 @@
-pub mod RunningLemmas
-pub mod EngineLemmas
-pub mod TellingLemmas

@@ -1,8 +1,0 @@
-use Rattle.std.proofs.Common.{◌≡◌, ◌++◌, drop, string_bytes}
-use Rattle.kb_embed.specs.Notice.{warning_text}
-use Rattle.kb_embed.proofs.notice.warnings_text.Given as goal
-
-abbrev pub invariant-loop-warning : goal.invariant-loop-warning
-invariant-loop-warning l =
-    string_bytes l.text ++ warning_text l.session.state.sources (drop l.warning-index l.warnings)
-    ≡ warning_text l.session.state.sources l.warnings

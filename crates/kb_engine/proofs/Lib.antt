@@ -1,0 +1,4 @@
+pub mod RunningLemmas
+pub mod EngineLemmas
+pub mod TellingLemmas
+pub mod TakenLemmas

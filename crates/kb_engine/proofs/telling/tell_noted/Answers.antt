@@ -1,0 +1,20 @@
+use Rattle.std.proofs.Common.{◌∙◌, ap, subst, sym}
+use Rattle.kb_engine.specs.Taken.{TakesBy}
+use Rattle.kb_engine.specs.Taken.{Completes, Takes, prepared}
+use Rattle.kb_engine.specs.declared.taken.Taken.{Taken}
+use Rattle.kb_engine.proofs.TellingLemmas.{told_taken}
+use Rattle.kb_session.specs.Session.{Seen}
+use Rattle.kb_engine.proofs.telling.tell_noted.Goals as goal
+
+pub returns-in-Ok-completed-clause-taken : goal.returns-in-Ok-completed-clause-taken
+returns-in-Ok-completed-clause-taken c =
+    let told = c.tell-outcome in
+    let before = c.in-Ok.before in
+    let taken = c.in-Ok-completed.taken in
+    subst (λ (t : Taken). TakesBy (Takes c.args.event c.args.running.now.session.state) told.result.0 t)
+    (sym c.taken_behind.ensures)
+    (told_taken c.args.event c.args.running.now told.new.self told.result.1 told.result.0 before taken
+    told.ensures.told told.ensures.found
+    (c.in-Ok.ensures ∙ ap (λ (s : Seen). prepared c.args.event s.state) c.session-2.ensures)
+    (subst (λ (s : Seen). Completes s.state told.result.1 before taken) c.session-3.ensures
+    c.in-Ok-completed.ensures.taken))

@@ -1,0 +1,20 @@
+-- What contracts see of an engine: its files, its session with the shelf beside it, the notice of the last
+-- load, and what the last event took.
+use Rattle.std.specs.Prelude.{ℕ, List, Option}
+use Rattle.kb_files.specs.Inputs.{Files}
+use Rattle.kb_core.specs.declared.native.Native.{Native}
+use Rattle.kb_engine.specs.declared.taken.Taken.{Taken}
+use Rattle.kb_session.specs.Session.{Seen}
+
+-- a session, whose trace is that of the last event alone; the natives of the commands that aren't registered;
+-- and the number of the last line of a script
+pub record RunningData : Type 0 where
+  pub session : Seen
+  pub shelf : List Native
+  pub number : ℕ
+
+pub record EngineData : Type 0 where
+  pub files : Files
+  pub running : Option RunningData
+  pub notice : List ℕ
+  pub taken : Taken

@@ -1,0 +1,11 @@
+pub mod Dependencies
+pub mod Settled
+pub mod Stays
+pub mod Switching
+pub mod Updating
+pub mod Natives
+pub mod Raw
+pub mod Callable
+pub mod Verified
+pub mod Checked
+pub mod Lacking

@@ -1,3 +1,0 @@
-pub mod FileFault
-pub mod Parts
-pub mod Member

@@ -1,5 +1,0 @@
-use Rattle.kb_lifecycle.proofs.Switches.{disabled_stays_settled}
-use Rattle.kb_lifecycle.proofs.laws.disabled_stays_settled.Goals as goal
-
-pub returns : goal.returns
-returns c = disabled_stays_settled

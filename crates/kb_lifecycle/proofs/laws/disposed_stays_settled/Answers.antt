@@ -1,5 +1,0 @@
-use Rattle.kb_lifecycle.proofs.Closures.{disposed_stays_settled}
-use Rattle.kb_lifecycle.proofs.laws.disposed_stays_settled.Goals as goal
-
-pub returns : goal.returns
-returns c = disposed_stays_settled

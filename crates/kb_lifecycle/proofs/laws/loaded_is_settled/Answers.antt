@@ -1,5 +1,0 @@
-use Rattle.kb_lifecycle.proofs.Loads.{loaded_is_settled}
-use Rattle.kb_lifecycle.proofs.laws.loaded_is_settled.Goals as goal
-
-pub returns : goal.returns
-returns c = loaded_is_settled

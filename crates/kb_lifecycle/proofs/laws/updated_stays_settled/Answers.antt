@@ -1,5 +1,0 @@
-use Rattle.kb_lifecycle.proofs.Exchanges.{updated_stays_settled}
-use Rattle.kb_lifecycle.proofs.laws.updated_stays_settled.Goals as goal
-
-pub returns : goal.returns
-returns c = updated_stays_settled

@@ -1,9 +1,0 @@
-pub mod FoundLemmas
-pub mod BackedLemmas
-pub mod CallableLemmas
-pub mod LackingLemmas
-pub mod NativesLemmas
-pub mod RawLemmas
-pub mod VerifiedLemmas
-pub mod CheckedLemmas
-pub mod Numbers

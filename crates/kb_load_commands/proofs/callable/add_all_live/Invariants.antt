@@ -1,9 +1,0 @@
-use Rattle.std.proofs.Common.{◌≡◌, drop}
-use Rattle.kb_load_commands.specs.Callable.{with_natives}
-use Rattle.kb_load_commands.proofs.callable.add_all_live.Given as goal
-
--- those that are left give what all give
-abbrev pub invariant-loop-native : goal.invariant-loop-native
-invariant-loop-native g l =
-    with_natives (drop l.native-index l.natives) l.registry l.live.items
-    ≡ with_natives l.natives l.registry l.fn.live.items

@@ -1,0 +1,6 @@
+use Rattle.std.proofs.Common.{◌≡◌}
+use Rattle.kb_problems.specs.Starts.{never_said}
+use Rattle.kb_member_lints.proofs.near_members.add_near_members.Given as goal
+
+abbrev pub invariant-loop-name : goal.invariant-loop-name
+invariant-loop-name l = never_said l.problems.items ≡ never_said l.fn.problems.items

@@ -1,0 +1,7 @@
+pub mod Choices
+pub mod Cause
+pub mod Faulty
+pub mod Near
+pub mod Starts
+pub mod Placed
+pub mod Opened

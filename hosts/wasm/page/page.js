@@ -1,0 +1,427 @@
+// The page: it loads the files that are given to it, tells the engine each event as a line of a script, and
+// shows what became of it. The engine runs here. The files and the lines are the whole state: a link carries
+// them, and this browser keeps them.
+
+import { EngineError, LoadRefused, instantiate, keystroke } from "../pafjirn.js";
+import { Context } from "./context.js";
+import { FAULTS } from "./faults.js";
+import * as store from "./files.js";
+import { makeKeyboard } from "./keyboard.js";
+import { makePalette } from "./palette.js";
+import { entriesOf, identifier, lineAt, read } from "./places.js";
+import { makeScopes } from "./scopes.js";
+import { at, counted, element, line as item, link, spokenText } from "./shown.js";
+
+const ENDINGS = {
+  done: "done",
+  refused: "refused",
+  "not found": "not a command of the engine: the host runs it",
+  "bad arguments": "the arguments don't fit the command",
+};
+// How long the text of a file stays as it is before it is loaded.
+const PAUSE = 300;
+// The most lines of the trace that are shown.
+const MOST_LINES = 1000;
+
+let pafjirn = null, engine = null, context = new Context("");
+let files = store.firstFiles(), lines = [], chord = "", isComposing = false, isFull = false, late = 0;
+
+// Reports what happened, in the live region of the page, which a screen reader announces. It announces only
+// changes, so a repeated text gets a space.
+function say(text, isWrong = false) {
+  const isAgain = at("status").textContent === text;
+  at("status").classList.toggle("wrong", isWrong);
+  at("status").textContent = isAgain ? `${text}\u00a0` : text;
+}
+
+// Does work, and reports why it fails.
+async function tried(work) {
+  try {
+    await work();
+  } catch (wrong) {
+    say(pafjirn?.dead ? "The engine trapped: reload the page." : wrong.message, true);
+  }
+}
+
+// Loads the files, and then tells the engine the lines again.
+function load(again = []) {
+  clearTimeout(late);
+  engine?.dispose();
+  [engine, lines, chord] = [null, [], ""];
+  at("trace").replaceChildren();
+  palette.clear();
+  showRecord(null);
+  try {
+    engine = pafjirn.load(store.given(files));
+    context = new Context(files.layout.trim() ? files.layout : "");
+    showProblems(engine.warnings.map(problemOf));
+    for (const line of again) {
+      const record = tell(line);
+      if (record) show(line, record);
+    }
+  } catch (wrong) {
+    if (!(wrong instanceof EngineError)) throw wrong;
+    const { fault } = wrong;
+    showProblems([fault ? refusal(fault) : { text: wrong.message, isRefused: true }]);
+  }
+  showExtensions();
+  showState();
+  keep();
+}
+
+// Tells the engine an event. Returns its record, or null if it was none.
+function tell(line) {
+  if (!engine) {
+    say("The files don't load: see Problems.", true);
+    return null;
+  }
+  const record = engine.line(line);
+  if (record.trace.startsWith("unread line")) return null;
+  lines.push(line);
+  if (!record.refusal) follow(line, record);
+  return record;
+}
+
+// Follows what an event changed: the open chord, the focus and the context keys.
+function follow(line, record) {
+  const [name, scope, key, ...value] = line.split(" ");
+  if (name === "key") chord = record.kind === "chording" ? record.chord : "";
+  if (name === "focus" || name === "enable" || name === "disable") chord = "";
+  if (name === "focus") context.focus = scope;
+  if (name === "set") context.set(scope, key, value.join(" "));
+  context.follow(record);
+}
+
+// Shows what became of an event. What a press found stays until the next one.
+function show(line, record) {
+  if (/^(key|choose) /.test(line)) showRecord(record);
+  at("trace").append(record.trace);
+  while (at("trace").childNodes.length > MOST_LINES) at("trace").firstChild.remove();
+  at("trace").scrollTop = at("trace").scrollHeight;
+}
+
+// Tells the engine an event of the user's, and shows what became of it.
+function told(line, spoken) {
+  return tried(() => {
+    const record = tell(line);
+    if (!record) {
+      if (engine) throw new Error(`“${line}” can't be told: it has a name with a space.`);
+      return;
+    }
+    show(line, record);
+    showState();
+    keep();
+    say(spoken(record), record.refusal !== null);
+  });
+}
+
+function press(key) {
+  if (!engine) return tell("");
+  // (a line that isn't read is no event)
+  if (/[\r\n]|^$/.test(key) || key === " ") return say("This is no key. A key is such as ctrl+s.", true);
+  flash(key);
+  return tried(() => {
+    const line = `key ${key}`, record = tell(line);
+    if (!record) throw new Error(`${key} is no key of rules.`);
+    show(line, record);
+    showState();
+    keep();
+    const what = record.kind === "started" ? `${record.command || "no command"}, ` : "";
+    say(`${record.chord}: ${what}${resultOf(record)}. ${spokenText(engine.text)}`);
+  });
+}
+
+function keep() {
+  const isKept = store.keep({ files, lines });
+  if (!isKept && !isFull) say("This browser has no room to keep the files.", true);
+  isFull = !isKept;
+}
+
+function resultOf(record) {
+  if (record.refusal) return `refused: ${FAULTS.get(record.refusal.number)?.[1] ?? record.refusal.name}`;
+  if (record.chord && record.kind === "nothing") return "no rule matches";
+  if (record.kind === "chording") return "a chord is open";
+  const steps = record.trace.split("\n").filter((it) => it.startsWith("run "));
+  // (if runCommands isn't done, its last step isn't)
+  const step = record.command === "runCommands" && record.ending !== "done" && steps.pop();
+  return step ? `${step.slice(4)}: ${ENDINGS[record.ending]}` : ENDINGS[record.ending];
+}
+
+function showRecord(record) {
+  const isStarted = record?.kind === "started";
+  at("chord").textContent = record?.chord || "–";
+  at("result").textContent = record ? resultOf(record) : "–";
+  at("command").textContent = isStarted ? record.command || "(none: the key is taken)" : "–";
+  at("arguments").textContent = record?.argumentsJson ?? "–";
+  showRule(record?.rule);
+}
+
+// The file of a source, with its title and text, or null.
+function fileOf(source) {
+  const id = store.idOf(files, source, identifier);
+  return store.listed(files).find((it) => it.id === id) ?? null;
+}
+
+// The place of an entry in a file, or null: where it begins and ends.
+function placeOf(file, part, place) {
+  return (file && entriesOf(file.text, part, file.id.startsWith("manifest"))[place]) ?? null;
+}
+
+function showRule(rule) {
+  const file = rule && fileOf(rule.source), place = file && placeOf(file, "keybindings", rule.place);
+  at("rule").replaceChildren(rule ? linkTo(file, place, rule.source) : "–");
+  at("rule-text").hidden = !place;
+  at("rule-text").textContent = place ? file.text.slice(place.begin, place.end) : "";
+}
+
+// A button that shows a place of a file.
+function linkTo(file, place, name) {
+  if (!file) return name;
+  const where = place ? `${file.title}, line ${lineAt(file.text, place.begin)}` : file.title;
+  return link(where, () => showFile(file.id, place));
+}
+
+// A warning of the load: `warning NUMBER SOURCE PART PLACE`.
+function problemOf(warning) {
+  const [, number, source, part, at] = /^warning (\d+) (.*) (\w+) (\d+)$/s.exec(warning) ?? [];
+  const file = source && fileOf(source), place = file && placeOf(file, part, Number(at));
+  const [name, meaning] = FAULTS.get(Number(number)) ?? ["", warning];
+  return { file, place, name: source, text: `${name}: ${meaning}` };
+}
+
+function refusal({ file: source, number, name, detail }) {
+  const meaning = FAULTS.get(number)?.[1] ?? "", more = detail === undefined ? "" : ` (${detail})`;
+  return { file: fileOf(source), name: source, text: `${name}: ${meaning}${more}`, isRefused: true };
+}
+
+function showProblems(problems) {
+  at("no-problems").hidden = problems.length > 0;
+  at("problems").replaceChildren(...problems.map(({ file, place, name, text, isRefused }) => {
+    const made = item(...(name ? [linkTo(file, place, name), ": "] : []), text);
+    made.classList.toggle("refused", Boolean(isRefused));
+    return made;
+  }));
+}
+
+// Shows a file, and selects a place in it.
+function showFile(id, place) {
+  at("file").value = id;
+  showSource();
+  if (!place) return at("source").focus();
+  const source = at("source"), before = lineAt(source.value, place.begin) - 1;
+  source.focus();
+  source.setSelectionRange(place.begin, place.end);
+  source.scrollTop = Math.max(0, (before - 4) * parseFloat(getComputedStyle(source).lineHeight));
+}
+
+function showFiles() {
+  const id = at("file").value, all = store.listed(files);
+  at("file").replaceChildren(...all.map((it) => element("option", it.title, { value: it.id })));
+  at("file").value = all.some((it) => it.id === id) ? id : "user";
+  at("platform").value = files.platform;
+  showSource();
+}
+
+function showSource() {
+  const { title, text } = store.listed(files).find((it) => it.id === at("file").value);
+  at("source-label").textContent = `Text of ${title}`;
+  if (at("source").value !== text) at("source").value = text;
+  at("remove").disabled = text === "" && !at("file").value.includes(" ");
+}
+
+function showExtensions() {
+  at("extensions").replaceChildren(...(engine ? files.extensions : []).map(({ manifest }) => {
+    const name = identifier(manifest), label = document.createElement("label");
+    const box = element("input", "", { type: "checkbox", checked: true });
+    box.onchange = () => {
+      const word = box.checked ? "enable" : "disable";
+      told(`${word} ${name}`, (record) => {
+        if (record.refusal) box.checked = !box.checked;
+        return `${word} ${name}: ${resultOf(record)}.`;
+      });
+    };
+    label.append(box, ` ${name} is enabled`);
+    return item(label);
+  }));
+}
+
+function showState() {
+  showText();
+  at("open").textContent = chord || "–";
+  scopes.show(context);
+  palette.show(engine?.entries ?? []);
+}
+
+// The text, and the caret in it.
+function showText() {
+  if (isComposing) return;
+  const { before, after } = engine?.text ?? { before: "", after: "" }, text = at("text");
+  if (text.value !== before + after) text.value = before + after;
+  const place = before.length;
+  if (text.selectionStart !== place || text.selectionEnd !== place) text.setSelectionRange(place, place);
+}
+
+// Takes files, each with its path and text, and says how many there were.
+function take(given) {
+  if (given.length === 0) throw new Error("There is no JSON file. Drop JSON files, or folders with them.");
+  files = store.taken(files, given);
+  showFiles();
+  load();
+  const warnings = at("problems").children.length;
+  say(`${counted(given.length, "file")} loaded, with ${counted(warnings, "problem")}.`, !engine);
+}
+
+async function takeFiles(given) {
+  const found = store.wanted(await given);
+  take(await Promise.all(found.map(async ({ file, path }) => ({ path, text: await store.textOf(file) }))));
+}
+
+function takePasted(text) {
+  const name = store.nameOfPasted(read(text));
+  if (!name) throw new Error("The text is no file of rules, layout, package.json or handlers.json.");
+  const last = files.extensions.at(-1)?.folder ?? "extension";
+  const folder = name === "package.json" ? identifier(text) : last;
+  take([{ path: name === "package.json" || name === "handlers.json" ? `${folder}/${name}` : name, text }]);
+}
+
+const flash = makeKeyboard(at("keyboard"), press);
+const palette = makePalette({
+  list: (query) => told(query ? `palette ${query}` : "palette",
+    () => `${counted(engine.entries.length, "command")} found.`),
+  choose: (number) => told(`choose ${number}`, (record) => {
+    const what = `${record.command || "no command"}, ${resultOf(record)}`;
+    return record.refusal ? `${resultOf(record)}.` : `${what}. ${spokenText(engine.text)}`;
+  }),
+});
+const scopes = makeScopes({
+  focus: (scope) => told(`focus ${scope}`, (record) => `Focus ${scope}: ${resultOf(record)}.`),
+  set: (scope, key, value) => told(`set ${scope} ${key} ${value}`,
+    (record) => `${key} set in ${scope}: ${resultOf(record)}.`),
+  wrong: (text) => say(text, true),
+});
+
+function listenToKeys() {
+  const text = at("text");
+  text.addEventListener("keydown", (event) => {
+    if (event.shiftKey && event.key === "Escape") {
+      event.preventDefault();
+      at("key").focus();
+      return;
+    }
+    const key = keystroke(event);
+    if (key === null) return;
+    event.preventDefault();
+    press(key);
+  });
+  // Only the engine changes the text. The text of an input method is no key press, and is removed again.
+  text.addEventListener("beforeinput", (event) => event.preventDefault());
+  text.addEventListener("compositionstart", () => { isComposing = true; });
+  text.addEventListener("compositionend", (event) => {
+    isComposing = false;
+    showText();
+    if (event.data) say(`“${event.data}” is no key press. Turn the input method off to press keys.`, true);
+  });
+  for (const name of ["focus", "input", "keyup"]) text.addEventListener(name, showText);
+  addEventListener("mouseup", showText);
+  at("press").addEventListener("submit", (event) => {
+    event.preventDefault();
+    press(at("key").value.trim());
+  });
+}
+
+function listenToFiles() {
+  at("file").onchange = showSource;
+  at("source").addEventListener("input", () => {
+    store.change(files, at("file").value, at("source").value);
+    clearTimeout(late);
+    late = setTimeout(() => tried(() => load()), PAUSE);
+  });
+  at("platform").onchange = () => tried(() => {
+    files.platform = at("platform").value;
+    load();
+  });
+  at("add").onclick = () => tried(() => {
+    const name = `extension-${files.extensions.length + 1}`;
+    const contributes = { keybindings: [] };
+    const manifest = `${JSON.stringify({ publisher: "me", name, contributes }, null, 2)}\n`;
+    take([{ path: `${name}/package.json`, text: manifest }]);
+    showFile(`manifest ${files.extensions.length - 1}`);
+  });
+  at("remove").onclick = () => tried(() => {
+    const [name, number] = at("file").value.split(" ");
+    if (name === "manifest") files.extensions.splice(Number(number), 1);
+    else store.change(files, at("file").value, "");
+    showFiles();
+    load();
+    say("The file is removed.");
+  });
+  for (const pick of [at("pick"), at("pick-folder")]) {
+    pick.addEventListener("change", () => {
+      const given = [...pick.files].map((file) => ({ file, path: file.webkitRelativePath || file.name }));
+      pick.value = "";
+      tried(() => takeFiles(given));
+    });
+  }
+  addEventListener("dragover", (event) => {
+    event.preventDefault();
+    document.body.classList.add("dropping");
+  });
+  addEventListener("dragleave", () => document.body.classList.remove("dropping"));
+  addEventListener("drop", (event) => {
+    event.preventDefault();
+    document.body.classList.remove("dropping");
+    const entries = [...event.dataTransfer.items].map((it) => it.webkitGetAsEntry()).filter(Boolean);
+    tried(() => takeFiles(Promise.all(entries.map(store.filesIn)).then((found) => found.flat())));
+  });
+  addEventListener("paste", (event) => {
+    if (event.target.closest?.("input, textarea")) return;
+    event.preventDefault();
+    tried(() => takePasted(event.clipboardData.getData("text/plain")));
+  });
+}
+
+function listenToState() {
+  at("share").onclick = () => tried(async () => {
+    history.replaceState(null, "", `#${await store.toLink({ files, lines })}`);
+    const length = location.href.length;
+    // (a page that isn't secure has no clipboard)
+    const isCopied = await navigator.clipboard?.writeText(location.href).then(() => true, () => false);
+    say(`The link is ${isCopied ? "copied" : "in the address bar"}: ${counted(length, "character")}.`);
+  });
+  at("over").onclick = () => tried(() => {
+    store.forget();
+    history.replaceState(null, "", location.pathname + location.search);
+    files = store.firstFiles();
+    showFiles();
+    load();
+    say("Started over.");
+  });
+  addEventListener("hashchange", () => tried(start));
+}
+
+// Shows the state of the link, or the one that this browser keeps.
+async function start() {
+  const given = location.hash.slice(1);
+  let state = null;
+  if (given) {
+    state = await store.fromLink(given).catch(() => {
+      throw new Error("The link is broken: its end may be missing.");
+    });
+  }
+  state ??= store.kept();
+  if (state) files = state.files;
+  showFiles();
+  load(state?.lines ?? []);
+}
+
+listenToKeys();
+listenToFiles();
+listenToState();
+try {
+  pafjirn = await instantiate();
+  await tried(start);
+  if (!engine && at("problems").children.length === 0) load();
+  document.documentElement.dataset.ready = "";
+} catch (wrong) {
+  say(`The engine can't start: ${wrong.message}`, true);
+}

@@ -1,0 +1,97 @@
+// Finds where the rules of a file stand: reads JSON with comments, with the place of each value. A text with
+// syntax errors gives any value: the engine has checked the text before.
+
+const TOKEN = /([\s\ufeff]+|\/\/[^\n]*|\/\*[^]*?\*\/)|"(?:[^"\\]|\\.)*"|[{}[\]:,]|[^\s{}[\]:,"/]+/gs;
+// The engine refuses what nests deeper.
+const DEEPEST = 127;
+
+/** The value of a text. Each value has the places of its first character and behind its last one; `items` is
+ * its list, `members` a map of its members, or `token` the text of anything else. */
+export function read(text) {
+  const tokens = [...text.matchAll(TOKEN)].filter((it) => it[1] === undefined);
+  let at = 0;
+  const is = (mark) => {
+    const found = tokens[at]?.[0] === mark;
+    if (found) at++;
+    return found;
+  };
+  const end = () => (at > 0 ? tokens[at - 1].index + tokens[at - 1][0].length : 0);
+  const value = (depth) => {
+    const token = tokens[at++];
+    const made = { begin: token?.index ?? text.length, token: token?.[0] ?? "" };
+    if (depth > DEEPEST) at = tokens.length;
+    else if (made.token === "[") made.items = items(depth);
+    else if (made.token === "{") made.members = members(depth);
+    made.end = end();
+    return made;
+  };
+  const items = (depth) => {
+    const made = [];
+    while (!is("]") && at < tokens.length) {
+      made.push(value(depth + 1));
+      is(",");
+    }
+    return made;
+  };
+  const members = (depth) => {
+    const made = new Map();
+    while (!is("}") && at < tokens.length) {
+      const name = String(decoded(tokens[at++][0]));
+      is(":");
+      made.set(name, value(depth + 1));
+      is(",");
+    }
+    return made;
+  };
+  return value(0);
+}
+
+/** The value without places, or null where it is missing or has a syntax error. */
+export function plain(value) {
+  if (value?.items) return value.items.map(plain);
+  if (value?.members) return Object.fromEntries([...value.members].map(([name, it]) => [name, plain(it)]));
+  return value ? decoded(value.token) : null;
+}
+
+/** The value as JSON without spaces. Numbers stay as they are written, so that none is rounded. */
+export function json(value) {
+  const member = ([name, it]) => `${JSON.stringify(name)}:${json(it)}`;
+  if (value?.items) return `[${value.items.map(json).join(",")}]`;
+  if (value?.members) return `{${[...value.members].map(member).join(",")}}`;
+  return value?.token.startsWith('"') ? JSON.stringify(decoded(value.token)) : value?.token || "null";
+}
+
+function decoded(token) {
+  // (a text may have control characters)
+  const escaped = (it) => `\\u00${it.charCodeAt(0).toString(16).padStart(2, "0")}`;
+  try {
+    return JSON.parse(token.replace(/[\u0000-\u001f]/g, escaped));
+  } catch {
+    return null;
+  }
+}
+
+/** The entries of a part of a file (`keybindings`, `commands`, `palette`): of a manifest those below
+ * `contributes`, and otherwise the rules of the whole file. In a manifest a single object counts as a list.
+ * */
+export function entriesOf(text, part, isManifest) {
+  const names = part === "palette" ? ["menus", "commandPalette"] : [part];
+  let found = read(text);
+  if (isManifest) for (const name of ["contributes", ...names]) found = found?.members?.get(name);
+  if (found?.members) return [found];
+  return found?.items ?? [];
+}
+
+/** The number of the line of a place in a text, from 1. */
+export function lineAt(text, place) {
+  let line = 1;
+  for (let at = text.indexOf("\n"); at >= 0 && at < place; at = text.indexOf("\n", at + 1)) line++;
+  return line;
+}
+
+/** The identifier of an extension: publisher.name. */
+export function identifier(manifest) {
+  const { members } = read(manifest);
+  const [publisher, name] = ["publisher", "name"].map((it) => plain(members?.get(it)));
+  return `${publisher || "undefined_publisher"}.${name}`;
+}

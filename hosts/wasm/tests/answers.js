@@ -1,0 +1,234 @@
+// Checks what the package answers and throws. It prints each difference from what pafjirn.d.ts says.
+
+import { readFileSync } from "node:fs";
+import { compiled, FOLDER, is, pafjirn as all, report, thrown } from "./shared.js";
+
+const { Engine, LoadRefused, Pafjirn, instantiate, keystroke } = all;
+const LAYOUT = '{"scopes": [{"name": "window"}, {"name": "editor", "parent": "window"}]}';
+const RULES = `[
+  { "key": "x", "command": "type", "args": "t", "when": "truth" },
+  { "key": "x", "command": "type", "args": "n", "when": "number == -9223372036854775808" },
+  { "key": "x", "command": "type", "args": "l", "when": "name in list" },
+  { "key": "y", "command": "my.own", "args": { "a": [1, null, 9007199254740993] } },
+  { "key": "z z", "command": "my.own" },
+  { "key": "r", "command": "runCommands",
+    "args": { "commands": ["cursorLeft", { "command": "my.own", "args": 7 }, "type"] } },
+  { "key": "h", "command": "p.hi" },
+  { "key": "q", "command": "type", "args": { "text": 5 } },
+]`;
+const COMMANDS = [{ command: "buffer.top", title: "Größe" }];
+const MANIFEST = JSON.stringify({ name: "e", publisher: "p", contributes: { commands: COMMANDS } });
+const EXTENSIONS = [{ manifest: MANIFEST }];
+
+function presses(pafjirn) {
+  const engine = pafjirn.load({ layout: LAYOUT, user: RULES, extensions: EXTENSIONS, platform: "mac" });
+  is("warnings", engine.warnings, []);
+  is("a command of the host", engine.press("y").ending, "not found");
+  is("its rule", engine.press("y").rule, { source: "user", place: 3 });
+  is("its arguments", engine.press("y").argumentsJson, '{"a":[1,null,9007199254740993]}');
+  is("bad arguments", engine.press("q").ending, "bad arguments");
+  is("no arguments", [engine.press("h").arguments, engine.press("h").argumentsJson], [undefined, null]);
+  is("no rule", engine.press("ctrl+j"), {
+    ending: "done", kind: "nothing", chord: "ctrl+j", command: "", argumentsJson: null, rule: null,
+    refusal: null, ranBy: null, trace: "key ctrl+j: unbound\n",
+  });
+  is("no key", thrown(() => engine.press("ctrl+")), ["NoKey", 10]);
+  is("the trace behind it", engine.trace, "key ctrl+j: unbound\n");
+  is("a chord", [engine.press("z").kind, engine.press("z").chord], ["chording", "z z"]);
+  is("a quiet press", engine.pressQuietly("y"), "not found");
+  is("its trace", engine.trace, "key y: start my.own\nnot found my.own\n");
+  is("an event", engine.press({ key: "y", code: "KeyY" }).command, "my.own");
+  is("Shift alone", engine.press({ key: "Shift", code: "ShiftLeft", shiftKey: true }), null);
+  is("an entry", engine.palette("grö"), [{ number: 1, label: "Größe", command: "buffer.top" }]);
+  is("no entry", engine.palette("no such"), []);
+  is("all entries", engine.palette().length, 1);
+  is("a choice", engine.choose(1).command, "buffer.top");
+  is("no entries behind it", engine.entries, []);
+  is("a choice of nothing", engine.choose(1).refusal, { number: 96, name: "NoEntry" });
+  is("its ending", engine.choose(1).ending, "refused");
+  is("a choice below", thrown(() => engine.choose(-1)), "RangeError");
+  is("a choice of no number", thrown(() => engine.choose("1")), "RangeError");
+  is("bytes of a key", engine.line(new TextEncoder().encode("key y")).command, "my.own");
+  is("an unread line", engine.line("nothing").trace, "unread line 2\n");
+  is("no text", thrown(() => engine.press(5)), "TypeError");
+  engine.dispose();
+  engine.dispose();
+  is("an engine that is disposed of", thrown(() => engine.press("x")), ["Unknown", 2]);
+  is("its text", thrown(() => engine.text), ["Unknown", 2]);
+}
+
+function context(pafjirn) {
+  const engine = pafjirn.load({ layout: LAYOUT, user: RULES });
+  is("a truth", engine.setContext("window", "truth", true).ending, "done");
+  is("its rule", engine.press("x").arguments, "t");
+  is("the text", engine.text, { before: "t", after: "" });
+  is("false", engine.setContext("window", "truth", false).ending, "done");
+  is("no rule", engine.press("x").kind, "nothing");
+  is("the least number", engine.setContext("window", "number", -(2n ** 63n)).ending, "done");
+  is("its rule", engine.press("x").arguments, "n");
+  is("a number below", thrown(() => engine.setContext("window", "number", -(2n ** 63n) - 1n)), "RangeError");
+  is("a fraction", thrown(() => engine.setContext("window", "number", 1.5)), "TypeError");
+  is("a text", engine.setContext("window", "name", "b").ending, "done");
+  is("a list", engine.setContext("window", "list", ["a", "b"]).ending, "done");
+  is("its rule", engine.press("x").arguments, "l");
+  is("an object", engine.setContext("window", "list", { b: undefined }).ending, "done");
+  is("its rule", engine.press("x").arguments, "l");
+  is("nothing", thrown(() => engine.setContext("window", "list", null)), "TypeError");
+  is("no such scope", engine.setContext("nowhere", "k", true).refusal, { number: 20, name: "UnknownScope" });
+  is("no such scope, by a list", engine.setContext("nowhere", "k", []).ending, "refused");
+  is("no word", thrown(() => engine.setContext("a b", "k", [])), "TypeError");
+  is("a key with a space", engine.setContext("window", "a b", 1).ending, "done");
+  is("an unset key", engine.unsetContext("window", "list").ending, "done");
+  is("its rule", engine.press("x").arguments, "n");
+  is("a long text", engine.setContext("window", "k", "ä".repeat(100_000)).ending, "done");
+  is("bytes that aren't UTF-8", thrown(() => engine.focus(new Uint8Array([255]))), ["NoText", 6]);
+  engine.press("z");
+  is("a focus", engine.focus("editor").trace, "left z\nfocus editor\n");
+  is("no such focus", engine.focus("nowhere").refusal.number, 20);
+  engine.dispose();
+}
+
+function changes(pafjirn) {
+  const engine = pafjirn.load({ user: RULES, extensions: EXTENSIONS });
+  is("disabled", engine.disable("P.E").trace, "disabled p.e\n");
+  is("enabled", engine.enable("p.e").trace, "enabled p.e\n");
+  is("unknown", engine.enable("no.ne").refusal, { number: 92, name: "UnknownExtension" });
+  is("no word", thrown(() => engine.disable("a b")), "TypeError");
+  const rule = '{ "key": "x", /* the "end */ "command": "my.own", "args": "// no" }';
+  const comments = `\ufeff[ // one "rule"\n ${rule} ]`;
+  is("reloaded", engine.reload(comments).trace, "reloaded\n");
+  is("its rule", [engine.press("x").command, engine.press("x").arguments], ["my.own", "// no"]);
+  is("reloaded from bytes", engine.reload(new TextEncoder().encode("[]\n")).ending, "done");
+  is("no rule", engine.press("x").kind, "nothing");
+  is("no JSON", engine.reload("[").refusal, { number: 4, name: "Syntax" });
+  is("an open text", engine.reload('["a\nb"]').refusal, { number: 3, name: "OpenString" });
+  is("an open comment", engine.reload("[] /* a\n").refusal, { number: 2, name: "OpenComment" });
+  is("no UTF-8", thrown(() => engine.reload(new Uint8Array([0x5b, 255, 0x5d]))), ["NoText", 6]);
+  is("an empty file", engine.reload("").refusal, null);
+  is("an update", engine.update("p.e", '{ "version": 1,\n "handlers": [] }').trace, "updated p.e\n");
+  is("an update that is none", engine.update("p.e", "").refusal, { number: 41, name: "WrongShape" });
+  engine.dispose();
+}
+
+function commands(pafjirn) {
+  const engine = pafjirn.load({ user: RULES }), seen = [];
+  const undo = engine.command("my.own", (args, record) => seen.push([args, record.chord]));
+  const ran = engine.press("y");
+  is("a command of the host", [ran.ending, ran.ranBy], ["done", "my.own"]);
+  is("its arguments", seen.pop(), [{ a: [1, null, 9007199254740992] }, "y"]);
+  engine.press("r");
+  is("its step", seen.pop(), [7, "r"]);
+  engine.press("z");
+  engine.press("z");
+  is("without arguments", seen.pop()[0], undefined);
+  undo();
+  is("taken away", [engine.press("y").ending, seen.length], ["not found", 0]);
+  undo();
+  engine.setContext("window", "truth", true);
+  const again = engine.command("type", (text) => seen.push(text));
+  engine.press("x");
+  is("a native command", [seen.pop(), engine.text.before], ["t", ""]);
+  again();
+  engine.press("x");
+  is("given back", engine.text.before, "t");
+  engine.command("type", (text) => seen.push(text))();
+  engine.press("x");
+  is("given back again", engine.text.before, "tt");
+  engine.command("my.own", () => { throw new RangeError("my own"); });
+  is("what the host throws", thrown(() => engine.press("y")), "RangeError");
+  is("the engine behind it", engine.press("x").ending, "done");
+  engine.dispose();
+}
+
+function loads(pafjirn) {
+  const refused = (files) => {
+    try {
+      pafjirn.load(files).dispose();
+      return null;
+    } catch (error) {
+      return error instanceof LoadRefused && [error.name, error.number, error.fault];
+    }
+  };
+  const fault = (file, number, name) => ["LoadRefused", 3, { file, number, name }];
+  is("a layout", refused({ layout: '{"scopes": []}' }), fault("layout", 21, "BadLayout"));
+  is("a layout without scopes", refused({ layout: "{}" }), fault("layout", 40, "MissingMember"));
+  is("bytes", refused({ user: new Uint8Array([255]) }), fault("user", 1, "NotUtf8"));
+  is("a buffer", refused({ user: new Uint8Array([255]).buffer }), fault("user", 1, "NotUtf8"));
+  const manifests = [{ manifest: MANIFEST }, { manifest: "{}" }];
+  is("a manifest", refused({ extensions: manifests }), fault("ext 1 package.json", 40, "MissingMember"));
+  is("handlers", refused({ extensions: [{ manifest: MANIFEST, handlers: "" }] }),
+    fault("ext 0 handlers.json", 41, "WrongShape"));
+  is("no platform", thrown(() => pafjirn.load({ platform: "beos" })), "TypeError");
+  is("no file", thrown(() => pafjirn.load({ users: "" })), "TypeError");
+  is("no text", thrown(() => pafjirn.load({ user: 5 })), "TypeError");
+  is("no files", pafjirn.load().warnings, []);
+  is("a byte order mark", pafjirn.load({ user: "\ufeff[]" }).warnings, []);
+  is("warnings", pafjirn.load({ user: '[5, {"key": "a", "command": "x", "when": "("}]' }).warnings,
+    ["warning 41 user keybindings 0", "warning 31 user keybindings 1"]);
+  const keys = [{ key: "a", mac: "b", command: "c" }], contributes = { keybindings: keys };
+  const extensions = [{ manifest: JSON.stringify({ name: "e", publisher: "p", contributes }) }];
+  const commandOf = (platform, key) => pafjirn.load({ extensions, platform }).press(key).command;
+  const pressed = (platform) => ["a", "b"].map((key) => commandOf(platform, key));
+  is("the keys of Linux", pressed(undefined), ["c", ""]);
+  is("the keys of a Mac", pressed("mac"), ["", "c"]);
+}
+
+function keys() {
+  const modifiers = ["ctrl", "shift", "alt", "meta"];
+  const pressed = (key, code, ...held) => keystroke({
+    key, code, ...Object.fromEntries(modifiers.map((it) => [`${it}Key`, held.includes(it)])),
+  });
+  is("a letter", pressed("s", "KeyS", "ctrl"), "ctrl+s");
+  is("all modifiers", pressed("P", "KeyP", "ctrl", "shift", "alt", "meta"), "ctrl+shift+alt+meta+p");
+  is("Shift alone", pressed("Shift", "ShiftLeft", "shift"), null);
+  is("Cyrillic", pressed("ы", "KeyS", "ctrl"), "ctrl+s");
+  is("an upper sign", pressed("!", "Digit1", "shift"), "shift+1");
+  is("numbers", [pressed("1", "Numpad1"), pressed("End", "Numpad1")], ["numpad1", "end"]);
+  is("the number pad's plus", pressed("+", "NumpadAdd"), "numpad_add");
+  is("a dead key", [pressed("Dead", "BracketLeft"), pressed("Dead", "IntlRo")], ["[", null]);
+  is("an input method", keystroke({ key: "a", code: "KeyA", isComposing: true }), null);
+}
+
+async function starts() {
+  const bytes = readFileSync(new URL("pafjirn.wasm", FOLDER)), url = new URL("pafjirn.wasm", FOLDER);
+  const works = async (source) => (await instantiate(source)).load({ user: RULES }).press("y").command;
+  for (const [name, source] of Object.entries({ bytes, url, path: url.href, compiled: compiled() })) {
+    is(`from ${name}`, await works(source), "my.own");
+  }
+  is("from a promise", await works(Promise.resolve(bytes)), "my.own");
+  const answer = (type) => new Response(bytes, { headers: { "Content-Type": type } });
+  is("from a response", await works(answer("application/wasm")), "my.own");
+  is("from a response of another type", await works(answer("text/plain")), "my.own");
+  const lacking = await instantiate(new Response("", { status: 404 })).catch((it) => it.name);
+  is("from a response that has none", lacking, "Error");
+  const engine = await Engine.load({ user: RULES });
+  is("by Engine.load", engine.press("y").command, "my.own");
+  const refused = await Engine.load({ user: "{" }).catch((it) => [it.name, it.fault.number]);
+  is("by Engine.load, refused", refused, ["LoadRefused", 4]);
+  if (Symbol.dispose) {
+    engine[Symbol.dispose]();
+    is("by Symbol.dispose", thrown(() => engine.press("y")), ["Unknown", 2]);
+  }
+  is("by new", [thrown(() => new Engine()), thrown(() => new Pafjirn())], ["TypeError", "TypeError"]);
+}
+
+async function memory(pafjirn) {
+  const before = pafjirn.bytesInUse;
+  for (let number = 0; number < 100; number++) pafjirn.load({ user: RULES }).dispose();
+  is("memory behind engines that were disposed of", pafjirn.bytesInUse, before);
+  for (let number = 0; number < 100; number++) thrown(() => pafjirn.load({ user: "{" }));
+  is("memory behind loads that were refused", pafjirn.bytesInUse, before);
+  for (let number = 0; number < 100; number++) pafjirn.load({ user: RULES });
+  for (let tries = 0; tries < 50 && pafjirn.bytesInUse > before; tries++) {
+    globalThis.gc();
+    await new Promise((done) => setTimeout(done, 20));
+  }
+  is("memory behind engines that were let go", pafjirn.bytesInUse, before);
+}
+
+keys();
+const pafjirn = await instantiate();
+for (const test of [presses, context, changes, commands, loads]) test(pafjirn);
+await starts();
+await memory(await instantiate());
+report();

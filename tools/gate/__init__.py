@@ -1,1 +1,0 @@
-"""What the tools of this repository's gate share."""

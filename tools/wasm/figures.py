@@ -1,0 +1,20 @@
+"""The sizes and times of the module, for tools/check-wasm --figures."""
+
+import gzip
+import os
+
+from wasm.in_node import node
+
+
+def figures(prefix):
+    """Prints the size of the module, and times in Node."""
+    with open(os.path.join(prefix, "pafjirn.wasm"), "rb") as file:
+        module = file.read()
+    print("| what | figure |")
+    print("|---|---|")
+    print(f"| `pafjirn.wasm` | {len(module):,} bytes |")
+    print(f"| the same with gzip | {len(gzip.compress(module, 9)):,} bytes |", flush=True)
+    ran = node(prefix, "figures.js", "examples")
+    if ran[0]:
+        raise RuntimeError((ran[1] + ran[2]).decode(errors="replace"))
+    print(ran[1].decode(), end="")

@@ -1,0 +1,1 @@
+"""The modules of tools/wrong-bodies (README.md)."""
