@@ -1,4 +1,4 @@
--- The faults: the number of each, and its name.
+-- The faults: the number of each, its name and its meaning.
 use Rattle.std.specs.Prelude.{ℕ, Bool, true, false, List, ◌++◌, codes, decimal}
 use Rattle.kb_base.specs.declared.fault.FaultKind.{FaultKind}
 use Rattle.kb_base.specs.declared.fault.FaultKind.TheVariants as kind
@@ -126,6 +126,91 @@ fault_name kind.TooLong = codes "TooLong"
 fault_name kind.ReadFailed = codes "ReadFailed"
 fault_name kind.WriteFailed = codes "WriteFailed"
 fault_name kind.Trapped = codes "Trapped"
+
+-- what it means, in one sentence without its period
+unfoldable pub fault_meaning : FaultKind → List ℕ
+fault_meaning kind.NotUtf8 = codes "the bytes of a file aren't UTF-8"
+fault_meaning kind.OpenComment = codes "a block comment has no end"
+fault_meaning kind.OpenString = codes "a string has no closing quote"
+fault_meaning kind.Syntax = codes "the text isn't JSON, or nests deeper than 127 levels"
+fault_meaning kind.NoMemory = codes "memory was refused"
+fault_meaning kind.UnknownKey = codes "the text after the modifiers names no key"
+fault_meaning kind.TooManySteps = codes "a chord has more than four keystrokes"
+fault_meaning kind.EmptyKey = codes "nothing follows the modifiers, or the text has only spaces"
+fault_meaning kind.UnknownScope = codes "no scope has this name"
+fault_meaning kind.BadLayout = codes "the scopes of a layout aren't a tree, or its focus is none of them"
+fault_meaning kind.TooManyKeys = codes "more than 10,000 context keys in all scopes"
+fault_meaning kind.BadToken =
+    codes "a clause has a part that is no token: a lone `=`, `&` or `|`, or a quote or a pattern "
+    ++ codes "without its end"
+fault_meaning kind.Unexpected = codes "a clause has a token, or its end, where the grammar doesn't allow it"
+fault_meaning kind.ClauseTooDeep = codes "more than 64 `(` and `!` enclose a part of a clause"
+fault_meaning kind.BadNumber = codes "no whole number of 64 signed bits follows `<`, `<=`, `>` or `>=`"
+fault_meaning kind.UnreadPattern = codes "a pattern of a clause isn't supported by `regex`, and never matches"
+fault_meaning kind.MissingMember = codes "a required member is absent"
+fault_meaning kind.WrongShape = codes "a value has the wrong kind"
+fault_meaning kind.BadHex = codes "the code of a handler isn't hexadecimal"
+fault_meaning kind.DuplicateHandler = codes "two handlers of a file have the same command"
+fault_meaning kind.TooLarge = codes "a limit is exceeded, of extensions or in a `handlers.json`"
+fault_meaning kind.BadLength = codes "the bytes of code aren't a whole number of three-byte instructions"
+fault_meaning kind.BadOpcode = codes "no instruction has this opcode"
+fault_meaning kind.BadOperand = codes "the instruction doesn't allow this operand"
+fault_meaning kind.BadBlock =
+    codes "an END closes no block, a ninth block is opened, a block holds a RETURN, or a block is "
+    ++ codes "never closed"
+fault_meaning kind.MissingOperand = codes "an instruction takes more values than are on the stack"
+fault_meaning kind.WrongOperand = codes "a value has the wrong kind, or no text or parameter has this index"
+fault_meaning kind.UnknownCommand =
+    codes "a call has no such index, or names a command that may not be called"
+fault_meaning kind.WrongArgument = codes "an argument of a call has another kind than the parameter"
+fault_meaning kind.BadJump = codes "a jump doesn't lead to a later place of the code in its own block"
+fault_meaning kind.FallsOff = codes "the code ends without a RETURN, or is empty"
+fault_meaning kind.ShapesDiffer =
+    codes "two ways to a place, or the end and the beginning of a block's turn, leave different "
+    ++ codes "kinds, or numbers, of values"
+fault_meaning kind.TooHigh = codes "more than 64 values would be on the stack"
+fault_meaning kind.OverDepth = codes "a called command's depth isn't below the handler's"
+fault_meaning kind.OverBudget = codes "a path costs more than the handler's budget"
+fault_meaning kind.AlreadyExists =
+    codes "a closure is registered for the native command, or a handler's name is taken"
+fault_meaning kind.Exhausted = codes "1,000,000 registrations were made in this session"
+fault_meaning kind.StaleTicket = codes "no registered closure has this ticket"
+fault_meaning kind.InUse =
+    codes "a live handler calls this native command (the line adds the first one's command), or a "
+    ++ codes "live verified handler of another extension calls a handler of the code"
+fault_meaning kind.CalleeNotLive =
+    codes "a command called by verified code isn't live as it was declared; no load gives it. Of an "
+    ++ codes "extension that is to be enabled: no closure is registered for a native command that its "
+    ++ codes "verified code calls (the line adds the first one's name)"
+fault_meaning kind.TrapMissingOperand = codes "trap: an instruction or call has too few values"
+fault_meaning kind.TrapUnknownCommand =
+    codes "trap: a call has no such index, or no live command has the name"
+fault_meaning kind.TrapWrongArgument = codes "trap: a value has the wrong kind"
+fault_meaning kind.OutOfBudget = codes "trap: the allowance doesn't cover the instruction or the call"
+fault_meaning kind.CallTooDeep = codes "trap: the called command's depth isn't below the caller's"
+fault_meaning kind.BadCode =
+    codes "trap: a place, index or jump that isn't valid, such as a jump into another block, or a "
+    ++ codes "65th value on the stack"
+fault_meaning kind.MissingDependency = codes "an extension depends on one that isn't loaded before it"
+fault_meaning kind.DuplicateExtension = codes "an extension has the identifier of an earlier one"
+fault_meaning kind.UnknownExtension = codes "no extension has this identifier"
+fault_meaning kind.NeedsDependency =
+    codes "an extension can't be enabled, since one that it depends on isn't enabled (the line adds "
+    ++ codes "the first one's identifier)"
+fault_meaning kind.NeededBy =
+    codes "an extension can't be disabled, since an enabled one depends on it (the line adds the "
+    ++ codes "first one's identifier)"
+fault_meaning kind.SignatureChanged =
+    codes "the new code of an extension doesn't declare the same commands as its code before, with "
+    ++ codes "the same parameters, budgets and depths"
+fault_meaning kind.NoEntry =
+    codes "the last palette has no entry with this number, or no palette was listed since the last choice"
+fault_meaning kind.Stopped = codes "the session was stopped before, by refused memory or a trap"
+fault_meaning kind.NoClosure = codes "the host has no spare closure for this native command"
+fault_meaning kind.TooLong = codes "the script has more than 16,777,216 bytes"
+fault_meaning kind.ReadFailed = codes "reading the script failed"
+fault_meaning kind.WriteFailed = codes "writing the trace failed"
+fault_meaning kind.Trapped = codes "a handler of a raw session trapped"
 
 -- the words that lines print: 22 TooManyKeys
 abbrev pub fault_words : FaultKind → List ℕ

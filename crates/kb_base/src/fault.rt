@@ -1,6 +1,6 @@
 //! The faults: each has a number, a name and a meaning. `docs/FAULTS.md` is printed from this table.
 ghost use Rattle.std.specs.Prelude.{◌≡◌};
-ghost use Rattle.kb_base.specs.Fault.{fault_name, fault_number, is_unread_pattern};
+ghost use Rattle.kb_base.specs.Fault.{fault_meaning, fault_name, fault_number, is_unread_pattern};
 
 use std::fmt;
 
@@ -216,7 +216,10 @@ impl FaultKind {
     }
 
     /// What it means, in one sentence without its period.
-    pub fn meaning(self) -> &'static str {
+    #[tactic(auto, unfolding(crate::specs::Fault::fault_meaning))]
+    pub fn meaning(self) -> &'static str
+        ensures { result.now ≡ fault_meaning self }
+    {
         match self {
             FaultKind::NotUtf8 => "the bytes of a file aren't UTF-8",
             FaultKind::OpenComment => "a block comment has no end",

@@ -10,7 +10,7 @@ ghost use Rattle.kb_check.specs.Problems.{files_in};
 use kb_base::{Failure, NoMemory};
 use kb_core::{Args, Core, NATIVES, Native, Ran, plain};
 use kb_files::{ExtensionFiles, Inputs, LoadFault};
-use kb_registry::HostCommand;
+use kb_registry::{HostCommand, Permit};
 use kb_session::Session;
 use kb_source_files::SourceFiles;
 use std::alloc::Global;
@@ -28,7 +28,7 @@ impl HostCommand for PlainNative {
         self.native
     }
 
-    fn call(&self, core: Core, args: Args) -> Ran {
+    fn call(&self, core: Core, args: Args, _permit: Permit) -> Ran {
         plain(self.native, core, args)
     }
 }

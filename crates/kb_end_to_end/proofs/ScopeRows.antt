@@ -12,7 +12,7 @@ use Rattle.kb_jsonc.specs.Text.{plain_text}
 use Rattle.kb_jsonc.specs.Reader.{plain_value, value_of}
 use Rattle.kb_keys.specs.KeyName.{names, key_named}
 use Rattle.kb_keys.specs.Keystroke.{keystroke_of, split_of, spelling}
-use Rattle.kb_manifest.specs.Layout.{lacks_member, scope_of, record_of}
+use Rattle.kb_layout.specs.Layout.{lacks_member, scope_of, record_of}
 use Rattle.kb_rules.specs.Entry.{when_of, keystrokes_of, condition_of, args_of}
 use Rattle.kb_rules.specs.Entry.{binding_of, terms_of, element_of}
 use Rattle.kb_files.specs.RuleFile.{rules_in}

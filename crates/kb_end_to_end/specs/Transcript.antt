@@ -7,10 +7,11 @@ use Rattle.kb_files.specs.declared.fault.LoadFault.{LoadFault}
 use Rattle.kb_end_to_end.specs.declared.TranscriptFault.{TranscriptFault}
 use Rattle.kb_end_to_end.specs.declared.TranscriptFault.TheVariants.{Load, Script}
 use Rattle.kb_script.specs.Script.{said_of, bare}
+use Rattle.kb_script.specs.ScriptRun.{AreRightlySaid}
 use Rattle.kb_script.specs.Shelf.{Said, move, stand}
 use Rattle.kb_script.specs.declared.fault.ScriptFault.{ScriptFault}
 use Rattle.kb_script.specs.declared.fault.ScriptFault.TheVariants as script
-use Rattle.kb_bindings.specs.Load.{held_by}
+use Rattle.kb_bindings.specs.Load.{MarksAreRight, held_by}
 use Rattle.kb_files.specs.Inputs.{Files}
 use Rattle.kb_session.specs.Session.{CommandsFail, IsOf}
 use Rattle.kb_session.specs.State.{State}
@@ -18,13 +19,15 @@ use Rattle.kb_stream.specs.Fold.{Traced}
 use Rattle.kb_stream.specs.FoldWriting.{text_of}
 
 -- the text that the model defines for a script, in a session that is loaded with these files and with
--- closures for these natives, beside a shelf of closures for more natives; which patterns are unread is
--- given for the load and for each reload
+-- closures for these natives, beside a shelf of closures for more natives; the patterns of the load and of
+-- each reload are marked as `regex` does or doesn't read them
 pub record IsTranscript (files : Files) (natives shelf : List Native) (text out : List ℕ) : Type 0 where
   pub session : Traced State
   pub loaded_is : IsOf files natives session
+  pub loaded_marked : MarksAreRight files session.state.sources
   pub said : List Said
   pub tells : map bare said ≡ said_of text
+  pub marked : AreRightlySaid said
   pub out_is : out ≡ text_of move said (stand session.state shelf)
 
 -- the faults of a script over memory, in a session that was loaded for it: the session is neither stopped

@@ -2,6 +2,7 @@
 use Rattle.std.specs.Prelude.{◌≡◌, ℕ, true, false, List, [], ◌∷◌, ◌++◌, drop, length, Option, Some, None}
 use Rattle.std.specs.Prelude.{IsSome, ◌==◌, if◌then◌else◌}
 use Rattle.std.specs.Str.{is_utf8}
+use Rattle.kb_bindings.specs.Load.{MarksAreRight}
 use Rattle.kb_core.specs.Native.{natives}
 use Rattle.kb_engine.specs.Files.{no_files, platform_numbered, with_extension, with_file, with_platform}
 use Rattle.kb_engine.specs.Part.{part_numbered}
@@ -67,11 +68,13 @@ GivesExtension manifest handlers old o new = ⊥
 
 -- ---- the load
 
--- a session of the files, with all native commands and a shelf of as many
+-- a session of the files, with all native commands and a shelf of as many; its patterns are marked as `regex`
+-- does or doesn't read them
 abbrev pub Starts : EngineData → Option RunningData → List ℕ → Type 0
 Starts old None notice = ⊥
 Starts old (Some r) notice =
-    IsOf old.files natives r.session × (r.shelf ≡ natives) × (r.number ≡ 0)
+    IsOf old.files natives r.session × MarksAreRight old.files r.session.state.sources
+    × (r.shelf ≡ natives) × (r.number ≡ 0)
     × (notice ≡ warnings_text r.session.state.sources)
 
 -- a load, by its outcome

@@ -1,5 +1,5 @@
 -- What an event and a line of a script make of a session and its shelf.
-use Rattle.std.specs.Prelude.{◌≡◌, ℕ, ◌+◌, ◌-◌, ◌^◌, true, false, List, [], map, option_map, option_to_list}
+use Rattle.std.specs.Prelude.{◌≡◌, ℕ, ◌+◌, ◌-◌, ◌^◌, true, false, List, []}
 use Rattle.std.specs.Prelude.{nat_lt, if◌then◌else◌, Option}
 use Rattle.std.specs.List.Sorted.{IsPermutation}
 use Rattle.kb_base.specs.declared.note.EntryPattern.{EntryPattern}
@@ -9,7 +9,7 @@ use Rattle.kb_engine.specs.declared.outcome.Outcome.TheVariants as outcome
 use Rattle.kb_execute.specs.declared.start.Finish.{Finish}
 use Rattle.kb_execute.specs.declared.start.Finish.TheVariants as finish
 use Rattle.kb_script.specs.Script.{line_said}
-use Rattle.kb_script.specs.ScriptRun.{marked}
+use Rattle.kb_script.specs.ScriptRun.{AreRightlySaid, with_marks}
 use Rattle.kb_resolve.specs.declared.found.Found.{Found}
 use Rattle.kb_resolve.specs.declared.found.Found.TheVariants.{Nothing}
 use Rattle.kb_script.specs.Shelf as shelf
@@ -80,13 +80,15 @@ marks_of r = r.session.state.sources.user.unread
 
 -- what a line makes of a session and its shelf, by what it says
 abbrev pub after_line : List EntryPattern → Option Said → Traced Stand → Traced Stand
-after_line marks said = after_all move (option_to_list (option_map (marked marks) said))
+after_line marks said = after_all move (with_marks marks said)
 
--- a running session did what a line says, and its trace is that of this line alone
+-- a running session did what a line says, and its trace is that of this line alone; the patterns of a reload
+-- are marked as `regex` does or doesn't read them
 abbrev pub DoesSaid : Option Said → RunningData → RunningData → Type 0
 DoesSaid said old new =
     (old.session.state.stopped ≡ false) × (new.number ≡ next_number old.number)
     × (stand_of new ≡ after_line (marks_of new) said (stand_of (cleared old)))
+    × AreRightlySaid (with_marks (marks_of new) said)
 
 -- memory was refused in a line: the shelf still has all its commands, perhaps in another order
 abbrev pub HaltsInLine : RunningData → RunningData → Type 0

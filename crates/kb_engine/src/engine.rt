@@ -3,6 +3,7 @@ ghost use Rattle.std.specs.Prelude.{◌≡◌, option_map};
 ghost use Rattle.kb_core.specs.Native.{natives};
 ghost use Rattle.kb_engine.specs.Engine.{GivesExtension, GivesFile, GivesPlatform, Halts, IsEarly, LoadsBy};
 ghost use Rattle.kb_engine.specs.Engine.{Tells, TellsLine, new_engine};
+ghost use Rattle.kb_bindings.specs.Load.{MarksAreRight};
 ghost use Rattle.kb_session.specs.Session.{IsOf};
 
 use crate::files::{HostFiles, copied, is_file, platform_numbered};
@@ -158,6 +159,7 @@ impl Engine {
     fn start(&mut self, session: Session<PlainCommand>) -> Outcome
         requires early { IsEarly self.old }
         requires loaded { IsOf self.old.files natives session }
+        requires marked { MarksAreRight self.old.files session.state.sources }
         ensures { LoadsBy self.old result self.new }
     {
         match warnings_text(self.alloc, &session) {

@@ -4,7 +4,7 @@ ghost use Rattle.kb_core.specs.Native.{natives};
 
 use kb_base::NoMemory;
 use kb_core::{Args, Core, NATIVES, Native, Ran, at_budget, plain};
-use kb_registry::HostCommand;
+use kb_registry::{HostCommand, Permit};
 use std::alloc::Global;
 
 /// What a native command costs, in instructions.
@@ -32,7 +32,7 @@ impl HostCommand for PlainCommand {
         self.native
     }
 
-    fn call(&self, core: Core, args: Args) -> Ran {
+    fn call(&self, core: Core, args: Args, _permit: Permit) -> Ran {
         match self.cost {
             Cost::One => plain(self.native, core, args),
             Cost::Budget => at_budget(self.native, core, args),

@@ -13,7 +13,7 @@ use kb_base::{Failure, NoMemory};
 use kb_code::{Commands, Linked};
 use kb_context::{ContextValue, ScopeFault, UnknownScope};
 use kb_core::{Args, Core, Ran};
-use kb_registry::HostCommand;
+use kb_registry::{HostCommand, Registered};
 use kb_soundness::{start, start_coded};
 use kb_stream::Lines;
 use kb_vm::{End, Outcome};
@@ -75,13 +75,17 @@ impl HeldCore {
 
     /// Runs a host's command with arguments that fit its native command. It returns the cost, in
     /// instructions, which is at most the native command's budget. On `NoMemory` the core is unchanged.
-    pub fn run<C: HostCommand>(&mut self, command: &C, args: Args) -> Result<u32, NoMemory>
-        requires fits { Fits (C.stands_for command.now) args }
-        ensures ok { OnOk result (self.new ≡ core_after (C.stands_for command.now) args self.old) }
+    pub fn run<C: HostCommand>(
+        &mut self,
+        closure: &Registered<'_, C>,
+        args: Args,
+    ) -> Result<u32, NoMemory>
+        requires fits { Fits closure.now args }
+        ensures ok { OnOk result (self.new ≡ core_after closure.now args self.old) }
         ensures err { OnErr result (self.new ≡ self.old) }
-        ensures cost { IfOk result (λ cost. cost ≤ budget_of (C.stands_for command.now)) }
+        ensures cost { IfOk result (λ cost. cost ≤ budget_of closure.now) }
     {
-        let Ran { core, cost } = command.call(self.core.take().unwrap(), args);
+        let Ran { core, cost } = closure.run(self.core.take().unwrap(), args);
         self.core = Some(core);
         cost
     }

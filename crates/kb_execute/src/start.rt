@@ -16,7 +16,7 @@ use crate::run_commands::start_list;
 use kb_base::NoMemory;
 use kb_code::Linked;
 use kb_core::{Core, Native};
-use kb_registry::{HostCommand, Registry};
+use kb_registry::{HostCommand, Registered, Registry};
 use kb_stream::Lines;
 use kb_trace::lines;
 use kb_vm::End;
@@ -109,7 +109,7 @@ fn start_native<C: HostCommand>(
     ensures err { OnErr result (trace.new ≡ trace.old) }
 {
     match registry.closure(native) {
-        Some(closure) => run_native(alloc, command, closure, given, core, trace),
+        Some(closure) => run_native(alloc, command, &closure, given, core, trace),
         None => {
             lines::not_found_line(trace, command)?;
             Ok(Finish::NotFound)
@@ -148,14 +148,14 @@ fn start_handler<C: HostCommand>(
 fn run_native<C: HostCommand>(
     alloc: Global,
     command: &str,
-    closure: &C,
+    closure: &Registered<'_, C>,
     given: Option<&Value>,
     core: &mut HeldCore,
     trace: &mut Lines,
 ) -> Result<Finish, NoMemory>
     ensures ok { (table : Table) → let given = option_map (λ v. view v.now) given.entry in
         IfOk result (λ finish. started core.new trace.new finish ≡ behind trace.old
-        (started_as table command.now (Some (Plain (C.stands_for closure.now))) given core.old)) }
+        (started_as table command.now (Some (Plain closure.now)) given core.old)) }
     ensures err { OnErr result (trace.new ≡ trace.old) }
 {
     let Some(args) = closure.native().read_args(alloc, given)? else {

@@ -41,7 +41,7 @@ use Rattle.kb_jsonc.specs.FileFault.{kind_of}
 use Rattle.kb_jsonc.specs.declared.file_fault.FileFault.TheVariants.{WrongShape}
 use Rattle.kb_jsonc.specs.declared.fault.JsoncFault.{JsoncFault}
 use Rattle.kb_jsonc.specs.Fault as jsonc
-use Rattle.kb_manifest.specs.Context.{context_of}
+use Rattle.kb_layout.specs.Context.{context_of}
 use Rattle.kb_files.specs.Context.{context_in}
 use Rattle.kb_files.specs.PlainValue.{is_plain}
 

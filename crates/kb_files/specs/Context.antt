@@ -4,7 +4,7 @@ use Rattle.kb_base.specs.declared.refusal.Refusal.{Refusal}
 use Rattle.kb_context.specs.declared.value.ContextValue.{ContextValue}
 use Rattle.kb_base.specs.Reading.{◌>>=◌}
 use Rattle.kb_base.specs.Refusal.{refusing}
-use Rattle.kb_manifest.specs.Context.{context_of}
+use Rattle.kb_layout.specs.Context.{context_of}
 use Rattle.kb_jsonc.specs.FileFault.{kind_of}
 use Rattle.kb_files.specs.Value.{data_of}
 

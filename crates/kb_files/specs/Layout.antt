@@ -10,7 +10,7 @@ use Rattle.kb_base.specs.Refusal.{refusing}
 use Rattle.kb_context.specs.ScopeFault.{kind_of}
 use Rattle.kb_context.specs.Scopes.{RevisedScopes, initial}
 use Rattle.kb_jsonc.specs.FileFault.{kind_of as shape_kind}
-use Rattle.kb_manifest.specs.Layout.{layout_of}
+use Rattle.kb_layout.specs.Layout.{layout_of}
 use Rattle.kb_files.specs.Value.{data_of}
 
 -- the layout that is read

@@ -7,7 +7,7 @@ use crate::plain_value::{quoted_text, spelled_number};
 use crate::value::read_value;
 use kb_base::{Failure, Refusal, Text};
 use kb_context::ContextValue;
-use kb_manifest::read_context;
+use kb_layout::read_context;
 use std::alloc::Global;
 
 /// The value of a context key that a text is: JSON with comments, as in a file (`read_context` says

@@ -8,7 +8,7 @@ use crate::failures::{scope_failure, shape_failure};
 use crate::value::read_value;
 use kb_base::{Failure, NoMemory, Refusal, Seq, Text, TextMap};
 use kb_context::{Layout, LayoutScope, Scopes};
-use kb_manifest::read_layout;
+use kb_layout::read_layout;
 use std::alloc::Global;
 
 /// The scopes of a layout file: JSON with comments whose value is a layout (`read_layout` says its

@@ -72,7 +72,7 @@ fn start<C: HostCommand>(
     let Some(args) = command.native().read_args(alloc, None)? else {
         return Ok(0);
     };
-    match core.run(command, args) {
+    match core.run(&command, args) {
         Ok(cost) => Ok(u64::from(cost)),
         Err(_) => Ok(5),
     }

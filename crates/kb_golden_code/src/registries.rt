@@ -4,7 +4,7 @@ use crate::signatures::signature_text;
 use kb_base::{Failure, NoMemory};
 use kb_core::{Args, Core, Native, Ran, plain};
 use kb_golden_text::fault_text;
-use kb_registry::{HostCommand, Registry, RegistryFault, Ticket};
+use kb_registry::{HostCommand, Permit, Registry, RegistryFault, Ticket};
 use std::alloc::{AllocError, Global};
 
 /// Runs its native as the plain implementation does.
@@ -20,7 +20,7 @@ impl HostCommand for Command {
         self.native
     }
 
-    fn call(&self, core: Core, args: Args) -> Ran {
+    fn call(&self, core: Core, args: Args, _permit: Permit) -> Ran {
         plain(self.native, core, args)
     }
 }

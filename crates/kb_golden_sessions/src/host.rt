@@ -4,7 +4,7 @@ ghost use Rattle.std.specs.Result.{result_map_both};
 
 use kb_base::NoMemory;
 use kb_core::{Args, Core, NATIVES, Native, Ran, at_budget, plain};
-use kb_registry::HostCommand;
+use kb_registry::{HostCommand, Permit};
 use std::alloc::{AllocError, Global};
 
 /// What the closures of a host answer as their cost.
@@ -30,7 +30,7 @@ impl HostCommand for Command {
         self.native
     }
 
-    fn call(&self, core: Core, args: Args) -> Ran {
+    fn call(&self, core: Core, args: Args, _permit: Permit) -> Ran {
         if self.is_refused {
             return Ran {
                 core,

@@ -1,26 +1,30 @@
 //! Handler files.
-ghost use Rattle.std.specs.Prelude.{◌≡◌, ◌≤◌, IfErr, IsOk};
+ghost use Rattle.std.specs.Prelude.{◌≡◌, ◌≤◌, Some, option_map, IfErr, IfOk, IsOk};
+ghost use Rattle.std.specs.Result.{result_err};
 ghost use Rattle.serde_json.specs.View.{view, items_view, members_view};
 ghost use Rattle.kb_base.specs.declared.failure.Failure.TheVariants.{NoMemory};
-ghost use Rattle.kb_base.specs.Failure.{Gives};
+ghost use Rattle.kb_base.specs.Failure.{Gives, IsFaultAnd};
 ghost use Rattle.kb_base.specs.Reading.{seen};
+ghost use Rattle.kb_jsonc.specs.Mismatch.{GivesOr, faulted};
+ghost use Rattle.kb_jsonc.specs.Mismatch.{fault_at as shape_at};
 ghost use Rattle.kb_jsonc.specs.Parts.{listed};
+ghost use Rattle.kb_handler_file.specs.Fault.{fault_at};
 ghost use Rattle.kb_handler_file.specs.HandlerFile.{head_of, list_in, list_of, handlers_of, version_of};
 ghost use Rattle.kb_handler_file.specs.Head.{parts_of};
 ghost use Rattle.kb_handler_file.specs.HandlerFile.{each_read, code_within, handler_by, handler_in};
 ghost use Rattle.kb_handler_file.specs.HandlerFile.{handler_of};
 
 use crate::code::read_code;
-use crate::entry::{Declared, Entry, Written, read_entry, required_whole};
-use crate::fault::HandlersFault;
+use crate::entry::{Declared, Entry, Written, in_handler, read_entry, required_whole};
+use crate::fault::{HandlersExpected, HandlersFault, fault_at, shaped};
 use crate::limits::{few_texts, signature_of};
-use crate::names::repeats;
-use kb_base::{Failure, Seq, Text};
+use crate::names::first_repeated;
+use kb_base::{Failure, NoMemory, Seq, Text};
 use kb_code::{Code, Handler, Version};
 use kb_core::Signature;
-use kb_jsonc::{FileFault, elements_in, members_in, take_member};
+use kb_jsonc::{Expected, Mismatch, Place, elements_in, members_in, take_member};
 use serde_json::{Map, Value};
-use std::alloc::Global;
+use std::alloc::{AllocError, Global};
 
 /// The maximum number of handlers in a file.
 const HANDLER_LIMIT: usize = 1_000;
@@ -45,8 +49,7 @@ impl HandlerFile {
     ///
     /// 1. For the file, decided without allocating: `Shape` if the value is not an object, `version` is not
     ///    1 or 2, or `handlers` is not a list (40 for a missing member, otherwise 41). Then `TooLarge` (44)
-    /// for
-    ///    more than 1,000 handlers.
+    ///    for more than 1,000 handlers.
     /// 2. For the first invalid handler: `Shape` (41) if it is not an object; `Shape` (40, 41) for a member,
     ///    in the order above; `TooLarge` for more than 8 parameters, a budget outside 1 to 1,000,000,000, a
     ///    depth outside 1 to 64, more than 1,000 texts or more than 1,000 calls; `BadHex` (42); `Code` (50)
@@ -58,13 +61,56 @@ impl HandlerFile {
         ensures handlers { Gives (λ handlers. handlers) result (handlers_of (view value)) }
         ensures memory { IfErr result (λ failure. failure ≡ NoMemory → IsOk (head_of (view value))) }
     {
-        let Head { version, elements } = read_head(value)?;
-        let handlers = read_handlers(alloc, elements, version)?;
-        if repeats(alloc, handlers.as_slice())? {
-            return Err(Failure::Fault(HandlersFault::DuplicateHandler));
+        match read_file(alloc, value) {
+            Ok(handlers) => Ok(handlers),
+            Err(failure) => Err(failure.map_fault(fault_at)),
         }
-        Ok(handlers)
     }
+
+    /// The first place where a value isn't what a handler file has there, or `None` where `read` gives its
+    /// handlers. Its fault is that of `read`. Error: `NoMemory`.
+    pub fn mismatch(
+        alloc: Global,
+        value: Value,
+    ) -> Result<Option<Mismatch<'static, HandlersExpected>>, NoMemory>
+        ensures { IfOk result (λ found. option_map fault_at found ≡ result_err (handlers_of (view value))) }
+    {
+        match read_file(alloc, value) {
+            Ok(_handlers) => Ok(None),
+            Err(failure) => found_in(failure),
+        }
+    }
+}
+
+/// The mismatch for which a file wasn't read. Error: `NoMemory`, if that is why.
+fn found_in(
+    failure: Failure<Mismatch<'static, HandlersExpected>>,
+) -> Result<Option<Mismatch<'static, HandlersExpected>>, NoMemory>
+    ensures { IfOk result (λ found. IsFaultAnd failure.entry (λ m. found ≡ Some m)) }
+{
+    match failure {
+        Failure::Fault(found) => Ok(Some(found)),
+        Failure::NoMemory => Err(AllocError),
+    }
+}
+
+/// The handlers of a file, in order. Errors: the first mismatch, as for `HandlerFile::read`, or `NoMemory`.
+fn read_file(
+    alloc: Global,
+    value: Value,
+) -> Result<Seq<Handler>, Failure<Mismatch<'static, HandlersExpected>>>
+    ensures handlers { GivesOr fault_at (λ handlers. handlers) result (handlers_of (view value)) }
+    ensures memory { IfErr result (λ failure. failure ≡ NoMemory → IsOk (head_of (view value))) }
+{
+    let Head { version, elements } = read_head(value)?;
+    let handlers = read_handlers(alloc, elements, version)?;
+    if let Some(handler) = first_repeated(alloc, handlers.as_slice())? {
+        return Err(Failure::Fault(Mismatch {
+            place: in_handler(handler, "command"),
+            expected: HandlersExpected::NewCommand,
+        }));
+    }
+    Ok(handlers)
 }
 
 /// The version of a file, and the elements of its list of handlers.
@@ -74,36 +120,50 @@ struct Head {
     elements: Vec<Value>,
 }
 
-/// The version and the list of handlers. Errors: `Shape` and `TooLarge`.
+/// The version and the list of handlers. Errors: the mismatch, `Shape` or `AtMost`.
 #[tactic(auto, using(kb_jsonc::proofs::PartsLemmas::as_many))]
-fn read_head(value: Value) -> Result<Head, HandlersFault>
-    ensures { seen parts_of result ≡ head_of (view value) }
+fn read_head(value: Value) -> Result<Head, Mismatch<'static, HandlersExpected>>
+    ensures { seen parts_of (faulted fault_at result) ≡ head_of (view value) }
 {
-    let head = read_list(value)?;
+    let head = read_list(value).map_err(shaped)?;
     if head.elements.len() > HANDLER_LIMIT {
-        return Err(HandlersFault::TooLarge);
+        return Err(Mismatch {
+            place: Place::in_file("handlers"),
+            expected: HandlersExpected::AtMost(HANDLER_LIMIT),
+        });
     }
     Ok(head)
 }
 
-/// The version and the list of handlers, without the limit. Errors: `MissingMember` and `WrongShape`.
+/// The version and the list of handlers, without the limit. Errors: the first mismatch.
 #[tactic(auto, unfolding(crate::specs::HandlerFile::list_of))]
-fn read_list(value: Value) -> Result<Head, FileFault>
-    ensures { seen parts_of result ≡ list_of (view value) }
+fn read_list(value: Value) -> Result<Head, Mismatch<'static, Expected>>
+    ensures { seen parts_of (faulted shape_at result) ≡ list_of (view value) }
 {
-    let mut members = members_in(value).ok_or(FileFault::WrongShape)?;
+    let mut members = members_in(value).ok_or(Mismatch {
+        place: Place::in_file(""),
+        expected: Expected::Object,
+    })?;
     list_in(&mut members)
 }
 
-/// Takes the version and the list of handlers out of the members of a file. Errors: `MissingMember` and
-/// `WrongShape`.
-fn list_in(members: &mut Map<String, Value>) -> Result<Head, FileFault>
-    ensures { seen parts_of result ≡ list_in (members_view members.old.entries) }
+/// Takes the version and the list of handlers out of the members of a file. Errors: the first mismatch.
+fn list_in(members: &mut Map<String, Value>) -> Result<Head, Mismatch<'static, Expected>>
+    ensures { seen parts_of (faulted shape_at result) ≡ list_in (members_view members.old.entries) }
 {
-    let number = required_whole(take_member(members, "version"))?;
-    let version = version_of(number).ok_or(FileFault::WrongShape)?;
-    let handlers = take_member(members, "handlers").ok_or(FileFault::MissingMember)?;
-    let elements = elements_in(handlers).ok_or(FileFault::WrongShape)?;
+    let number = required_whole(take_member(members, "version"), Place::in_file("version"))?;
+    let version = version_of(number).ok_or(Mismatch {
+        place: Place::in_file("version"),
+        expected: Expected::Known,
+    })?;
+    let handlers = take_member(members, "handlers").ok_or(Mismatch {
+        place: Place::in_file("handlers"),
+        expected: Expected::Present,
+    })?;
+    let elements = elements_in(handlers).ok_or(Mismatch {
+        place: Place::in_file("handlers"),
+        expected: Expected::List,
+    })?;
     Ok(Head { version, elements })
 }
 
@@ -123,13 +183,14 @@ fn read_handlers(
     alloc: Global,
     elements: Vec<Value>,
     version: Version,
-) -> Result<Seq<Handler>, Failure<HandlersFault>>
-    ensures { Gives (λ handlers. handlers) result
+) -> Result<Seq<Handler>, Failure<Mismatch<'static, HandlersExpected>>>
+    ensures { GivesOr fault_at (λ handlers. handlers) result
         (each_read (handler_of version) (listed (items_view elements.items))) }
 {
     let mut handlers = Seq::new(alloc);
     for element in elements {
-        handlers.push(read_handler(alloc, element, version)?)?;
+        let handler = read_handler(alloc, element, version, handlers.len())?;
+        handlers.push(handler)?;
     }
     Ok(handlers)
 }
@@ -139,13 +200,12 @@ fn read_handler(
     alloc: Global,
     element: Value,
     version: Version,
-) -> Result<Handler, Failure<HandlersFault>>
-    ensures { Gives (λ handler. handler) result (handler_of version (view element)) }
+    handler: usize,
+) -> Result<Handler, Failure<Mismatch<'static, HandlersExpected>>>
+    ensures { GivesOr fault_at (λ handler. handler) result (handler_of version (view element)) }
 {
-    let entry = read_entry(alloc, element).map_err(|failure| failure.map_fault(
-        HandlersFault::Shape,
-    ))?;
-    handler_in(alloc, entry, version)
+    let entry = read_entry(alloc, element, handler).map_err(|failure| failure.map_fault(shaped))?;
+    handler_in(alloc, entry, version, handler)
 }
 
 /// Makes a handler from its members. Errors: `TooLarge`, `BadHex`, `Code` and `NoMemory`.
@@ -154,8 +214,9 @@ fn handler_in(
     alloc: Global,
     entry: Entry,
     version: Version,
-) -> Result<Handler, Failure<HandlersFault>>
-    ensures { Gives (λ handler. handler) result (handler_in version entry) }
+    handler: usize,
+) -> Result<Handler, Failure<Mismatch<'static, HandlersExpected>>>
+    ensures { GivesOr fault_at (λ handler. handler) result (handler_in version entry) }
 {
     let Entry { declared, written } = entry;
     let Declared {
@@ -164,8 +225,8 @@ fn handler_in(
         budget,
         depth,
     } = declared;
-    let signature = signature_of(params, budget, depth).ok_or(HandlersFault::TooLarge)?;
-    handler_by(alloc, command, signature, written, version)
+    let signature = signature_of(params, budget, depth, handler)?;
+    handler_by(alloc, command, signature, written, version, handler)
 }
 
 /// Makes a handler with this command and signature. Errors: as for `code_within`.
@@ -175,11 +236,12 @@ fn handler_by(
     signature: Signature,
     written: Written,
     version: Version,
-) -> Result<Handler, Failure<HandlersFault>>
+    handler: usize,
+) -> Result<Handler, Failure<Mismatch<'static, HandlersExpected>>>
     requires depth { 1 ≤ signature.depth }
-    ensures { Gives (λ handler. handler) result (handler_by version command signature written) }
+    ensures { GivesOr fault_at (λ handler. handler) result (handler_by version command signature written) }
 {
-    let code = code_within(alloc, &written, version)?;
+    let code = code_within(alloc, &written, version, handler)?;
     Ok(Handler::new(command, signature, written.texts, written.calls, code))
 }
 
@@ -189,10 +251,14 @@ fn code_within(
     alloc: Global,
     written: &Written,
     version: Version,
-) -> Result<Code, Failure<HandlersFault>>
-    ensures { Gives (λ code. code) result (code_within version written.now) }
+    handler: usize,
+) -> Result<Code, Failure<Mismatch<'static, HandlersExpected>>>
+    ensures { GivesOr fault_at (λ code. code) result (code_within version written.now) }
 {
-    few_texts(&written.texts)?;
-    few_texts(&written.calls)?;
-    read_code(alloc, written.code.as_str(), version)
+    few_texts(&written.texts, in_handler(handler, "texts"))?;
+    few_texts(&written.calls, in_handler(handler, "calls"))?;
+    let place = in_handler(handler, "code");
+    read_code(alloc, written.code.as_str(), version).map_err(|failure| failure.map_fault(
+        |expected| Mismatch { place, expected },
+    ))
 }

@@ -9,5 +9,5 @@ mod limits;
 mod names;
 mod parameters;
 
-pub use fault::HandlersFault;
+pub use fault::{HandlersExpected, HandlersFault};
 pub use handler_file::HandlerFile;

@@ -1,5 +1,5 @@
 //! Finding duplicate names.
-ghost use Rattle.std.specs.Prelude.{◌≡◌, map, IfOk};
+ghost use Rattle.std.specs.Prelude.{◌≡◌, map, is_some, IfOk};
 ghost use Rattle.kb_handler_file.specs.Names.{repeats, repeats_behind};
 
 use indexmap::IndexSet;
@@ -35,26 +35,30 @@ impl Named for Handler {
     }
 }
 
-/// Whether two items have the same name. Error: `NoMemory`.
+/// The place of the first item with the name of an item before it. Error: `NoMemory`.
 #[tactic(auto, using(crate::proofs::NamesLemmas::none_seen))]
-pub(crate) fn repeats<T: Named>(alloc: Global, items: &[T]) -> Result<bool, NoMemory>
-    ensures { IfOk result (λ found. found ≡ repeats (map T.named items.now)) }
+pub(crate) fn first_repeated<T: Named>(
+    alloc: Global,
+    items: &[T],
+) -> Result<Option<usize>, NoMemory>
+    ensures { IfOk result (λ found. is_some found ≡ repeats (map T.named items.now)) }
 {
     let mut seen: IndexSet<&str> = IndexSet::new(alloc);
     repeats_behind(&mut seen, items)
 }
 
-/// Whether an item has a name in `seen`, or two items have the same name. Error: `NoMemory`.
+/// The place of the first item with a name in `seen`, or with the name of an item before it, if the names in
+/// `seen` are all that stand before the items. Error: `NoMemory`.
 fn repeats_behind<'a, T: Named>(
     seen: &mut IndexSet<&'a str>,
     items: &'a [T],
-) -> Result<bool, NoMemory>
-    ensures { IfOk result (λ found. found ≡ repeats_behind seen.old.keys (map T.named items.now)) }
+) -> Result<Option<usize>, NoMemory>
+    ensures { IfOk result (λ found. is_some found ≡ repeats_behind seen.old.keys (map T.named items.now)) }
 {
     for item in items {
         if !seen.insert(item.name())? {
-            return Ok(true);
+            return Ok(Some(seen.len()));
         }
     }
-    Ok(false)
+    Ok(None)
 }

@@ -1,16 +1,16 @@
 //! Reading the parameters of a handler from JSON.
 ghost use Rattle.std.specs.Prelude.{◌≡◌, [], option_map};
 ghost use Rattle.serde_json.specs.View.{view, items_view, members_view};
-ghost use Rattle.kb_base.specs.Failure.{Gives};
 ghost use Rattle.kb_base.specs.Reading.{or_fault};
 ghost use Rattle.kb_jsonc.specs.declared.file_fault.FileFault.TheVariants.{WrongShape};
+ghost use Rattle.kb_jsonc.specs.Mismatch.{GivesOr, fault_at, faulted};
 ghost use Rattle.kb_jsonc.specs.Parts.{each, listed, optional};
 ghost use Rattle.kb_handler_file.specs.Parameters.{kind_named, kind_of, param_in, param_of, params_of};
 
-use crate::names::repeats;
+use crate::names::first_repeated;
 use kb_base::{Failure, Seq};
 use kb_core::{Kind, Param};
-use kb_jsonc::{FileFault, elements_in, members_in, take_member, text_in, word_in};
+use kb_jsonc::{Expected, Mismatch, Place, elements_in, members_in, take_member, text_in, word_in};
 use serde_json::{Map, Value};
 use std::alloc::Global;
 
@@ -35,60 +35,91 @@ fn read_kind(member: Option<Value>) -> Option<Kind>
     kind_named(name.as_str())
 }
 
-/// The parameter with these members: `name`, which is not empty, and `kind`. `None` if one of them is
-/// invalid.
-fn param_in(members: &mut Map<String, Value>) -> Option<Param>
-    ensures { result ≡ param_in (members_view members.old.entries) }
+/// The parameter with these members: `name`, which is not empty, and `kind`. Errors: the mismatch, `Word` or
+/// `Known`, also if a member is absent.
+fn param_in(
+    members: &mut Map<String, Value>,
+    place: Place<'static>,
+) -> Result<Param, Mismatch<'static, Expected>>
+    ensures { faulted fault_at result ≡ or_fault WrongShape (param_in (members_view members.old.entries)) }
 {
-    let name = take_member(members, "name").and_then(word_in)?;
-    let kind = read_kind(take_member(members, "kind"))?;
-    Some(Param { name, kind })
+    let name = take_member(members, "name")
+        .and_then(word_in)
+        .ok_or(Mismatch {
+            place: place.inner("name"),
+            expected: Expected::Word,
+        })?;
+    let kind = read_kind(take_member(members, "kind")).ok_or(Mismatch {
+        place: place.inner("kind"),
+        expected: Expected::Known,
+    })?;
+    Ok(Param { name, kind })
 }
 
-/// The parameter for an element, or `None` if it is not an object or a member is invalid.
+/// The parameter for an element. Errors: the mismatch, `Object` if it is not one, or that of a member.
 #[tactic(auto, unfolding(crate::specs::Parameters::param_of))]
-fn read_param(element: Value) -> Option<Param>
-    ensures { result ≡ param_of (view element) }
+fn read_param(element: Value, place: Place<'static>) -> Result<Param, Mismatch<'static, Expected>>
+    ensures { faulted fault_at result ≡ or_fault WrongShape (param_of (view element)) }
 {
-    let mut members = members_in(element)?;
-    param_in(&mut members)
+    let mut members = members_in(element).ok_or(Mismatch {
+        place,
+        expected: Expected::Object,
+    })?;
+    param_in(&mut members, place)
 }
 
-/// The parameters for the elements of a list. Errors: `WrongShape` and `NoMemory`.
-fn read_each(alloc: Global, elements: Vec<Value>) -> Result<Seq<Param>, Failure<FileFault>>
-    ensures { Gives (λ params. params) result
+/// The parameters for the elements of the list at a place. Errors: the first mismatch, and `NoMemory`.
+fn read_each(
+    alloc: Global,
+    elements: Vec<Value>,
+    place: Place<'static>,
+) -> Result<Seq<Param>, Failure<Mismatch<'static, Expected>>>
+    ensures { GivesOr fault_at (λ params. params) result
         (or_fault WrongShape (each param_of (listed (items_view elements.items)))) }
 {
     let mut params = Seq::new(alloc);
     for element in elements {
-        params.push(read_param(element).ok_or(FileFault::WrongShape)?)?;
+        let param = read_param(element, place.item(params.len()))?;
+        params.push(param)?;
     }
     Ok(params)
 }
 
-/// The parameters for a list. Errors: `WrongShape`, also if two parameters have the same name, and
-/// `NoMemory`.
-fn read_list(alloc: Global, list: Value) -> Result<Seq<Param>, Failure<FileFault>>
-    ensures { Gives (λ params. params) result (or_fault WrongShape (params_of (view list))) }
+/// The parameters for the list at a place. Errors: the first mismatch, `New` if two parameters have the same
+/// name, and `NoMemory`.
+fn read_list(
+    alloc: Global,
+    list: Value,
+    place: Place<'static>,
+) -> Result<Seq<Param>, Failure<Mismatch<'static, Expected>>>
+    ensures { GivesOr fault_at (λ params. params) result (or_fault WrongShape (params_of (view list))) }
 {
-    let elements = elements_in(list).ok_or(FileFault::WrongShape)?;
-    let params = read_each(alloc, elements)?;
-    if repeats(alloc, params.as_slice())? {
-        return Err(Failure::Fault(FileFault::WrongShape));
+    let elements = elements_in(list).ok_or(Mismatch {
+        place,
+        expected: Expected::List,
+    })?;
+    let params = read_each(alloc, elements, place)?;
+    match first_repeated(alloc, params.as_slice())? {
+        Some(param) => Err(Failure::Fault(Mismatch {
+            place: place.item(param).inner("name"),
+            expected: Expected::New,
+        })),
+        None => Ok(params),
     }
-    Ok(params)
 }
 
-/// The parameters of a handler; none if the member is absent. Errors: `WrongShape` and `NoMemory`.
+/// The parameters of a handler at a place; none if the member is absent. Errors: the first mismatch, and
+/// `NoMemory`.
 pub(crate) fn read_params(
     alloc: Global,
     member: Option<Value>,
-) -> Result<Seq<Param>, Failure<FileFault>>
-    ensures { Gives (λ params. params) result
+    place: Place<'static>,
+) -> Result<Seq<Param>, Failure<Mismatch<'static, Expected>>>
+    ensures { GivesOr fault_at (λ params. params) result
         (or_fault WrongShape (optional [] params_of (option_map view member))) }
 {
     match member {
-        Some(list) => read_list(alloc, list),
+        Some(list) => read_list(alloc, list, place),
         None => Ok(Seq::new(alloc)),
     }
 }

@@ -18,7 +18,7 @@ pub use kb_trace::{Answer, Event};
 
 // Native commands: the closures of a host, and what they run on.
 pub use kb_core::{Arg, Args, Buffer, Core, NATIVES, Native, Ran, Signature, at_budget, plain};
-pub use kb_registry::{HostCommand, NativeCommand, Run, Ticket};
+pub use kb_registry::{HostCommand, NativeCommand, Permit, Run, Ticket};
 
 // The command palette.
 pub use kb_palette::{Entry, History, PaletteCommand, list};

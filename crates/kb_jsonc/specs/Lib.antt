@@ -1,6 +1,7 @@
 pub mod FileFault
 pub mod Parts
 pub mod Member
+pub mod Mismatch
 pub mod Bytes
 pub mod Fault
 pub mod Pieces

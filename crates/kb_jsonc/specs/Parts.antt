@@ -1,8 +1,8 @@
 -- The parts of a JSON value, and reading that gives something or nothing.
 use Rattle.std.specs.Prelude.{ℕ, List, [], ◌∷◌, map, Option, Some, None, option_map, option_and_then}
-use Rattle.std.specs.Prelude.{bytes_eq, if◌then◌else◌}
+use Rattle.std.specs.Prelude.{Bool, ◌&&◌, is_none, is_some, bytes_eq, if◌then◌else◌}
 use Rattle.serde_json.specs.Data.{Data, Items, no_items, item, Members, no_members, member}
-use Rattle.serde_json.specs.Find.{as_array, as_str}
+use Rattle.serde_json.specs.Find.{get, as_array, as_object, as_str}
 
 infixl 10 ◌>>=◌
 abbrev pub ◌>>=◌ : {A B : Type 0} → Option A → (A → Option B) → Option B
@@ -52,3 +52,7 @@ abbrev pub without_member : List ℕ → Members → Members
 without_member name no_members = no_members
 without_member name (member other d ms) =
     if bytes_eq name other then ms else member other d (without_member name ms)
+
+-- an object without a member; what is no object lacks none
+abbrev pub lacks : List ℕ → Data → Bool
+lacks name d = is_some (as_object d) && is_none (get name d)

@@ -1,8 +1,8 @@
-//! The parts of a JSON value, moved out of it.
+//! The parts of a JSON value, moved out of it, and whether it has them.
 ghost use Rattle.std.specs.Prelude.{◌≡◌, ℕ, List, false, bytes_eq, option_map};
 ghost use Rattle.serde_json.specs.Find.{get_member, as_str, as_object};
 ghost use Rattle.serde_json.specs.View.{view, items_view, members_view};
-ghost use Rattle.kb_jsonc.specs.Parts.{listed, elements_of, without_member, word_of};
+ghost use Rattle.kb_jsonc.specs.Parts.{lacks, listed, elements_of, without_member, word_of};
 
 use kb_base::Text;
 use serde_json::{Map, Value};
@@ -59,4 +59,11 @@ pub fn take_member(members: &mut Map<String, Value>, name: &str) -> Option<Value
         ≡ get_member other (members_view members.old.entries) }
 {
     members.remove(name)
+}
+
+/// Whether a value is an object without a member. What is no object lacks none.
+pub fn lacks(value: &Value, name: &str) -> bool
+    ensures { result ≡ lacks name.now (view value.now) }
+{
+    value.is_object() && value.get(name).is_none()
 }

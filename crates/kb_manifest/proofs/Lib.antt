@@ -1,4 +1,2 @@
 pub mod CommandTableLemmas
 pub mod JudgedLemmas
-pub mod KeysLemmas
-pub mod ShapeLemmas

@@ -1,9 +1,7 @@
 pub mod Command
 pub mod CommandTable
 pub mod Condition
-pub mod Context
 pub mod Judged
-pub mod Layout
 pub mod Manifest
 pub mod Notes
 pub mod PaletteItem

@@ -20,9 +20,8 @@ use Rattle.kb_base.specs.declared.failure.Failure.{Failure}
 use Rattle.kb_base.specs.Failure.{Fails}
 use Rattle.kb_manifest.specs.Command as command
 use Rattle.kb_manifest.specs.Judged.{AllRight}
-use Rattle.kb_manifest.specs.Layout.{lacks}
 use Rattle.kb_manifest.specs.PaletteItem as item
-use Rattle.kb_jsonc.specs.Parts.{◌>>=◌, optional, listed, texts_of, word_of}
+use Rattle.kb_jsonc.specs.Parts.{◌>>=◌, lacks, optional, listed, texts_of, word_of}
 use Rattle.kb_manifest.specs.Points.{Held, no_points, points_in, seen_points}
 
 -- what a package holds: the manifest, and the entries of its key rules as in the file

@@ -1,10 +1,13 @@
 //! The manifest of an extension, read from JSON.
-ghost use Rattle.std.specs.Prelude.{◌≡◌, ◌++◌, [], IfOk, OnOk, option_map, codes};
+ghost use Rattle.std.specs.Prelude.{◌≡◌, ◌++◌, [], Some, IfOk, OnOk, option_map, codes};
+ghost use Rattle.std.specs.Result.{result_err};
 ghost use Rattle.serde_json.specs.Find.{get_member};
 ghost use Rattle.serde_json.specs.View.{view, items_view, members_view};
-ghost use Rattle.kb_base.specs.Failure.{Gives};
+ghost use Rattle.kb_base.specs.Failure.{IsFaultAnd};
 ghost use Rattle.kb_base.specs.Reading.{or_fault};
 ghost use Rattle.kb_jsonc.specs.declared.file_fault.FileFault.TheVariants.{WrongShape};
+ghost use Rattle.kb_jsonc.specs.declared.mismatch.Expected.TheVariants.{Word};
+ghost use Rattle.kb_jsonc.specs.Mismatch.{GivesOr, fault_at};
 ghost use Rattle.kb_jsonc.specs.Parts.{optional, texts_of};
 ghost use Rattle.kb_manifest.specs.Manifest.{publisher_of, id_of, seen_head, head_in, head_of};
 ghost use Rattle.kb_manifest.specs.Manifest.{seen_package, told_by, contributed, package_of, IsRead};
@@ -12,14 +15,16 @@ ghost use Rattle.kb_manifest.specs.Manifest.{outline_of, IsRightIn, IsRightBy};
 
 use crate::command::read_commands;
 use crate::command_table::CommandTable;
-use crate::layout::lacks;
 use crate::notes::Notes;
 use crate::palette_item::{PaletteItem, read_items};
 use crate::points::{Points, read_points};
 use kb_base::{ExtensionId, Failure, NoMemory, Origin, Seq, Text};
-use kb_jsonc::{FileFault, elements_in, members_in, read_texts, take_member, word_in};
+use kb_jsonc::{
+    Expected, FileFault, Mismatch, Place, elements_in, lacks, members_in, take_member, texts_at,
+    word_in,
+};
 use serde_json::{Map, Value};
-use std::alloc::Global;
+use std::alloc::{AllocError, Global};
 
 /// What an extension's `package.json` contributes, as far as this engine reads it.
 #[derive(Drop)]
@@ -82,20 +87,59 @@ impl Package {
         ensures right { IfOk result (λ contents.
             IsRightBy (told_by origin contents.manifest) (outline_of (view value))) }
     {
-        if lacks(&value, "name") {
-            return Err(Failure::Fault(FileFault::MissingMember));
+        match read_outline(alloc, value) {
+            Ok(head) => Ok(contribute(alloc, head, origin)?),
+            Err(failure) => Err(failure.map_fault(Mismatch::fault)),
         }
-        let head = read_head(alloc, value)?;
-        Ok(contribute(alloc, head, origin)?)
+    }
+
+    /// The first place where a value isn't what a manifest has there, or `None` where `read` gives its
+    /// package. Its fault is that of `read`. Error: `NoMemory`.
+    pub fn mismatch(
+        alloc: Global,
+        value: Value,
+    ) -> Result<Option<Mismatch<'static, Expected>>, NoMemory>
+        ensures { IfOk result (λ found. option_map fault_at found ≡ result_err (outline_of (view value))) }
+    {
+        match read_outline(alloc, value) {
+            Ok(_head) => Ok(None),
+            Err(failure) => found_in(failure),
+        }
+    }
+}
+
+/// The mismatch for which a manifest wasn't read. Error: `NoMemory`, if that is why.
+fn found_in(
+    failure: Failure<Mismatch<'static, Expected>>,
+) -> Result<Option<Mismatch<'static, Expected>>, NoMemory>
+    ensures { IfOk result (λ found. IsFaultAnd failure.entry (λ m. found ≡ Some m)) }
+{
+    match failure {
+        Failure::Fault(found) => Ok(Some(found)),
+        Failure::NoMemory => Err(AllocError),
+    }
+}
+
+/// A member of a manifest where a text that isn't empty was expected.
+fn word_at(member: &'static str) -> Mismatch<'static, Expected>
+    ensures { result.expected ≡ Word }
+{
+    Mismatch {
+        place: Place::in_file(member),
+        expected: Expected::Word,
     }
 }
 
 /// The publisher of an extension.
-fn read_publisher(alloc: Global, publisher: Option<Value>) -> Result<Text, Failure<FileFault>>
-    ensures { Gives (λ text. text) result (or_fault WrongShape (publisher_of (option_map view publisher))) }
+fn read_publisher(
+    alloc: Global,
+    publisher: Option<Value>,
+) -> Result<Text, Failure<Mismatch<'static, Expected>>>
+    ensures { GivesOr fault_at (λ text. text) result
+        (or_fault WrongShape (publisher_of (option_map view publisher))) }
 {
     match publisher {
-        Some(publisher) => Ok(word_in(publisher).ok_or(FileFault::WrongShape)?),
+        Some(publisher) => Ok(word_in(publisher).ok_or(word_at("publisher"))?),
         None => Ok(Text::from_str(alloc, "undefined_publisher")?),
     }
 }
@@ -114,11 +158,11 @@ fn read_id(
     alloc: Global,
     name: Option<Value>,
     publisher: Option<Value>,
-) -> Result<ExtensionId, Failure<FileFault>>
-    ensures { Gives (λ id. id) result
+) -> Result<ExtensionId, Failure<Mismatch<'static, Expected>>>
+    ensures { GivesOr fault_at (λ id. id) result
         (or_fault WrongShape (id_of (option_map view name) (option_map view publisher))) }
 {
-    let name = name.and_then(word_in).ok_or(FileFault::WrongShape)?;
+    let name = name.and_then(word_in).ok_or(word_at("name"))?;
     let mut id = read_publisher(alloc, publisher)?;
     push_name(&mut id, name.as_str())?;
     Ok(ExtensionId::new(id))
@@ -140,34 +184,60 @@ fn ids_of(alloc: Global, texts: Seq<Text>) -> Result<Seq<ExtensionId>, NoMemory>
 fn read_dependencies(
     alloc: Global,
     members: &mut Map<String, Value>,
-) -> Result<Seq<ExtensionId>, Failure<FileFault>>
-    ensures ids { Gives (λ ids. ids) result (or_fault WrongShape (optional [] texts_of
+) -> Result<Seq<ExtensionId>, Failure<Mismatch<'static, Expected>>>
+    ensures ids { GivesOr fault_at (λ ids. ids) result (or_fault WrongShape (optional [] texts_of
         (get_member (codes "extensionDependencies") (members_view members.old.entries)))) }
     ensures contributes { get_member (codes "contributes") (members_view members.new.entries)
         ≡ get_member (codes "contributes") (members_view members.old.entries) }
 {
     match take_member(members, "extensionDependencies") {
         Some(dependencies) => {
-            let elements = elements_in(dependencies).ok_or(FileFault::WrongShape)?;
-            let texts = read_texts(alloc, elements)?;
+            let place = Place::in_file("extensionDependencies");
+            let elements = elements_in(dependencies).ok_or(Mismatch {
+                place,
+                expected: Expected::List,
+            })?;
+            let texts = texts_at(alloc, elements, place)?;
             Ok(ids_of(alloc, texts)?)
         }
         None => Ok(Seq::new(alloc)),
     }
 }
 
-/// A manifest before its entries are read.
-#[tactic(auto, unfolding(crate::specs::Manifest::head_of))]
-fn read_head(alloc: Global, value: Value) -> Result<Head, Failure<FileFault>>
-    ensures { Gives seen_head result (or_fault WrongShape (head_of (view value))) }
+/// A manifest before its entries are read. Errors: the first mismatch, that of an absent name before any
+/// other; or `NoMemory`.
+#[tactic(auto, unfolding(crate::specs::Manifest::outline_of))]
+fn read_outline(alloc: Global, value: Value) -> Result<Head, Failure<Mismatch<'static, Expected>>>
+    ensures { GivesOr fault_at seen_head result (outline_of (view value)) }
 {
-    let mut members = members_in(value).ok_or(FileFault::WrongShape)?;
+    if lacks(&value, "name") {
+        return Err(Failure::Fault(Mismatch {
+            place: Place::in_file("name"),
+            expected: Expected::Present,
+        }));
+    }
+    read_head(alloc, value)
+}
+
+/// A manifest before its entries are read, if a name isn't absent.
+#[tactic(auto, unfolding(crate::specs::Manifest::head_of))]
+fn read_head(alloc: Global, value: Value) -> Result<Head, Failure<Mismatch<'static, Expected>>>
+    ensures { GivesOr fault_at seen_head result (or_fault WrongShape (head_of (view value))) }
+{
+    let mut members = members_in(value).ok_or(Mismatch {
+        place: Place::in_file(""),
+        expected: Expected::Object,
+    })?;
     head_in(alloc, &mut members)
 }
 
 /// A manifest before its entries are read, taken out of its members.
-fn head_in(alloc: Global, members: &mut Map<String, Value>) -> Result<Head, Failure<FileFault>>
-    ensures { Gives seen_head result (or_fault WrongShape (head_in (members_view members.old.entries))) }
+fn head_in(
+    alloc: Global,
+    members: &mut Map<String, Value>,
+) -> Result<Head, Failure<Mismatch<'static, Expected>>>
+    ensures { GivesOr fault_at seen_head result
+        (or_fault WrongShape (head_in (members_view members.old.entries))) }
 {
     let name = take_member(members, "name");
     let id = read_id(alloc, name, take_member(members, "publisher"))?;

@@ -1,15 +1,15 @@
 //! What the contribution points of a manifest hold.
-ghost use Rattle.std.specs.Prelude.{[], option_map, IfOk, ◌≡◌, ◌∷◌};
+ghost use Rattle.std.specs.Prelude.{[], None, codes, option_map, IfOk, ◌≡◌, ◌∷◌};
 ghost use Rattle.serde_json.specs.View.{view, items_view, members_view};
-ghost use Rattle.kb_base.specs.Failure.{Gives};
 ghost use Rattle.kb_base.specs.Reading.{or_fault};
 ghost use Rattle.kb_jsonc.specs.declared.file_fault.FileFault.TheVariants.{WrongShape};
+ghost use Rattle.kb_jsonc.specs.Mismatch.{GivesOr, fault_at, path_of};
 ghost use Rattle.kb_jsonc.specs.Parts.{optional, listed};
 ghost use Rattle.kb_manifest.specs.Points.{entries_of, palette_of, no_points, points_by, points_in};
 ghost use Rattle.kb_manifest.specs.Points.{seen_points};
 
 use kb_base::{Failure, NoMemory};
-use kb_jsonc::{FileFault, members_in, take_member};
+use kb_jsonc::{Expected, Mismatch, Place, members_in, take_member};
 use serde_json::{Map, Value};
 use std::alloc::Global;
 
@@ -30,32 +30,65 @@ fn list_of_one(alloc: Global, value: Value) -> Result<Vec<Value>, NoMemory>
     Ok(list)
 }
 
-/// The entries of a point: the elements of a list, or a lone object.
-fn entries_in(alloc: Global, point: Value) -> Result<Vec<Value>, Failure<FileFault>>
-    ensures { Gives (λ list. listed (items_view list.items)) result
+/// The place of a member of `contributes`.
+fn in_contributes(member: &'static str) -> Place<'static>
+    ensures { path_of result ≡ record {
+      list = codes "contributes";
+      entry = None;
+      member = member.now;
+      item = None;
+      inner = None;
+    } }
+{
+    Place {
+        list: "contributes",
+        entry: None,
+        member,
+        item: None,
+        inner: None,
+    }
+}
+
+/// The entries of the point at a place: the elements of a list, or a lone object.
+fn entries_in(
+    alloc: Global,
+    point: Value,
+    place: Place<'static>,
+) -> Result<Vec<Value>, Failure<Mismatch<'static, Expected>>>
+    ensures { GivesOr fault_at (λ list. listed (items_view list.items)) result
         (or_fault WrongShape (entries_of (view point))) }
 {
     match point {
         Value::Array(elements) => Ok(elements),
         Value::Object(members) => Ok(list_of_one(alloc, Value::Object(members))?),
-        _ => Err(Failure::Fault(FileFault::WrongShape)),
+        _ => Err(Failure::Fault(Mismatch {
+            place,
+            expected: Expected::Entries,
+        })),
     }
 }
 
-/// The entries of a point, none where its member is absent.
-fn entries_at(alloc: Global, point: Option<Value>) -> Result<Vec<Value>, Failure<FileFault>>
-    ensures { Gives (λ list. listed (items_view list.items)) result
+/// The entries of the point at a place, none where its member is absent.
+fn entries_at(
+    alloc: Global,
+    point: Option<Value>,
+    place: Place<'static>,
+) -> Result<Vec<Value>, Failure<Mismatch<'static, Expected>>>
+    ensures { GivesOr fault_at (λ list. listed (items_view list.items)) result
         (or_fault WrongShape (optional [] entries_of (option_map view point))) }
 {
     match point {
-        Some(point) => entries_in(alloc, point),
+        Some(point) => entries_in(alloc, point, place),
         None => Ok(Vec::new(alloc)),
     }
 }
 
 /// The entries of the palette's menu, none where `menus` or its member is absent.
-fn palette_at(alloc: Global, menus: Option<Value>) -> Result<Vec<Value>, Failure<FileFault>>
-    ensures { Gives (λ list. listed (items_view list.items)) result
+fn palette_at(
+    alloc: Global,
+    menus: Option<Value>,
+) -> Result<Vec<Value>, Failure<Mismatch<'static, Expected>>>
+    ensures { GivesOr fault_at (λ list. listed (items_view list.items)) result
         (or_fault WrongShape (optional [] palette_of (option_map view menus))) }
 {
     match menus {
@@ -66,20 +99,31 @@ fn palette_at(alloc: Global, menus: Option<Value>) -> Result<Vec<Value>, Failure
 
 /// The entries of the palette's menu in the menus of a manifest.
 #[tactic(auto, unfolding(crate::specs::Points::palette_of))]
-fn palette_in(alloc: Global, menus: Value) -> Result<Vec<Value>, Failure<FileFault>>
-    ensures { Gives (λ list. listed (items_view list.items)) result
+fn palette_in(
+    alloc: Global,
+    menus: Value,
+) -> Result<Vec<Value>, Failure<Mismatch<'static, Expected>>>
+    ensures { GivesOr fault_at (λ list. listed (items_view list.items)) result
         (or_fault WrongShape (palette_of (view menus))) }
 {
-    let mut members = members_in(menus).ok_or(FileFault::WrongShape)?;
-    entries_at(alloc, take_member(&mut members, "commandPalette"))
+    let place = in_contributes("menus");
+    let mut members = members_in(menus).ok_or(Mismatch {
+        place,
+        expected: Expected::Object,
+    })?;
+    entries_at(
+        alloc,
+        take_member(&mut members, "commandPalette"),
+        place.inner("commandPalette"),
+    )
 }
 
 /// What the points hold, nothing where `contributes` is absent.
 pub(crate) fn read_points(
     alloc: Global,
     contributes: Option<Value>,
-) -> Result<Points, Failure<FileFault>>
-    ensures { Gives seen_points result
+) -> Result<Points, Failure<Mismatch<'static, Expected>>>
+    ensures { GivesOr fault_at seen_points result
         (or_fault WrongShape (optional no_points points_in (option_map view contributes))) }
 {
     match contributes {
@@ -94,20 +138,37 @@ pub(crate) fn read_points(
 
 /// What the points hold in the contributions of a manifest.
 #[tactic(auto, unfolding(crate::specs::Points::points_in))]
-fn points_in(alloc: Global, contributes: Value) -> Result<Points, Failure<FileFault>>
-    ensures { Gives seen_points result (or_fault WrongShape (points_in (view contributes))) }
+fn points_in(
+    alloc: Global,
+    contributes: Value,
+) -> Result<Points, Failure<Mismatch<'static, Expected>>>
+    ensures { GivesOr fault_at seen_points result (or_fault WrongShape (points_in (view contributes))) }
 {
-    let mut members = members_in(contributes).ok_or(FileFault::WrongShape)?;
+    let mut members = members_in(contributes).ok_or(Mismatch {
+        place: in_contributes(""),
+        expected: Expected::Object,
+    })?;
     points_by(alloc, &mut members)
 }
 
 /// What the points hold that members are, taken out of them.
-fn points_by(alloc: Global, members: &mut Map<String, Value>) -> Result<Points, Failure<FileFault>>
-    ensures { Gives seen_points result
+fn points_by(
+    alloc: Global,
+    members: &mut Map<String, Value>,
+) -> Result<Points, Failure<Mismatch<'static, Expected>>>
+    ensures { GivesOr fault_at seen_points result
         (or_fault WrongShape (points_by (members_view members.old.entries))) }
 {
-    let commands = entries_at(alloc, take_member(members, "commands"))?;
-    let keybindings = entries_at(alloc, take_member(members, "keybindings"))?;
+    let commands = entries_at(
+        alloc,
+        take_member(members, "commands"),
+        in_contributes("commands"),
+    )?;
+    let keybindings = entries_at(
+        alloc,
+        take_member(members, "keybindings"),
+        in_contributes("keybindings"),
+    )?;
     let palette = palette_at(alloc, take_member(members, "menus"))?;
     Ok(Points {
         commands,

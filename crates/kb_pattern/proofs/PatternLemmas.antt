@@ -1,7 +1,7 @@
 -- The guarantees of `regex` for a pattern, stated with the definitions of this crate.
 use Rattle.std.proofs.Common.{◌≡◌, ◌≢◌, inl, inr, ℕ, ◌≤◌, ◌<◌, List, Bool, true, false, Option, Some}
 use Rattle.std.proofs.Common.{None, is_some, is_none, not, IsSomeAnd, IfSome, get_or, refl, sym, ◌∙◌, ap}
-use Rattle.std.proofs.Common.{subst, arith, option_map, Result, Ok, Err, IfOk, IfErr}
+use Rattle.std.proofs.Common.{subst, arith, option_map, Result, Ok, Err, IfOk, IfErr, [], ◌∷◌, map}
 use Rattle.std.specs.Prelude.{chars}
 use Rattle.std.proofs.lemmas.Bool.{false≢true}
 use Rattle.std.proofs.lemmas.Bool.Decides.{nat_tests}
@@ -23,7 +23,7 @@ use Rattle.regex_syntax.specs.declared.error.ErrorKind.{ErrorKind}
 use Rattle.regex_syntax.specs.declared.error.ErrorKind.TheVariants.{OutOfMemory}
 use Rattle.kb_pattern.specs.declared.flags.Flags.{Flags}
 use Rattle.kb_pattern.specs.Pattern.{Stands, IsCompiled, compiled_of}
-use Rattle.kb_pattern.specs.Pattern.{HasRightMark}
+use Rattle.kb_pattern.specs.Pattern.{AreRight, HasRightMark, IsRight}
 use Rattle.kb_pattern.specs.Pattern.{config_of, is_within, is_read, is_in_grammar, found_in, matches_in}
 use Rattle.kb_pattern.specs.Pattern.{MarkedPattern}
 use Rattle.kb_pattern.specs.Pattern.{pattern_holds}
@@ -151,3 +151,16 @@ stands_by text flags k s (Err (Syntax e)) p q source config read refuses kind =
 stands_by text flags k s (Err CompiledTooBig) p q source config read refuses kind = tt {0}
 stands_by text flags k s (Err Internal) p q source config read refuses kind = tt {0}
 stands_by text flags k s (Err errors.OutOfMemory) p q source config read refuses kind = tt {0}
+
+-- ---- for each list of patterns there are right marks
+
+mark_is_right : (p : List ℕ × Flags) (b : Bool) → is_read (config_of p.1) p.0 ≡ b → IsRight p (not b)
+mark_is_right p true e = read_in_grammar (config_of p.1) p.0 e
+mark_is_right p false e = e
+
+abbrev pub marks_for : List (List ℕ × Flags) → List Bool
+marks_for ps = map (λ p. not (is_read (config_of p.1) p.0)) ps
+
+pub right_marks_for : (ps : List (List ℕ × Flags)) → AreRight ps (marks_for ps)
+right_marks_for [] = tt
+right_marks_for (p ∷ ps) = (mark_is_right p (is_read (config_of p.1) p.0) refl, right_marks_for ps)

@@ -1,15 +1,15 @@
 //! What a refused `handlers.json` is wrong in.
 use crate::commands::KnownCommands;
 use crate::entries::{entries_at, span_of_member};
-use crate::handler_members::{Wrong, command_of, wrong_in};
-use crate::layout_culprit::said;
+use crate::handler_sentence::{command_of, handlers_sentence};
+use crate::mismatch_place::span_of_place;
 use crate::refusal::Said;
-use kb_base::{Failure, FaultKind, NoMemory, Refusal};
+use kb_base::{FaultKind, NoMemory, Refusal};
 use kb_handler_file::HandlerFile;
-use kb_places::{Source, Span, items};
+use kb_places::{Source, Span};
 use kb_source_files::ExtensionSource;
-use serde_json::{Map, Value};
-use std::alloc::{AllocError, Global};
+use serde_json::Value;
+use std::alloc::Global;
 
 /// What is wrong with the file of handlers of an extension, behind these extensions: where, and a sentence.
 pub(crate) fn handlers_culprit(
@@ -18,49 +18,17 @@ pub(crate) fn handlers_culprit(
     source: &Source<'_>,
     refusal: &Refusal,
 ) -> Result<Said, NoMemory> {
-    let value = source.value();
-    let whole = source.whole();
-    if let Some((member, sentence)) = wrong_head(value) {
-        let span = span_of_member(alloc, source, whole, member)?;
-        return said(alloc, span.unwrap_or(whole), sentence);
+    if let Some(found) = HandlerFile::mismatch(alloc, source.value().clone()?)? {
+        let sentence = handlers_sentence(alloc, source.value(), found)?;
+        return Ok((Some(span_of_place(alloc, source, found.place)?), sentence));
     }
-    let Some(handlers) = value.get("handlers").and_then(Value::as_array) else {
-        return said(alloc, whole, "`handlers` has to be a list");
-    };
-    let span = span_of_member(alloc, source, whole, "handlers")?;
+    let handlers = source.value().get("handlers").and_then(Value::as_array);
+    let handlers = handlers.map(Vec::as_slice).unwrap_or(&[]);
+    let span = span_of_member(alloc, source, source.whole(), "handlers")?;
     let list = entries_at(alloc, source, span)?;
-    let spans = list.as_slice();
     match refusal.kind {
-        FaultKind::AlreadyExists => taken(alloc, earlier, source, handlers.as_slice(), spans),
-        kind if is_verdict(kind) => unaccepted(alloc, source, handlers.as_slice(), spans, refusal),
-        kind => misread(alloc, source, handlers.as_slice(), spans, kind),
-    }
-}
-
-/// What the members of a file are wrong in, before its handlers are looked at: a member, and a sentence.
-fn wrong_head(value: &Value) -> Option<(&'static str, &'static str)> {
-    if !value.is_object() {
-        return Some((
-            "",
-            "a handlers.json has to be an object with `version` and `handlers`",
-        ));
-    }
-    match value.get("version") {
-        None => return Some(("", "the handlers.json has no member `version`")),
-        Some(version) => match version.as_i64() {
-            Some(number) if number == 1 || number == 2 => {}
-            _ => return Some(("version", "`version` has to be 1 or 2")),
-        },
-    }
-    match value.get("handlers") {
-        None => Some(("", "the handlers.json has no member `handlers`")),
-        Some(handlers) => match handlers.as_array() {
-            None => Some(("handlers", "`handlers` has to be a list")),
-            Some(list) if list.len() > 1_000 => {
-                Some(("handlers", "there are more than 1,000 handlers"))
-            }
-            Some(_) => None,
-        },
+        FaultKind::AlreadyExists => taken(alloc, earlier, source, handlers, list.as_slice()),
+        _ => unaccepted(alloc, source, handlers, list.as_slice(), refusal),
     }
 }
 
@@ -90,11 +58,6 @@ fn span_in(
     };
     let inner = span_of_member(alloc, source, *span, member)?;
     Ok(inner.unwrap_or(*span))
-}
-
-/// Whether a fault is one for which the verifier rejects a handler.
-fn is_verdict(kind: FaultKind) -> bool {
-    (60..70).contains(&kind.number())
 }
 
 /// What is said of a handler that isn't accepted.
@@ -150,111 +113,4 @@ fn taken(
         "the handler `{command}` has the name of a native command or of another extension's handler"
     )?;
     Ok((Some(span), sentence))
-}
-
-/// A file of one handler.
-fn alone(alloc: Global, version: &Value, handler: &Value) -> Result<Value, NoMemory> {
-    let mut list = Vec::new(alloc);
-    list.push(handler.clone()?)?;
-    let mut members = Map::new(alloc);
-    members.insert(String::from_str(alloc, "version")?, version.clone()?)?;
-    members.insert(String::from_str(alloc, "handlers")?, Value::Array(list))?;
-    Ok(Value::Object(members))
-}
-
-/// Whether a handler alone is refused.
-fn is_refused(alloc: Global, version: &Value, handler: &Value) -> Result<bool, NoMemory> {
-    match HandlerFile::read(alloc, alone(alloc, version, handler)?) {
-        Ok(_) => Ok(false),
-        Err(Failure::Fault(_)) => Ok(true),
-        Err(Failure::NoMemory) => Err(AllocError),
-    }
-}
-
-/// The place of the first handler that is refused.
-fn first_refused(
-    alloc: Global,
-    version: &Value,
-    handlers: &[Value],
-) -> Result<Option<usize>, NoMemory> {
-    for (place, handler) in handlers.iter().enumerate() {
-        if is_refused(alloc, version, handler)? {
-            return Ok(Some(place));
-        }
-    }
-    Ok(None)
-}
-
-/// The place of the first handler whose command an earlier one has.
-fn first_repeated(handlers: &[Value]) -> Option<usize> {
-    for (place, handler) in handlers.iter().enumerate() {
-        if place_of(handlers, command_of(handler)) != Some(place) {
-            return Some(place);
-        }
-    }
-    None
-}
-
-/// What is said of handlers of which one can't be read.
-fn misread(
-    alloc: Global,
-    source: &Source<'_>,
-    handlers: &[Value],
-    spans: &[Span],
-    kind: FaultKind,
-) -> Result<Said, NoMemory> {
-    if kind == FaultKind::DuplicateHandler {
-        return repeated(alloc, source, handlers, spans);
-    }
-    let Some(version) = source.value().get("version") else {
-        return said(
-            alloc,
-            source.whole(),
-            "the handlers.json has no member `version`",
-        );
-    };
-    let place = first_refused(alloc, version, handlers)?;
-    let Some(handler) = place.and_then(|place| handlers.get(place)) else {
-        return said(alloc, source.whole(), "the handlers can't be read");
-    };
-    let wrong = wrong_in(alloc, handler, kind)?;
-    let span = span_in(alloc, source, spans, place, wrong.member)?;
-    said(
-        alloc,
-        span_of_item(alloc, source, span, wrong)?,
-        wrong.sentence,
-    )
-}
-
-/// What is said of handlers of which one has the command of an earlier one.
-fn repeated(
-    alloc: Global,
-    source: &Source<'_>,
-    handlers: &[Value],
-    spans: &[Span],
-) -> Result<Said, NoMemory> {
-    let place = first_repeated(handlers);
-    let span = span_in(alloc, source, spans, place, "command")?;
-    let command = match place.and_then(|place| handlers.get(place)) {
-        Some(handler) => command_of(handler),
-        None => "",
-    };
-    let sentence = format!(in alloc; "an earlier handler has the same command, `{command}`")?;
-    Ok((Some(span), sentence))
-}
-
-/// Where the part of a member is that is wrong.
-fn span_of_item(
-    alloc: Global,
-    source: &Source<'_>,
-    member: Span,
-    wrong: Wrong,
-) -> Result<Span, NoMemory> {
-    let Some(item) = wrong.item else {
-        return Ok(member);
-    };
-    let spans = items(alloc, source.plain().as_bytes(), member)?;
-    let span = spans.get(item).copied().unwrap_or(member);
-    let inner = span_of_member(alloc, source, span, wrong.inner)?;
-    Ok(inner.unwrap_or(span))
 }

@@ -1,29 +1,18 @@
 //! What a refused layout is wrong in.
-use crate::entries::{span_at, span_of_member};
+use crate::grouped::grouped;
+use crate::mismatch_place::span_of_place;
 use crate::refusal::Said;
 use kb_base::{FaultKind, NoMemory};
-use kb_places::{Source, Span, items};
-use serde_json::{Map, Value};
+use kb_context::{KEY_LIMIT, SCOPE_LIMIT};
+use kb_jsonc::{Expected, Mismatch, Place};
+use kb_layout::layout_mismatch;
+use kb_places::{Source, Span};
+use serde_json::Value;
 use std::alloc::Global;
 
-/// The most scopes of a layout.
-const SCOPE_LIMIT: usize = 1_000;
-
-/// What a scope is wrong in.
+/// What the names of a scope are wrong in.
 #[derive(Clone, Copy)]
 enum Wrong<'v> {
-    /// It is no object.
-    Scope,
-    /// It has no name.
-    NoName,
-    /// Its name is no text.
-    Name,
-    /// The name of the scope around it is no text.
-    Parent,
-    /// Its keys are no object.
-    Keys,
-    /// This key has a value that no context key has.
-    Key(&'v str),
     /// An earlier scope has this name.
     Repeated(&'v str),
     /// It is the first one, and has a parent.
@@ -41,20 +30,58 @@ pub(crate) fn layout_culprit(
     kind: FaultKind,
 ) -> Result<Said, NoMemory> {
     let value = source.value();
-    if !value.is_object() {
-        return said(
-            alloc,
-            source.whole(),
-            "a layout has to be an object with the member `scopes`",
+    let scopes = value.get("scopes").and_then(Value::as_array);
+    let scopes = scopes.map(Vec::as_slice).unwrap_or(&[]);
+    match layout_mismatch(value) {
+        Some(found) => {
+            let span = span_of_place(alloc, source, found.place)?;
+            Ok((Some(span), shape_sentence(alloc, scopes, found)?))
+        }
+        None => in_scopes(alloc, source, scopes, kind),
+    }
+}
+
+/// The sentence on the mismatch of a layout with these scopes.
+fn shape_sentence(
+    alloc: Global,
+    scopes: &[Value],
+    found: Mismatch<'_, Expected>,
+) -> Result<String, NoMemory> {
+    match found.place.entry {
+        Some(scope) => scope_sentence(alloc, scopes.get(scope).map_or("", name_of), found),
+        None => match found.expected {
+            Expected::Object => format!(in alloc;
+                "a layout has to be an object with the member `scopes`"
+            ),
+            Expected::Present => format!(in alloc; "the layout has no member `scopes`"),
+            Expected::List => format!(in alloc; "`scopes` has to be a list of scopes"),
+            _ => format!(in alloc; "`focus` has to be a text, the name of a scope"),
+        },
+    }
+}
+
+/// The sentence on the mismatch of a scope of this name.
+fn scope_sentence(
+    alloc: Global,
+    name: &str,
+    found: Mismatch<'_, Expected>,
+) -> Result<String, NoMemory> {
+    if let Some(key) = found.place.inner {
+        return format!(in alloc;
+            "the value of `{key}` in the scope `{name}` has to be true, false, a whole number, a text, \
+                a list of texts or an object"
         );
     }
-    let Some(scopes) = value.get("scopes") else {
-        return said(alloc, source.whole(), "the layout has no member `scopes`");
-    };
-    let span = span_at(alloc, source, &["scopes"])?.unwrap_or(source.whole());
-    match scopes.as_array() {
-        Some(scopes) => in_scopes(alloc, source, scopes.as_slice(), span, kind),
-        None => said(alloc, span, "`scopes` has to be a list of scopes"),
+    match found.place.member {
+        "" => format!(in alloc; "a scope has to be an object with the member `name`"),
+        "name" if found.expected == Expected::Present => {
+            format!(in alloc; "this scope has no member `name`")
+        }
+        "name" => format!(in alloc; "`name` has to be a text"),
+        "parent" => format!(in alloc; "`parent` of the scope `{name}` has to be a text"),
+        _ => format!(in alloc;
+            "`keys` of the scope `{name}` has to be an object with the context keys"
+        ),
     }
 }
 
@@ -63,40 +90,39 @@ pub(crate) fn said(alloc: Global, span: Span, sentence: &str) -> Result<Said, No
     Ok((Some(span), String::from_str(alloc, sentence)?))
 }
 
-/// What is wrong with the scopes of a layout, or else with its focus.
+/// What is wrong with the scopes of a layout as a tree, or else with its focus.
 fn in_scopes(
     alloc: Global,
     source: &Source<'_>,
     scopes: &[Value],
-    span: Span,
     kind: FaultKind,
 ) -> Result<Said, NoMemory> {
+    let span = span_of_place(alloc, source, Place::in_file("scopes"))?;
     if kind == FaultKind::TooManyKeys {
-        return said(
-            alloc,
-            span,
-            "all scopes together have more than 10,000 keys",
-        );
+        let limit = grouped(alloc, KEY_LIMIT)?;
+        let sentence = format!(in alloc; "all scopes together have more than {limit} keys")?;
+        return Ok((Some(span), sentence));
     }
-    if kind == FaultKind::BadLayout && (scopes.is_empty() || scopes.len() > SCOPE_LIMIT) {
-        return said(alloc, span, "a layout has to have 1 to 1,000 scopes");
+    if scopes.is_empty() || scopes.len() > SCOPE_LIMIT {
+        let limit = grouped(alloc, SCOPE_LIMIT)?;
+        let sentence = format!(in alloc; "a layout has to have 1 to {limit} scopes")?;
+        return Ok((Some(span), sentence));
     }
-    let Some((place, wrong)) = first_wrong(scopes, kind) else {
+    let Some((scope, wrong)) = first_wrong(scopes) else {
         return in_focus(alloc, source);
     };
-    let spans = items(alloc, source.plain().as_bytes(), span)?;
-    let scope = spans.get(place).copied().unwrap_or(span);
-    let name = scopes.get(place).map_or("", name_of);
+    let place = Place::in_entry("scopes", scope, member_of(&wrong));
+    let name = scopes.get(scope).map_or("", name_of);
     Ok((
-        Some(span_of(alloc, source, scope, &wrong)?),
+        Some(span_of_place(alloc, source, place)?),
         sentence_of(alloc, name, &wrong)?,
     ))
 }
 
-/// The first scope that is wrong, by its place, and what it is wrong in.
-fn first_wrong(scopes: &[Value], kind: FaultKind) -> Option<(usize, Wrong<'_>)> {
+/// The first scope whose names are wrong, by its place, and what they are wrong in.
+fn first_wrong(scopes: &[Value]) -> Option<(usize, Wrong<'_>)> {
     for (place, scope) in scopes.iter().enumerate() {
-        if let Some(wrong) = wrong_in(&scopes[..place], scope, kind) {
+        if let Some(wrong) = wrong_name(&scopes[..place], scope) {
             return Some((place, wrong));
         }
     }
@@ -108,60 +134,28 @@ fn name_of(scope: &Value) -> &str {
     scope.get("name").and_then(Value::as_str).unwrap_or("")
 }
 
-/// What is wrong with the focus of a layout.
+/// What is wrong with the focus of a layout, which is no scope.
 fn in_focus(alloc: Global, source: &Source<'_>) -> Result<Said, NoMemory> {
-    let span = span_at(alloc, source, &["focus"])?.unwrap_or(source.whole());
-    match source.value().get("focus").and_then(Value::as_str) {
-        Some(name) => {
-            let sentence = format!(in alloc;
-                "`focus` has to be the name of a scope, and no scope has the name `{name}`"
-            )?;
-            Ok((Some(span), sentence))
-        }
-        None => said(alloc, span, "`focus` has to be a text, the name of a scope"),
-    }
+    let span = span_of_place(alloc, source, Place::in_file("focus"))?;
+    let name = source.value().get("focus").and_then(Value::as_str);
+    let name = name.unwrap_or("");
+    let sentence = format!(in alloc;
+        "`focus` has to be the name of a scope, and no scope has the name `{name}`"
+    )?;
+    Ok((Some(span), sentence))
 }
 
 /// The member of a scope that is wrong.
 fn member_of(wrong: &Wrong<'_>) -> &'static str {
     match wrong {
-        Wrong::Scope | Wrong::NoName => "",
-        Wrong::Name | Wrong::Repeated(_) | Wrong::NoParent => "name",
-        Wrong::Parent | Wrong::FirstWithParent | Wrong::UnknownParent(_) => "parent",
-        Wrong::Keys | Wrong::Key(_) => "keys",
-    }
-}
-
-/// Where a scope is wrong.
-fn span_of(
-    alloc: Global,
-    source: &Source<'_>,
-    scope: Span,
-    wrong: &Wrong<'_>,
-) -> Result<Span, NoMemory> {
-    let Some(member) = span_of_member(alloc, source, scope, member_of(wrong))? else {
-        return Ok(scope);
-    };
-    match wrong {
-        Wrong::Key(key) => Ok(span_of_member(alloc, source, member, key)?.unwrap_or(member)),
-        _ => Ok(member),
+        Wrong::Repeated(_) | Wrong::NoParent => "name",
+        Wrong::FirstWithParent | Wrong::UnknownParent(_) => "parent",
     }
 }
 
 /// The sentence on a scope of this name.
 fn sentence_of(alloc: Global, name: &str, wrong: &Wrong<'_>) -> Result<String, NoMemory> {
     match wrong {
-        Wrong::Scope => format!(in alloc; "a scope has to be an object with the member `name`"),
-        Wrong::NoName => format!(in alloc; "this scope has no member `name`"),
-        Wrong::Name => format!(in alloc; "`name` has to be a text"),
-        Wrong::Parent => format!(in alloc; "`parent` of the scope `{name}` has to be a text"),
-        Wrong::Keys => format!(in alloc;
-            "`keys` of the scope `{name}` has to be an object with the context keys"
-        ),
-        Wrong::Key(key) => format!(in alloc;
-            "the value of `{key}` in the scope `{name}` has to be true, false, a whole number, a text, \
-                a list of texts or an object"
-        ),
         Wrong::Repeated(name) => format!(in alloc; "an earlier scope has the name `{name}`"),
         Wrong::FirstWithParent => format!(in alloc;
             "the first scope, `{name}`, is the outermost one, and has no `parent`"
@@ -172,76 +166,6 @@ fn sentence_of(alloc: Global, name: &str, wrong: &Wrong<'_>) -> Result<String, N
         Wrong::UnknownParent(parent) => format!(in alloc;
             "no earlier scope has the name `{parent}`, the `parent` of the scope `{name}`"
         ),
-    }
-}
-
-/// What a scope behind these is wrong in, for this fault.
-fn wrong_in<'v>(earlier: &[Value], scope: &'v Value, kind: FaultKind) -> Option<Wrong<'v>> {
-    match kind {
-        FaultKind::MissingMember if scope.is_object() && scope.get("name").is_none() => Some(
-            Wrong::NoName,
-        ),
-        FaultKind::WrongShape => wrong_shape(scope),
-        FaultKind::BadLayout => wrong_name(earlier, scope),
-        _ => None,
-    }
-}
-
-/// Whether a member is there and no text.
-fn is_no_text(value: &Value, name: &str) -> bool {
-    match value.get(name) {
-        Some(member) => !member.is_string(),
-        None => false,
-    }
-}
-
-/// What the shape of a scope is wrong in.
-fn wrong_shape(scope: &Value) -> Option<Wrong<'_>> {
-    if !scope.is_object() {
-        return Some(Wrong::Scope);
-    }
-    if is_no_text(scope, "name") {
-        return Some(Wrong::Name);
-    }
-    if is_no_text(scope, "parent") {
-        return Some(Wrong::Parent);
-    }
-    match scope.get("keys")?.as_object() {
-        Some(keys) => match wrong_key(keys) {
-            Some(key) => Some(Wrong::Key(key)),
-            None => None,
-        },
-        None => Some(Wrong::Keys),
-    }
-}
-
-/// The first of these members whose value no context key has.
-fn wrong_key(members: &Map<String, Value>) -> Option<&str> {
-    for (name, value) in members {
-        if is_no_context(value) {
-            return Some(name.as_str());
-        }
-    }
-    None
-}
-
-/// Whether one of these values is no text.
-fn has_no_text(items: &[Value]) -> bool {
-    for item in items {
-        if !item.is_string() {
-            return true;
-        }
-    }
-    false
-}
-
-/// Whether a context key can't have a value.
-fn is_no_context(value: &Value) -> bool {
-    match value {
-        Value::Null => true,
-        Value::Bool(_) | Value::String(_) | Value::Object(_) => false,
-        Value::Number(number) => number.as_i64().is_none(),
-        Value::Array(items) => has_no_text(items.as_slice()),
     }
 }
 

@@ -1,125 +1,48 @@
 //! What a refused `package.json` is wrong in.
-use crate::entries::{member_at, span_at};
+use crate::entries::span_at;
 use crate::layout_culprit::said;
+use crate::mismatch_place::span_of_place;
 use crate::refusal::Said;
 use kb_base::{NoMemory, same_id};
+use kb_jsonc::{Expected, Mismatch, Place};
+use kb_manifest::Package;
 use kb_places::{LineTable, Source, Span, items, open};
 use kb_source_files::{ExtensionSource, SourceFile};
 use serde_json::Value;
 use std::alloc::Global;
 
-/// The shape that a member has to have.
-#[derive(Clone, Copy, Debug, PartialEq, Eq)]
-enum Shape {
-    /// A text that isn't empty.
-    Word,
-    /// A list of texts.
-    Texts,
-    /// An object.
-    Object,
-    /// A list or an object.
-    Point,
-}
-
-/// Whether a value has a shape.
-fn has_shape(value: &Value, shape: Shape) -> bool {
-    match shape {
-        Shape::Word => match value.as_str() {
-            Some(text) => !text.is_empty(),
-            None => false,
-        },
-        Shape::Texts => match value.as_array() {
-            Some(items) => first_no_text(items.as_slice()).is_none(),
-            None => false,
-        },
-        Shape::Object => value.is_object(),
-        Shape::Point => value.is_array() || value.is_object(),
-    }
-}
-
-/// The place of the first of these values that is no text.
-fn first_no_text(items: &[Value]) -> Option<usize> {
-    for (place, item) in items.iter().enumerate() {
-        if !item.is_string() {
-            return Some(place);
-        }
-    }
-    None
-}
-
-/// The first members whose value has another shape than it has to have, with a sentence.
-fn wrong_member(value: &Value) -> Option<(&'static [&'static str], &'static str)> {
-    if fails(value, &["name"], Shape::Word) {
-        return Some((&["name"], "`name` has to be a text that isn't empty"));
-    }
-    if fails(value, &["publisher"], Shape::Word) {
-        return Some((
-            &["publisher"],
-            "`publisher` has to be a text that isn't empty",
-        ));
-    }
-    if fails(value, &["extensionDependencies"], Shape::Texts) {
-        return Some((
-            &["extensionDependencies"],
-            "`extensionDependencies` has to be a list of texts",
-        ));
-    }
-    wrong_point(value)
-}
-
-/// The first contribution point with another shape than it has to have, with a sentence.
-fn wrong_point(value: &Value) -> Option<(&'static [&'static str], &'static str)> {
-    const LIST: &str = "a contribution point has to be a list, or one object";
-    if fails(value, &["contributes"], Shape::Object) {
-        return Some((&["contributes"], "`contributes` has to be an object"));
-    }
-    if fails(value, &["contributes", "commands"], Shape::Point) {
-        return Some((&["contributes", "commands"], LIST));
-    }
-    if fails(value, &["contributes", "keybindings"], Shape::Point) {
-        return Some((&["contributes", "keybindings"], LIST));
-    }
-    if fails(value, &["contributes", "menus"], Shape::Object) {
-        return Some((&["contributes", "menus"], "`menus` has to be an object"));
-    }
-    if fails(
-        value,
-        &["contributes", "menus", "commandPalette"],
-        Shape::Point,
-    ) {
-        return Some((&["contributes", "menus", "commandPalette"], LIST));
-    }
-    None
-}
-
-/// Whether the value at some members is there, and has another shape.
-fn fails(value: &Value, names: &[&str], shape: Shape) -> bool {
-    match member_at(value, names) {
-        Some(found) => !has_shape(found, shape),
-        None => false,
-    }
-}
-
 /// What is wrong with a manifest: where, and a sentence.
 pub(crate) fn manifest_culprit(alloc: Global, source: &Source<'_>) -> Result<Said, NoMemory> {
-    let value = source.value();
-    let whole = source.whole();
-    if !value.is_object() {
-        return said(alloc, whole, "a package.json has to be an object");
-    }
-    if value.get("name").is_none() {
-        return said(alloc, whole, "the package.json has no member `name`");
-    }
-    match wrong_member(value) {
-        Some((names, sentence)) => {
-            let span = span_at(alloc, source, names)?.unwrap_or(whole);
-            said(alloc, span, sentence)
+    let Some(found) = Package::mismatch(alloc, source.value().clone()?)? else {
+        return said(alloc, source.whole(), "the package.json is refused");
+    };
+    // (of a dependency that is no text the whole list is shown)
+    let place = Place {
+        item: None,
+        ..found.place
+    };
+    let span = span_of_place(alloc, source, place)?;
+    Ok((Some(span), manifest_sentence(alloc, found)?))
+}
+
+/// The sentence on the mismatch of a manifest.
+fn manifest_sentence(
+    alloc: Global,
+    found: Mismatch<'static, Expected>,
+) -> Result<String, NoMemory> {
+    let Place { list, member, .. } = found.place;
+    match found.expected {
+        Expected::Object if list.is_empty() => {
+            format!(in alloc; "a package.json has to be an object")
         }
-        None => said(
-            alloc,
-            whole,
-            "the package.json has another shape than it has to have",
+        Expected::Object if member.is_empty() => format!(in alloc; "`{list}` has to be an object"),
+        Expected::Object => format!(in alloc; "`{member}` has to be an object"),
+        Expected::Present => format!(in alloc; "the package.json has no member `{member}`"),
+        Expected::Word => format!(in alloc; "`{member}` has to be a text that isn't empty"),
+        Expected::Entries => format!(in alloc;
+            "a contribution point has to be a list, or one object"
         ),
+        _ => format!(in alloc; "`{member}` has to be a list of texts"),
     }
 }
 

@@ -3,7 +3,7 @@ use crate::finding::Finding;
 use kb_base::{Failure, NoMemory};
 use kb_core::{Args, Core, NATIVES, Native, Ran, at_budget};
 use kb_handler_table::Codes;
-use kb_registry::{HostCommand, Registry, RegistryFault};
+use kb_registry::{HostCommand, Permit, Registry, RegistryFault};
 use kb_verify::{Verified, VerifiedList};
 use std::alloc::{AllocError, Global};
 
@@ -20,7 +20,7 @@ impl HostCommand for FullBudget {
         self.native
     }
 
-    fn call(&self, core: Core, args: Args) -> Ran {
+    fn call(&self, core: Core, args: Args, _permit: Permit) -> Ran {
         at_budget(self.native, core, args)
     }
 }

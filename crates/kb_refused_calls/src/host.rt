@@ -1,7 +1,7 @@
 //! The closures of the test's host.
 use kb_base::NoMemory;
 use kb_core::{Args, Core, NATIVES, Native, Ran, plain};
-use kb_registry::HostCommand;
+use kb_registry::{HostCommand, Permit};
 use std::alloc::Global;
 
 /// Does what its native command does, at cost 1.
@@ -17,7 +17,7 @@ impl HostCommand for Plain {
         self.native
     }
 
-    fn call(&self, core: Core, args: Args) -> Ran {
+    fn call(&self, core: Core, args: Args, _permit: Permit) -> Ran {
         plain(self.native, core, args)
     }
 }

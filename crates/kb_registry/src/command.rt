@@ -10,6 +10,7 @@ ghost use Rattle.kb_core.specs.Native.{Fits};
 ghost use Rattle.kb_core.specs.Ran.{Does};
 
 use kb_core::{Args, Core, Native, Ran};
+use std::marker::Model;
 
 /// The closure that a host provides for a native command. It takes the core and the arguments. It
 /// returns the core and the cost of the run, in instructions, or the unchanged core and `NoMemory`.
@@ -47,6 +48,11 @@ impl NativeCommand {
     }
 }
 
+/// The permission to call a closure. Only [`Registered::run`] makes one. So a closure is called only while it
+/// is registered (our decision).
+#[derive(Debug, Drop)]
+pub struct Permit(());
+
 /// The interface of a host's command to the engine: which native command it implements, and the
 /// guarantee that it does what that native command does.
 pub trait HostCommand: Drop {
@@ -58,7 +64,7 @@ pub trait HostCommand: Drop {
 
     /// Runs the command on a core, with arguments that fit its native command. The run costs at most
     /// the native command's budget, in instructions, or it returns the unchanged core with `NoMemory`.
-    fn call(&self, core: Core, args: Args) -> Ran
+    fn call(&self, core: Core, args: Args, permit: Permit) -> Ran
         requires { Fits (stands_for self.now) args }
         ensures { Does (stands_for self.now) core args result };
 }
@@ -70,7 +76,45 @@ impl HostCommand for NativeCommand {
         self.native
     }
 
-    fn call(&self, core: Core, args: Args) -> Ran {
+    fn call(&self, core: Core, args: Args, _permit: Permit) -> Ran {
         (self.run)(core, args)
+    }
+}
+
+/// A closure that is registered. The registry lends it, so it stays registered as long as this value lives.
+/// Contracts see its native command.
+#[derive(Drop)]
+pub struct Registered<'r, C: HostCommand> {
+    command: &'r C,
+}
+
+impl<'r, C: HostCommand> Model for Registered<'r, C> {
+    ghost Value = { Native };
+
+    ghost view = { λ r. C.stands_for r.command.now };
+}
+
+impl<'r, C: HostCommand> Registered<'r, C> {
+    /// The closure of an entry of the registry.
+    pub(crate) fn of(command: &'r C) -> Registered<'r, C>
+        ensures { result ≡ C.stands_for command.now }
+    {
+        Registered { command }
+    }
+
+    /// The native command that the closure implements.
+    pub fn native(&self) -> Native
+        ensures { result ≡ self.now }
+    {
+        self.command.native()
+    }
+
+    /// Runs the closure on a core, with arguments that fit its native command. The run costs at most the
+    /// native command's budget, in instructions, or it returns the unchanged core with `NoMemory`.
+    pub fn run(&self, core: Core, args: Args) -> Ran
+        requires { Fits self.now args }
+        ensures { Does self.now core args result }
+    {
+        self.command.call(core, args, Permit(()))
     }
 }

@@ -7,6 +7,6 @@ pub mod fault;
 mod missing;
 pub mod registry;
 
-pub use command::{HostCommand, NativeCommand, Run};
+pub use command::{HostCommand, NativeCommand, Permit, Registered, Run};
 pub use fault::RegistryFault;
 pub use registry::{Registry, Ticket};

@@ -19,7 +19,7 @@ ghost use Rattle.kb_registry.specs.Live.{where_live, with_code, with_exchanged, 
 ghost use Rattle.kb_registry.specs.Missing.{missing_callee};
 ghost use Rattle.kb_registry.specs.Place.{IsPlace};
 
-use crate::command::HostCommand;
+use crate::command::{HostCommand, Registered};
 use crate::fault::RegistryFault;
 use crate::missing::Among;
 use indexmap::IndexMap;
@@ -305,7 +305,7 @@ impl<C: HostCommand> Registry<C> {
         ensures { Does native core args result }
     {
         match self.entry(native) {
-            Some(entry) => entry.command.call(core, args),
+            Some(entry) => Registered::of(&entry.command).run(core, args),
             None => unreachable!(),
         }
     }
@@ -319,12 +319,12 @@ impl<C: HostCommand> Registry<C> {
     }
 
     /// The registered closure of a native command, or `None` if it has none.
-    pub fn closure(&self, native: Native) -> Option<&C>
-        ensures native { option_map (λ c. C.stands_for c.now) result ≡ where_live (Some native) self.now }
-        ensures live { IfSome result (λ c. IsTrue (is_live (C.stands_for c.now) self.now)) }
+    pub fn closure(&self, native: Native) -> Option<Registered<'_, C>>
+        ensures native { result ≡ where_live (Some native) self.now }
+        ensures live { IfSome result (λ native. IsTrue (is_live native self.now)) }
     {
         match self.entry(native) {
-            Some(entry) => Some(&entry.command),
+            Some(entry) => Some(Registered::of(&entry.command)),
             None => None,
         }
     }

@@ -3,4 +3,5 @@ pub mod EnabledLemmas
 pub mod EntryLemmas
 pub mod RemovalIndexLemmas
 pub mod RemovalLemmas
+pub mod RightMarks
 pub mod RuleListLemmas

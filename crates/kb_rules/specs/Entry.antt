@@ -1,6 +1,6 @@
 -- The rule or the removal that an element of a list of rules is, or its first fault.
 use Rattle.std.specs.Prelude.{ℕ, ◌==◌, List, [], ◌∷◌, Option, None, Some, Result, Ok, Err, if◌then◌else◌}
-use Rattle.std.specs.Prelude.{codes, option_map}
+use Rattle.std.specs.Prelude.{codes, option_map, bytes_eq}
 use Rattle.std.specs.Option.{option_or}
 use Rattle.std.specs.List.{list_all}
 use Rattle.kb_base.specs.Blank.{is_blank}
@@ -25,10 +25,13 @@ use Rattle.kb_when.specs.Unread.{marked_by}
 use Rattle.serde_json.specs.Data.{Data, Members}
 use Rattle.serde_json.specs.Find.{get_member, as_object}
 use Rattle.serde_json.specs.View.{view}
+use Rattle.serde_json.specs.declared.value.Value.{Value}
 use Rattle.kb_rules.specs.declared.entry.Binding.{Binding}
 use Rattle.kb_rules.specs.declared.entry.Binding.TheVariants as binding
 use Rattle.kb_rules.specs.declared.entry.Entry.{Entry}
 use Rattle.kb_rules.specs.declared.entry.Entry.TheVariants as entry
+use Rattle.kb_rules.specs.declared.entry.Member.{Member}
+use Rattle.kb_rules.specs.declared.entry.Member.TheVariants as member
 use Rattle.kb_rules.specs.declared.entry.Parts.{Parts}
 use Rattle.kb_base.specs.declared.note.Origin.{Origin}
 use Rattle.kb_rules.specs.Whole.{is_whole}
@@ -111,10 +114,62 @@ found_in platform members = record {
 abbrev pub found_of : Parts → Found
 found_of parts = record {
   command = option_map view parts.command;
-  key = option_map view parts.key;
+  key = option_or (option_map view parts.own_key) (option_map view parts.key);
   when = option_map view parts.when;
   args = option_map view parts.args;
 }
+
+-- the member of an element that has this name
+abbrev pub own_key_named : Option Platform → List ℕ → Member
+own_key_named None name = member.Other
+own_key_named (Some platform) name =
+    if bytes_eq name (platform_name platform) then member.OwnKey else member.Other
+
+abbrev pub member_named : Option Platform → List ℕ → Member
+member_named platform name =
+    if bytes_eq name (codes "command") then member.Command else
+    (if bytes_eq name (codes "key") then member.Key else
+    (if bytes_eq name (codes "when") then member.When else
+    (if bytes_eq name (codes "args") then member.Args else own_key_named platform name)))
+
+-- the members with the value of one, unless it has one already
+abbrev pub with_member : Member → Value → Parts → Parts
+with_member member.Command value p = record {
+  command = option_or p.command (Some value);
+  key = p.key;
+  own_key = p.own_key;
+  when = p.when;
+  args = p.args;
+}
+with_member member.Key value p = record {
+  command = p.command;
+  key = option_or p.key (Some value);
+  own_key = p.own_key;
+  when = p.when;
+  args = p.args;
+}
+with_member member.OwnKey value p = record {
+  command = p.command;
+  key = p.key;
+  own_key = option_or p.own_key (Some value);
+  when = p.when;
+  args = p.args;
+}
+with_member member.When value p = record {
+  command = p.command;
+  key = p.key;
+  own_key = p.own_key;
+  when = option_or p.when (Some value);
+  args = p.args;
+}
+with_member member.Args value p = record {
+  command = p.command;
+  key = p.key;
+  own_key = p.own_key;
+  when = p.when;
+  args = option_or p.args (Some value);
+}
+with_member member.Other value p = p
 
 -- the command and its keystrokes, in this order
 abbrev pub bound_to : List ℕ → Option (List ℕ) → Option Data → Result Binding FaultKind

@@ -1,5 +1,6 @@
 //! The reading of one element of a list of rules.
-ghost use Rattle.std.specs.Prelude.{◌≡◌, [], option_map, is_some, not, IfOk};
+ghost use Rattle.std.specs.Prelude.{◌≡◌, [], Some, option_map, is_some, not, IfOk};
+ghost use Rattle.std.specs.Option.{option_or};
 ghost use Rattle.std.specs.List.{list_all};
 ghost use Rattle.kb_base.specs.Blank.{is_blank};
 ghost use Rattle.kb_base.specs.Failure.{Gives};
@@ -10,7 +11,8 @@ ghost use Rattle.kb_when.specs.ClauseText.{clause_in};
 ghost use Rattle.serde_json.specs.View.{view, members_view};
 ghost use Rattle.kb_rules.specs.Entry.{by_kind, failure_by_kind, text_of, required_text, removed_command};
 ghost use Rattle.kb_rules.specs.Entry.{chord_in, keystrokes_of, removed_keystrokes_of, when_of, condition_of};
-ghost use Rattle.kb_rules.specs.Entry.{args_of, key_member, found_in, found_of, binding_of, bound_to};
+ghost use Rattle.kb_rules.specs.Entry.{args_of, member_named, own_key_named, with_member, found_in};
+ghost use Rattle.kb_rules.specs.Entry.{found_of, binding_of, bound_to};
 ghost use Rattle.kb_rules.specs.Entry.{terms_of, made, completed, element_of, entry_of};
 ghost use Rattle.kb_rules.specs.Unread.{tree_in, marked_entry};
 
@@ -19,7 +21,7 @@ use crate::removal::Removal;
 use crate::rule::Rule;
 use crate::whole::has_whole_numbers;
 use kb_base::{Failure, FaultKind, HashedText, NoMemory, Origin, Text, is_blank_text};
-use kb_jsonc::{FileFault, members_in, take_member};
+use kb_jsonc::{FileFault, members_in};
 use kb_keys::{Chord, Platform};
 use kb_when::{Clause, WhenFault};
 use serde_json::{Map, Value};
@@ -30,8 +32,22 @@ use std::alloc::Global;
 struct Parts {
     command: Option<Value>,
     key: Option<Value>,
+    /// The keystrokes on the platform, which stand in place of `key`.
+    own_key: Option<Value>,
     when: Option<Value>,
     args: Option<Value>,
+}
+
+/// A member of an element, by its name.
+#[derive(Clone, Copy, Debug)]
+enum Member {
+    Command,
+    Key,
+    OwnKey,
+    When,
+    Args,
+    /// A member that nothing is read from.
+    Other,
 }
 
 /// A command and its keystrokes.
@@ -68,39 +84,73 @@ pub(crate) fn read_entry(
     }
 }
 
-/// The members that a rule or a removal is read from, taken out of an object.
+/// The members that a rule or a removal is read from, taken out of an object in one pass.
+#[tactic(auto, using(crate::proofs::EntryLemmas::all_kept))]
 fn parts_of(members: Map<String, Value>, platform: Option<Platform>) -> Parts
     ensures { found_of result ≡ found_in platform (members_view members.entries) }
 {
-    let mut members = members;
-    let command = take_member(&mut members, "command");
-    let when = take_member(&mut members, "when");
-    let args = take_member(&mut members, "args");
-    Parts {
-        command,
-        key: take_key(members, platform),
-        when,
-        args,
+    let mut parts = Parts {
+        command: None,
+        key: None,
+        own_key: None,
+        when: None,
+        args: None,
+    };
+    for (name, value) in members {
+        keep_member(&mut parts, member_named(platform, name.as_str()), value);
+    }
+    parts
+}
+
+/// The member with this name. The platform's name is that of its own keystrokes, if a platform is given (VS
+/// Code's documentation of extensions).
+fn member_named(platform: Option<Platform>, name: &str) -> Member
+    ensures { result ≡ member_named platform name.now }
+{
+    match name {
+        "command" => Member::Command,
+        "key" => Member::Key,
+        "when" => Member::When,
+        "args" => Member::Args,
+        _ => own_key_named(platform, name),
     }
 }
 
-/// The member that names the keystrokes: the platform's, if a platform is given and its member is there, and
-/// else `key` (VS Code's documentation of extensions).
-fn take_key(members: Map<String, Value>, platform: Option<Platform>) -> Option<Value>
-    ensures { option_map view result ≡ key_member platform (members_view members.entries) }
+/// The platform's own keystrokes if this is their name, or else a member that nothing is read from.
+fn own_key_named(platform: Option<Platform>, name: &str) -> Member
+    ensures { result ≡ own_key_named platform name.now }
 {
-    let mut members = members;
-    if let Some(platform) = platform {
-        let own = take_member(&mut members, platform.name());
-        if own.is_some() {
-            return own;
-        }
+    match platform {
+        Some(platform) if name == platform.name() => Member::OwnKey,
+        _ => Member::Other,
     }
-    take_member(&mut members, "key")
+}
+
+/// Keeps the value of a member, unless it is kept already.
+fn keep_member(parts: &mut Parts, member: Member, value: Value)
+    ensures { parts.new ≡ with_member member value parts.old }
+{
+    match member {
+        Member::Command => keep(&mut parts.command, value),
+        Member::Key => keep(&mut parts.key, value),
+        Member::OwnKey => keep(&mut parts.own_key, value),
+        Member::When => keep(&mut parts.when, value),
+        Member::Args => keep(&mut parts.args, value),
+        Member::Other => {}
+    }
+}
+
+/// Keeps a value where there is none.
+fn keep(place: &mut Option<Value>, value: Value)
+    ensures { place.new ≡ option_or place.old (Some value) }
+{
+    if place.is_none() {
+        *place = Some(value);
+    }
 }
 
 /// The rule or the removal that these members are.
-#[tactic(auto, unfolding(crate::specs::Entry::element_of))]
+#[tactic(auto, unfolding(crate::specs::Entry::element_of), using(crate::proofs::EntryLemmas::either_seen))]
 fn read_parts(
     alloc: Global,
     parts: Parts,
@@ -109,7 +159,8 @@ fn read_parts(
 ) -> Result<Entry, Failure<FaultKind>>
     ensures { Gives (marked_entry []) result (element_of origin place (found_of parts)) }
 {
-    let binding = read_binding(alloc, parts.command, parts.key)?;
+    let key = parts.own_key.or(parts.key);
+    let binding = read_binding(alloc, parts.command, key)?;
     complete(alloc, binding, parts.when, parts.args, origin, place)
 }
 

@@ -45,6 +45,7 @@ run_on : (lines : List Said) (now new : Traced Stand) (b c : Option (List ℕ)) 
 run_on lines now new b c h t = record {
   said = h.said;
   tells = h.tells;
+  marked = h.marked;
   ran = record { session = other_state h.said now new t h.ran.session; written = h.ran.written };
 }
 
@@ -174,7 +175,12 @@ stream_fail kept said old now new a b c number lines more line failure p e q =
     record {
       all = p.all ++ g.more;
       breaks = up_to_fail said old (with_trace p.all now) (with_trace (p.all ++ g.more) new) a b c number lines
-          more line failure p.runs e (record { said = q.said; tells = q.tells; breaks = g.breaks p.all });
+          more line failure p.runs e (record {
+            said = q.said;
+            tells = q.tells;
+            marked = q.marked;
+            breaks = g.breaks p.all;
+          });
       trace = broken_left kept old.trace p.all now.trace g.more new.trace (lines_of_run p.runs.done old) p.trace
           (ap (λ (s : Traced Stand). s.trace) p.runs.ran.session) g.trace;
     }
@@ -246,6 +252,7 @@ ran_whole kept had left script old new a b is_read running p runs_on = record {
     was_running = running;
     said = p.runs.said;
     tells = p.runs.tells;
+    marked = p.runs.marked;
     ran = p.runs.ran;
     runs_on = runs_on;
   };
@@ -264,6 +271,7 @@ was_trapped kept had left script old new a b is_read running p stopped = record 
     was_running = running;
     said = p.runs.said;
     tells = p.runs.tells;
+    marked = p.runs.marked;
     ran = p.runs.ran;
     stopped = stopped;
   };
@@ -291,6 +299,7 @@ lines_lacked kept had left script old new a b refused is_read running p = record
     was_running = running;
     said = p.breaks.said;
     tells = p.breaks.tells;
+    marked = p.breaks.marked;
     lacks = p.breaks.breaks;
   };
   trace = p.trace;

@@ -1,7 +1,9 @@
 -- The effect of running a script: the bytes read, the changes of session and shelf, and the bytes
--- written. The script itself has no marks of patterns; `said` adds to each reload the marks that the
--- session reports for it.
-use Rattle.std.specs.Prelude.{◌≡◌, ◌⊎◌, ℕ, true, false, List, map, Option, Result, Ok, Err}
+-- written. The script itself has no marks of patterns; `said` adds marks to each reload, those that the
+-- session reports for it where it ran. They are right: a pattern is marked as `regex` reads it or not.
+use Rattle.std.specs.Prelude.{◌≡◌, ◌⊎◌, ⊤, ℕ, true, false, List, map, Option, Result, Ok, Err}
+use Rattle.std.specs.Prelude.{option_map, option_to_list}
+use Rattle.std.specs.List.{AllByRecursion}
 use Rattle.std.specs.Io.KnownBytes.{Keeps}
 use Rattle.kb_base.specs.declared.failure.Failure.{Failure}
 use Rattle.kb_base.specs.declared.failure.Failure.TheVariants.{NoMemory, Fault}
@@ -11,7 +13,7 @@ use Rattle.kb_script.specs.declared.fault.ScriptFault.TheVariants.{Stopped, TooL
 use Rattle.kb_script.specs.declared.fault.ScriptFault.TheVariants.{Trapped}
 use Rattle.kb_script.specs.Script.{said_of, bare}
 use Rattle.kb_script.specs.Shelf.{Stand, Said, tells, takes, move, halt, Halts}
-use Rattle.kb_session.specs.State.{Told, reload}
+use Rattle.kb_session.specs.State.{IsRightlyTold, Told, reload}
 use Rattle.kb_stream.specs.Fold.{Traced}
 use Rattle.kb_stream.specs.FoldWriting.{RunsAndWrites, StopsAndWrites, LacksLines}
 use Rattle.kb_stream.specs.Reading.{IsRead, FailsToRead}
@@ -23,6 +25,14 @@ use Rattle.kb_stream.specs.declared.writing.WriteRefused.{WriteRefused}
 abbrev pub script_limit : ℕ
 script_limit = 16777216
 
+-- the patterns of each reload's rules are marked as `regex` does or doesn't read them
+abbrev pub IsRightlySaid : Said → Type 0
+IsRightlySaid (tells told) = IsRightlyTold told
+IsRightlySaid (takes native) = ⊤
+
+abbrev pub AreRightlySaid : List Said → Type 0
+AreRightlySaid said = AllByRecursion IsRightlySaid said
+
 -- the script was read to its end, session and shelf did all its lines, and the writer got the trace
 -- lines
 pub record Ran (had left : Option (List ℕ)) (old new : Traced Stand) (before after : Option (List ℕ))
@@ -32,6 +42,7 @@ pub record Ran (had left : Option (List ℕ)) (old new : Traced Stand) (before a
   pub was_running : old.state.state.stopped ≡ false
   pub said : List Said
   pub tells : map bare said ≡ said_of script
+  pub marked : AreRightlySaid said
   pub ran : RunsAndWrites move said old new before after
   pub runs_on : new.state.state.stopped ≡ false
 
@@ -44,6 +55,7 @@ pub record WasTrapped (had left : Option (List ℕ)) (old new : Traced Stand) (b
   pub was_running : old.state.state.stopped ≡ false
   pub said : List Said
   pub tells : map bare said ≡ said_of script
+  pub marked : AreRightlySaid said
   pub ran : RunsAndWrites move said old new before after
   pub stopped : new.state.state.stopped ≡ true
 
@@ -77,6 +89,7 @@ pub record LineRefused (had left : Option (List ℕ)) (old new : Traced Stand) (
   pub was_running : old.state.state.stopped ≡ false
   pub said : List Said
   pub tells : map bare said ≡ said_of script
+  pub marked : AreRightlySaid said
   pub stops : StopsAndWrites move Halts said old new before after
 
 -- memory was refused, while the script was read or in a line
@@ -93,6 +106,7 @@ pub record LinesLacked (had left : Option (List ℕ)) (old new : Traced Stand) (
   pub was_running : old.state.state.stopped ≡ false
   pub said : List Said
   pub tells : map bare said ≡ said_of script
+  pub marked : AreRightlySaid said
   pub lacks : LacksLines move said old new before after
 
 -- the script was not read, because of a fault of the reader
@@ -119,7 +133,7 @@ abbrev pub Answers : Result (Unit {0}) (Failure ScriptFault) → Option (List �
 Answers (Ok done) had left old new before after = Ran had left old new before after
 Answers (Err failure) had left old new before after = Fails failure had left old new before after
 
--- ---- for private functions
+-- ---- one line
 
 -- the input with these marks, if it is a reload
 abbrev pub marked_told : List EntryPattern → Told → Told
@@ -130,11 +144,18 @@ abbrev pub marked : List EntryPattern → Said → Said
 marked marks (tells told) = tells (marked_told marks told)
 marked marks (takes native) = takes native
 
--- the lines ran, with some marks for their reloads
+-- what a line says, with these marks
+abbrev pub with_marks : List EntryPattern → Option Said → List Said
+with_marks marks said = option_to_list (option_map (marked marks) said)
+
+-- ---- for private functions
+
+-- the lines ran, with right marks for their reloads
 pub record RunsSaid (lines : List Said) (old new : Traced Stand) (before after : Option (List ℕ))
     : Type 0 where
   pub said : List Said
   pub tells : map bare said ≡ lines
+  pub marked : AreRightlySaid said
   pub ran : RunsAndWrites move said old new before after
 
 -- the run of lines broke off: memory was refused, and the writer has all trace lines; or the writer
@@ -144,9 +165,10 @@ abbrev pub BreaksOff : Failure WriteRefused → List Said → Traced Stand → T
 BreaksOff NoMemory said old new before after = StopsAndWrites move Halts said old new before after
 BreaksOff (Fault refused) said old new before after = LacksLines move said old new before after
 
--- the run of lines broke off, with some marks for their reloads
+-- the run of lines broke off, with right marks for their reloads
 pub record BreaksSaid (failure : Failure WriteRefused) (lines : List Said) (old new : Traced Stand)
     (before after : Option (List ℕ)) : Type 0 where
   pub said : List Said
   pub tells : map bare said ≡ lines
+  pub marked : AreRightlySaid said
   pub breaks : BreaksOff failure said old new before after

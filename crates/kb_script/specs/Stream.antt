@@ -61,14 +61,14 @@ abbrev pub left_of : Kept → ℕ → List (List ℕ) → List (List ℕ)
 left_of All mark lines = lines
 left_of Unwritten mark lines = take mark lines
 
--- lines ran, with some marks for their reloads
+-- lines ran, with right marks for their reloads
 pub record StreamsSaid (kept : Kept) (lines : List Said) (old new : Traced Stand)
     (before after : Option (List ℕ)) : Type 0 where
   pub all : List (List ℕ)
   pub runs : RunsSaid lines old (with_trace all new) before after
   pub trace : IsLeft kept old.trace all new.trace
 
--- the run of lines broke off, with some marks for their reloads
+-- the run of lines broke off, with right marks for their reloads
 pub record StreamBreaks (kept : Kept) (failure : Failure WriteRefused) (lines : List Said)
     (old new : Traced Stand) (before after : Option (List ℕ)) : Type 0 where
   pub all : List (List ℕ)

@@ -1,9 +1,9 @@
 //! The effect of a script's line on a session and on the shelf: the list of the host's closures that
 //! aren't registered.
-ghost use Rattle.std.specs.Prelude.{◌≡◌, ◌<◌, false, true, map, option_map, option_to_list, position};
+ghost use Rattle.std.specs.Prelude.{◌≡◌, ◌<◌, false, true, map, option_map, position};
 ghost use Rattle.std.specs.Prelude.{vec_len, vec_capacity, OnOk, OnErr, IfOk, IsSome, MatchOption};
 ghost use Rattle.kb_handler_table.specs.Live.{same_native};
-ghost use Rattle.kb_script.specs.ScriptRun.{marked};
+ghost use Rattle.kb_script.specs.ScriptRun.{AreRightlySaid, with_marks};
 ghost use Rattle.kb_execute.specs.Start.{stops};
 ghost use Rattle.kb_script.specs.ScriptLine.{said_by};
 ghost use Rattle.kb_script.specs.Shelf.{FindsSaid, Halts, Obeys, beside, move, on_shelf, takes, tells};
@@ -31,9 +31,11 @@ pub fn obey<C: HostCommand>(
 ) -> Result<EventEnd, NoMemory>
     requires { session.old.state.stopped ≡ false }
     ensures ok { OnOk result (beside session.new (map C.stands_for shelf.new.items)
-        ≡ after_all move (option_to_list
-        (option_map (marked session.new.state.sources.user.unread) (option_map said_by said.entry)))
+        ≡ after_all move
+        (with_marks session.new.state.sources.user.unread (option_map said_by said.entry))
         (beside session.old (map C.stands_for shelf.old.items))) }
+    ensures marked { IfOk result (λ ended. AreRightlySaid
+        (with_marks session.new.state.sources.user.unread (option_map said_by said.entry))) }
     ensures stops { IfOk result (λ ended. session.new.state.stopped ≡ stops ended.finish) }
     ensures found { IfOk result (λ ended.
         FindsSaid (option_map said_by said.entry) session.old.state session.new.state ended.found) }

@@ -1,7 +1,7 @@
 -- The model of a session: its state, and for each input the next state, the trace lines and the answer.
 use Rattle.std.specs.Prelude.{◌≡◌, ℕ, ◌+◌, Bool, true, false, List, [], ◌∷◌, ◌++◌, Option}
 use Rattle.std.specs.Prelude.{Some, None, not, option_map, if◌then◌else◌, length}
-use Rattle.std.specs.Prelude.{Result, Ok, Err}
+use Rattle.std.specs.Prelude.{Result, Ok, Err, IfOk, ⊤}
 use Rattle.std.specs.Option.{option_map_or}
 use Rattle.kb_base.specs.declared.fault.FaultKind.TheVariants as kind
 use Rattle.kb_base.specs.Refusal.{refused_for}
@@ -29,7 +29,7 @@ use Rattle.kb_handler_table.specs.Codes.{CodesData}
 use Rattle.kb_registry.specs.Live.{Live, registration_fault, registered, holder, disposed}
 use Rattle.kb_registry.specs.Live.{with_exchanged, with_switched}
 use Rattle.kb_registry.specs.declared.fault.RegistryFault.{RegistryFault}
-use Rattle.kb_rules.specs.RuleList.{Listed, with_rule}
+use Rattle.kb_rules.specs.RuleList.{AreRightlyMarked, Listed, with_rule}
 use Rattle.kb_rules.specs.declared.rule.Rule.{Rule}
 use Rattle.serde_json.specs.Data.{string}
 use Rattle.kb_base.specs.declared.note.Origin.TheVariants.{User}
@@ -323,6 +323,14 @@ step told s = step_unless s.stopped told s
 
 abbrev pub next : Told → State → Out State
 next told s = out_of (step told s)
+
+-- the patterns of the rules that a reload brings are marked as `regex` does or doesn't read them
+abbrev pub IsRightlyTold : Told → Type 0
+IsRightlyTold (happens e) = ⊤
+IsRightlyTold (reload bytes marks) = IfOk (rules_in marks User bytes) AreRightlyMarked
+IsRightlyTold (register native) = ⊤
+IsRightlyTold (dispose number) = ⊤
+IsRightlyTold (types_rule number key command text) = ⊤
 
 -- the state of a new session
 abbrev pub loaded_state : ScopesData → Sources → Live → State

@@ -14,7 +14,7 @@ ghost use Rattle.kb_session.specs.Session.{FailsAt, FailsAmong, is_late};
 ghost use Rattle.kb_bindings.specs.Sources.{source_of};
 ghost use Rattle.kb_execute.specs.Start.{stops};
 ghost use Rattle.kb_session.specs.Inspect.{Finds, finish_of};
-ghost use Rattle.kb_session.specs.State.{IsSafe, happens, reload, next, left_lines, with_user};
+ghost use Rattle.kb_session.specs.State.{IsRightlyTold, IsSafe, happens, reload, next, left_lines, with_user};
 ghost use Rattle.kb_bindings.specs.Warning.{warnings_of};
 ghost use Rattle.kb_session.specs.declared.fault.SessionFault.TheVariants.{NoMemory};
 ghost use Rattle.kb_stream.specs.Fold.{after_all};
@@ -417,7 +417,10 @@ impl<C: HostCommand> Session<C> {
             Takes (reload bytes.now self.new.state.sources.user.unread) self.old answer self.new) }
         ensures err { IfErr result (λ fault. FailsAt fault (reload bytes.now []) self.old self.new) }
 
-        // The marks of the user's rules stay correct.
+        // The patterns of the new rules are marked as `regex` reads them, and so stay those of the user's
+        // rules.
+        ensures marked { IfOk result (λ answer.
+            IsRightlyTold (reload bytes.now self.new.state.sources.user.unread)) }
         ensures right { AreRightlyMarked self.old.state.sources.user
             → AreRightlyMarked self.new.state.sources.user }
     {
@@ -609,11 +612,13 @@ impl<C: HostCommand> Session<C> {
         Ok(Answer::Refused(refusal))
     }
 
-    #[tactic(auto, using(kb_stream::proofs::Undoing::undoing))]
+    #[tactic(auto, using(kb_stream::proofs::Undoing::undoing, crate::proofs::RightReloads::marking))]
     fn reload(&mut self, bytes: &[u8]) -> Result<Answer, NoMemory>
         ensures ok { IfOk result (λ answer.
             Does (reload bytes.now self.new.state.sources.user.unread) self.old answer self.new) }
         ensures err { OnErr result (Undone self.old self.new) }
+        ensures marked { IfOk result (λ answer.
+            IsRightlyTold (reload bytes.now self.new.state.sources.user.unread)) }
         ensures right { AreRightlyMarked self.old.state.sources.user
             → AreRightlyMarked self.new.state.sources.user }
     {

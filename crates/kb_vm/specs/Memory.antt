@@ -18,6 +18,24 @@ abbrev pub is_call : Instr → Bool
 is_call (i.Call n) = true
 is_call _ = false
 
+-- the instructions other than a call that a function performs outside of the loop over instructions
+abbrev pub is_rare : Instr → Bool
+is_rare (i.Text n) = true
+is_rare (i.Arg n) = true
+is_rare i.Dup = true
+is_rare i.Swap = true
+is_rare i.Same = true
+is_rare i.Not = true
+is_rare i.Join = true
+is_rare i.Show = true
+is_rare i.Size = true
+is_rare i.IsTrue = true
+is_rare i.Number = true
+is_rare (i.Context n) = true
+is_rare i.Before = true
+is_rare i.After = true
+is_rare _ = false
+
 -- the instructions that allocate
 abbrev pub asks_memory : Instr → Bool
 asks_memory instr = makes_text instr || is_call instr

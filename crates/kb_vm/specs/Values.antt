@@ -83,6 +83,11 @@ two_of Less x y = with_numbers (λ m n. Truth (int_lt m n)) x y
 two_of Same x y = Some (Truth (is_same x y))
 two_of Join x y = joined x y
 
+-- whether an operation on two values creates a text
+abbrev pub joins : Two → Bool
+joins Join = true
+joins _ = false
+
 -- the value of a context key as an operand: an absent key is false, and a list or an object is true
 abbrev pub context_arg : Option ContextValue → Arg
 context_arg None = Truth false

@@ -2,13 +2,13 @@
 ghost use Rattle.std.specs.Prelude.{◌≡◌, ◌<◌, false, true, IfOk, MatchOption, OnErr};
 ghost use Rattle.std.specs.Prelude.{option_map, slice_get, length};
 ghost use Rattle.kb_vm.specs.Action.{Calls, Does, IsReady, IsCallable, MayLackMemory, is_stop};
-ghost use Rattle.kb_vm.specs.Memory.{is_call};
+ghost use Rattle.kb_vm.specs.Memory.{is_call, is_rare};
 ghost use Rattle.kb_vm.specs.Effect.{effect, pushed, pushed_at, pushed_context, dropped, doubled};
 ghost use Rattle.kb_vm.specs.Effect.{swapped, made};
 ghost use Rattle.kb_vm.specs.Effect.{with_one, with_two, branched, entered, called};
 ghost use Rattle.kb_code.specs.Found.{callee_of};
 ghost use Rattle.kb_vm.specs.Operand.{arg_of};
-ghost use Rattle.kb_vm.specs.Values.{size_of};
+ghost use Rattle.kb_vm.specs.Values.{joins, size_of};
 ghost use Rattle.kb_vm.specs.declared.values.One.TheVariants.{Show};
 ghost use Rattle.kb_vm.specs.declared.values.Two.TheVariants.{Join};
 ghost use Rattle.kb_core.specs.declared.arg.Arg.TheVariants as arg;
@@ -18,7 +18,7 @@ use crate::arena::Arena;
 use crate::given::{Given, fits};
 use crate::operands::{Operand, Operands};
 use crate::trap::Trap;
-use crate::values::{One, Two, context, made_of_one, made_of_two, size_of};
+use crate::values::{One, Two, computed, context, joined, made_of_one, size_of};
 use kb_base::{NoMemory, Text};
 use kb_code::{Commands, Found, Instr, Linked};
 use kb_core::Core;
@@ -50,6 +50,7 @@ pub(crate) enum Called<'r> {
 }
 
 /// Pushes a value.
+#[inline]
 fn push<'a>(operands: &mut Operands<'a>, value: Operand<'a>) -> Action
     ensures { Does (pushed (arg_of value.entry) operands.old) result operands.new }
 {
@@ -108,6 +109,7 @@ fn push_context<'a>(
 }
 
 /// Drops the topmost operand.
+#[inline]
 fn drop_top<'a>(operands: &mut Operands<'a>) -> Action
     ensures { Does (dropped operands.old) result operands.new }
 {
@@ -146,6 +148,7 @@ fn swap<'a>(operands: &mut Operands<'a>) -> Action
 }
 
 /// Pushes the result of an instruction. `None` means that an operand had a wrong kind.
+#[inline]
 fn put<'a>(operands: &mut Operands<'a>, value: Option<Operand<'a>>) -> Action
     requires { length operands.old < 64 }
     ensures { Does (made (option_map arg_of value.entry) operands.old) result operands.new }
@@ -176,15 +179,25 @@ fn apply_one<'a>(
     Ok(put(operands, value))
 }
 
-/// Replaces the two topmost operands with a result computed from them.
-fn apply_two<'a>(
-    arena: &'a Arena,
-    operands: &mut Operands<'a>,
-    what: Two,
-) -> Result<Action, NoMemory>
-    ensures does { IfOk result (λ a. Does (with_two what operands.old) a operands.new) }
-    ensures joins { OnErr result (what ≡ Join) }
-    ensures memory { OnErr result (is_stop (with_two what operands.old) ≡ false) }
+/// Replaces the two topmost operands with a result computed from them, which is no text.
+#[inline]
+fn apply_two<'a>(operands: &mut Operands<'a>, what: Two) -> Action
+    requires { joins what ≡ false }
+    ensures { Does (with_two what operands.old) result operands.new }
+{
+    let Some(y) = operands.pop() else {
+        return Action::Stop(Trap::MissingOperand);
+    };
+    let Some(x) = operands.pop() else {
+        return Action::Stop(Trap::MissingOperand);
+    };
+    put(operands, computed(what, x, y))
+}
+
+/// Replaces the two topmost operands with the first followed by the second.
+fn join_texts<'a>(arena: &'a Arena, operands: &mut Operands<'a>) -> Result<Action, NoMemory>
+    ensures does { IfOk result (λ a. Does (with_two Join operands.old) a operands.new) }
+    ensures memory { OnErr result (is_stop (with_two Join operands.old) ≡ false) }
 {
     let Some(y) = operands.pop() else {
         return Ok(Action::Stop(Trap::MissingOperand));
@@ -192,11 +205,12 @@ fn apply_two<'a>(
     let Some(x) = operands.pop() else {
         return Ok(Action::Stop(Trap::MissingOperand));
     };
-    let value = made_of_two(arena, what, x, y)?;
+    let value = joined(arena, x, y)?;
     Ok(put(operands, value))
 }
 
 /// Pops a truth value, and jumps if it is false.
+#[inline]
 fn branch<'a>(operands: &mut Operands<'a>, to: u16) -> Action
     ensures { Does (branched to operands.old) result operands.new }
 {
@@ -265,7 +279,9 @@ pub(crate) fn index_of(instr: Instr) -> Option<u16>
     }
 }
 
-/// Performs one instruction, other than a call, of a handler with these arguments.
+/// Performs one instruction, other than a call, of a handler with these arguments. The instructions of most
+/// loops are performed here, which the compiler puts into the loop over instructions.
+#[inline]
 pub(crate) fn perform<'r: 'a, 'a>(
     arena: &'a Arena,
     handler: &Linked<'r>,
@@ -281,27 +297,50 @@ pub(crate) fn perform<'r: 'a, 'a>(
         core.now operands.old instr)) }
 {
     match instr {
-        Instr::Return => Ok(Action::Leave),
-        Instr::Text(n) => Ok(push_text(operands, handler.handler().texts(), n)),
         Instr::Num(n) => Ok(push(operands, Operand::Number(i64::from(n)))),
         Instr::Truth(truth) => Ok(push(operands, Operand::Truth(truth))),
-        Instr::Arg(n) => Ok(push_arg(operands, args, n)),
         Instr::Drop => Ok(drop_top(operands)),
+        Instr::Add => Ok(apply_two(operands, Two::Add)),
+        Instr::Sub => Ok(apply_two(operands, Two::Sub)),
+        Instr::Less => Ok(apply_two(operands, Two::Less)),
+        Instr::Jump(to) => Ok(Action::Goto(to)),
+        Instr::JumpIfFalse(to) => Ok(branch(operands, to)),
+        Instr::Repeat(turns) => Ok(Action::Open(turns)),
+        Instr::End => Ok(Action::Turn),
+        Instr::Return => Ok(Action::Leave),
+        Instr::Call(_) => unreachable!(),
+        _ => perform_rare(arena, handler, args, core, operands, instr),
+    }
+}
+
+/// Performs an instruction that is rare in loops.
+#[inline(never)]
+fn perform_rare<'r: 'a, 'a>(
+    arena: &'a Arena,
+    handler: &Linked<'r>,
+    args: &Given<'a>,
+    core: &Core,
+    operands: &mut Operands<'a>,
+    instr: Instr,
+) -> Result<Action, NoMemory>
+    requires { is_rare instr ≡ true }
+    ensures does { (table : _) → IfOk result (λ a. Does (effect table handler.now args.now core.now
+        operands.old instr) a operands.new) }
+    ensures memory { (table : _) → OnErr result (MayLackMemory instr (effect table handler.now args.now
+        core.now operands.old instr)) }
+{
+    match instr {
+        Instr::Text(n) => Ok(push_text(operands, handler.handler().texts(), n)),
+        Instr::Arg(n) => Ok(push_arg(operands, args, n)),
         Instr::Dup => Ok(double(operands)),
         Instr::Swap => Ok(swap(operands)),
-        Instr::Add => apply_two(arena, operands, Two::Add),
-        Instr::Sub => apply_two(arena, operands, Two::Sub),
-        Instr::Less => apply_two(arena, operands, Two::Less),
-        Instr::Same => apply_two(arena, operands, Two::Same),
+        Instr::Same => Ok(apply_two(operands, Two::Same)),
         Instr::Not => apply_one(arena, operands, One::Not),
-        Instr::Join => apply_two(arena, operands, Two::Join),
+        Instr::Join => join_texts(arena, operands),
         Instr::Show => apply_one(arena, operands, One::Show),
         Instr::Size => apply_one(arena, operands, One::Size),
         Instr::IsTrue => apply_one(arena, operands, One::IsTrue),
         Instr::Number => apply_one(arena, operands, One::AsNumber),
-        Instr::Jump(to) => Ok(Action::Goto(to)),
-        Instr::JumpIfFalse(to) => Ok(branch(operands, to)),
-        Instr::Call(_) => unreachable!(),
         Instr::Context(n) => push_context(arena, operands, core, handler.handler().texts(), n),
         Instr::Before => Ok(push(
             operands,
@@ -311,7 +350,6 @@ pub(crate) fn perform<'r: 'a, 'a>(
             operands,
             Operand::Number(size_of(core.buffer().after.as_str())),
         )),
-        Instr::Repeat(turns) => Ok(Action::Open(turns)),
-        Instr::End => Ok(Action::Turn),
+        _ => unreachable!(),
     }
 }

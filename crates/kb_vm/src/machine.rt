@@ -361,35 +361,15 @@ fn paused_at(place: usize, left: u32, why: Pause) -> Paused
     Paused { place, left, why }
 }
 
-/// The place of the next instruction after an action at a place, or the reason for a pause. Most actions are
-/// `Next`, so it is compared first: one jump by the kind of the instruction is enough then.
+/// The place of the next instruction after an action at a place, or the reason for a pause. It is inlined, as
+/// `perform` is, so that no action of a frequent instruction is stored and compared.
 #[inline]
 fn next_place(code: &Code, turns: &mut Turns, place: usize, action: Action) -> Result<usize, Pause>
     requires { place + 1 < 2 ^ 64 }
     ensures { (operands : _) → next_of code.now (standing place turns.old operands) action
         ≡ seen (λ next. standing next turns.new operands) result }
 {
-    if let Action::Next = action {
-        return Ok(place + 1);
-    }
-    place_by_action(code, turns, place, action)
-}
-
-/// The same, by the kind of the action. It is apart, so that the compiler keeps the comparison before it.
-#[inline(never)]
-fn place_by_action(
-    code: &Code,
-    turns: &mut Turns,
-    place: usize,
-    action: Action,
-) -> Result<usize, Pause>
-    requires { place + 1 < 2 ^ 64 }
-    ensures { (operands : _) → next_of code.now (standing place turns.old operands) action
-        ≡ seen (λ next. standing next turns.new operands) result }
-{
     match action {
-        Action::Stop(trap) => Err(Pause::Stop(trap)),
-        Action::Leave => Err(Pause::Leave),
         Action::Next => Ok(place + 1),
         Action::Goto(to) => {
             let to = usize::from(to);
@@ -407,11 +387,14 @@ fn place_by_action(
             Ok(place + 1)
         }
         Action::Turn => end_turn(code, turns, place).ok_or(Pause::Stop(Trap::BadCode)),
+        Action::Stop(trap) => Err(Pause::Stop(trap)),
+        Action::Leave => Err(Pause::Leave),
     }
 }
 
 /// The place of the next instruction after an `End`: after the `Repeat` of its block if the block has a
 /// further iteration, or else after the block. `None` if no block is open.
+#[inline]
 fn end_turn(code: &Code, turns: &mut Turns, place: usize) -> Option<usize>
     requires { place + 1 < 2 ^ 64 }
     ensures { (operands : _) → turned place operands (block_of code.now place) turns.old

@@ -50,6 +50,7 @@ impl<'a> Operands<'a> {
     }
 
     /// The number of operands.
+    #[inline]
     pub(crate) fn len(&self) -> usize
         ensures value { result ≡ length self.now }
         ensures few { result ≤ 64 }
@@ -58,6 +59,7 @@ impl<'a> Operands<'a> {
     }
 
     /// Pushes an operand. The stack must have fewer than 64.
+    #[inline]
     pub(crate) fn push(&mut self, value: Operand<'a>)
         requires { length self.old < 64 }
         ensures { self.new ≡ arg_of value.entry ∷ self.old }
@@ -66,6 +68,7 @@ impl<'a> Operands<'a> {
     }
 
     /// Pops the topmost operand.
+    #[inline]
     pub(crate) fn pop(&mut self) -> Option<Operand<'a>>
         ensures top { MatchOption result (self.old ≡ []) (λ v. self.old ≡ arg_of v ∷ self.new) }
         ensures few { length self.old ≤ 64 }

@@ -1,5 +1,5 @@
 //! The operations on values.
-ghost use Rattle.std.specs.Prelude.{◌≡◌, pos, IfOk, option_map, length, OnErr, IsSome};
+ghost use Rattle.std.specs.Prelude.{◌≡◌, false, pos, IfOk, option_map, length, OnErr, IsSome};
 ghost use Rattle.std.specs.Str.{chars};
 ghost use Rattle.kb_context.specs.Scopes.{context};
 ghost use Rattle.std.specs.FinMap as fin_map;
@@ -7,7 +7,7 @@ ghost use Rattle.kb_vm.specs.Operand.{arg_of};
 ghost use Rattle.kb_vm.specs.declared.values.One.TheVariants.{Show};
 ghost use Rattle.kb_vm.specs.declared.values.Two.TheVariants.{Join};
 ghost use Rattle.kb_vm.specs.Values.{one_of, two_of, size_of, shown, is_true, number_in, is_same};
-ghost use Rattle.kb_vm.specs.Values.{context_arg};
+ghost use Rattle.kb_vm.specs.Values.{context_arg, joins};
 
 use crate::arena::Arena;
 use crate::operands::Operand;
@@ -116,30 +116,37 @@ fn number_in(x: Operand<'_>) -> i64
     }
 }
 
-/// The result of an operation on two values, or `None` if a value has a wrong kind.
-pub(crate) fn made_of_two<'a>(
+/// The result of an operation on two values that creates no text, or `None` if a value has a wrong kind.
+#[inline]
+pub(crate) fn computed<'a>(what: Two, x: Operand<'a>, y: Operand<'a>) -> Option<Operand<'a>>
+    requires { joins what ≡ false }
+    ensures { option_map arg_of result ≡ two_of what (arg_of x.entry) (arg_of y.entry) }
+{
+    match (what, x, y) {
+        (Two::Same, _, _) => Some(Operand::Truth(is_same(x, y))),
+        (Two::Add, Operand::Number(x), Operand::Number(y)) => {
+            Some(Operand::Number(x.saturating_add(y)))
+        }
+        (Two::Sub, Operand::Number(x), Operand::Number(y)) => {
+            Some(Operand::Number(x.saturating_sub(y)))
+        }
+        (Two::Less, Operand::Number(x), Operand::Number(y)) => Some(Operand::Truth(x < y)),
+        _ => None,
+    }
+}
+
+/// The first of two texts followed by the second, or `None` if a value is no text.
+pub(crate) fn joined<'a>(
     arena: &'a Arena,
-    what: Two,
     x: Operand<'a>,
     y: Operand<'a>,
 ) -> Result<Option<Operand<'a>>, NoMemory>
     ensures made { IfOk result (λ made. option_map arg_of made
-        ≡ two_of what (arg_of x.entry) (arg_of y.entry)) }
-    ensures joins { OnErr result (what ≡ Join) }
-    ensures takes { OnErr result (IsSome (two_of what (arg_of x.entry) (arg_of y.entry))) }
+        ≡ two_of Join (arg_of x.entry) (arg_of y.entry)) }
+    ensures takes { OnErr result (IsSome (two_of Join (arg_of x.entry) (arg_of y.entry))) }
 {
-    match (what, x, y) {
-        (Two::Same, _, _) => Ok(Some(Operand::Truth(is_same(x, y)))),
-        (Two::Join, Operand::Text(x), Operand::Text(y)) => {
-            Ok(Some(Operand::Text(arena.joined(x, y)?)))
-        }
-        (Two::Add, Operand::Number(x), Operand::Number(y)) => {
-            Ok(Some(Operand::Number(x.saturating_add(y))))
-        }
-        (Two::Sub, Operand::Number(x), Operand::Number(y)) => {
-            Ok(Some(Operand::Number(x.saturating_sub(y))))
-        }
-        (Two::Less, Operand::Number(x), Operand::Number(y)) => Ok(Some(Operand::Truth(x < y))),
+    match (x, y) {
+        (Operand::Text(x), Operand::Text(y)) => Ok(Some(Operand::Text(arena.joined(x, y)?))),
         _ => Ok(None),
     }
 }

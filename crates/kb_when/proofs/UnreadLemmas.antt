@@ -125,6 +125,11 @@ whole n (p ∷ ps) (false ∷ marks) h =
     let lt : n < suc n = omega arith in
     λ i. later n (suc n) ps marks lt i ∷ whole (suc n) ps marks h.1 i
 
+-- a clause whose marks are right is what its own unread patterns make of its tree
+pub marked_back : (c : MarkedClause) → AreRight (patterns_of c.tree) c.marks → marked_by (unread_of c) c.tree ≡ c
+marked_back c right =
+    ap (λ (l : List Bool). record { tree = c.tree; marks = l }) (whole 0 (patterns_of c.tree) c.marks right)
+
 pub marked_whole : (m : Marked) (us : List UnreadPattern) (c : MarkedClause) → IsKept m us → beside m ≡ c
     → marked_by us c.tree ≡ c
 marked_whole m us c k e =

@@ -7,7 +7,7 @@ use Rattle.kb_execute.specs.Start.{behind, started, started_as}
 
 pub returns-in-Some-clause-ok : goal.returns-in-Some-clause-ok
 returns-in-Some-clause-ok g c =
-    let native = g.C.HostCommand.stands_for c.in-Some.closure.now in
+    let native = c.in-Some.closure in
     let is = native_callee c.args.command.now c.args.registry.now c.args.native native c.requires
     (sym c.in-Some.ensures.native) in
     subst
