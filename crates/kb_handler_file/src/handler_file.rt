@@ -1,14 +1,16 @@
 //! Handler files.
-ghost use Rattle.std.specs.Prelude.{◌≡◌, ◌≤◌, Some, option_map, IfErr, IfOk, IsOk};
+ghost use Rattle.std.specs.Prelude.{◌≡◌, ◌≤◌, Result, Some, option_map, IfErr, IfOk, IsOk};
 ghost use Rattle.std.specs.Result.{result_err};
 ghost use Rattle.serde_json.specs.View.{view, items_view, members_view};
 ghost use Rattle.kb_base.specs.declared.failure.Failure.TheVariants.{NoMemory};
 ghost use Rattle.kb_base.specs.Failure.{Gives, IsFaultAnd};
 ghost use Rattle.kb_base.specs.Reading.{seen};
-ghost use Rattle.kb_jsonc.specs.Mismatch.{GivesOr, faulted};
+ghost use Rattle.kb_code.specs.declared.code.Code.{Code};
+ghost use Rattle.kb_jsonc.specs.Mismatch.{FailsFor, GivesOr, faulted};
 ghost use Rattle.kb_jsonc.specs.Mismatch.{fault_at as shape_at};
 ghost use Rattle.kb_jsonc.specs.Parts.{listed};
-ghost use Rattle.kb_handler_file.specs.Fault.{fault_at};
+ghost use Rattle.kb_handler_file.specs.Fault.{fault_at, fault_of};
+ghost use Rattle.kb_handler_file.specs.declared.fault.HandlersFault.{HandlersFault};
 ghost use Rattle.kb_handler_file.specs.HandlerFile.{head_of, list_in, list_of, handlers_of, version_of};
 ghost use Rattle.kb_handler_file.specs.Head.{parts_of};
 ghost use Rattle.kb_handler_file.specs.HandlerFile.{each_read, code_within, handler_by, handler_in};
@@ -257,8 +259,22 @@ fn code_within(
 {
     few_texts(&written.texts, in_handler(handler, "texts"))?;
     few_texts(&written.calls, in_handler(handler, "calls"))?;
-    let place = in_handler(handler, "code");
-    read_code(alloc, written.code.as_str(), version).map_err(|failure| failure.map_fault(
-        |expected| Mismatch { place, expected },
-    ))
+    match read_code(alloc, written.code.as_str(), version) {
+        Ok(code) => Ok(code),
+        Err(failure) => Err(failed_at(failure, in_handler(handler, "code"))),
+    }
+}
+
+/// A failure to read the code at this place.
+fn failed_at(
+    failure: Failure<HandlersExpected>,
+    place: Place<'static>,
+) -> Failure<Mismatch<'static, HandlersExpected>>
+    ensures { (meant : Result Code HandlersFault) → FailsFor fault_of failure meant
+        → FailsFor fault_at result meant }
+{
+    match failure {
+        Failure::NoMemory => Failure::NoMemory,
+        Failure::Fault(expected) => Failure::Fault(Mismatch { place, expected }),
+    }
 }

@@ -22,7 +22,7 @@ use Rattle.kb_manifest.specs.Command as command
 use Rattle.kb_manifest.specs.Judged.{AllRight}
 use Rattle.kb_manifest.specs.PaletteItem as item
 use Rattle.kb_jsonc.specs.Parts.{◌>>=◌, lacks, optional, listed, texts_of, word_of}
-use Rattle.kb_manifest.specs.Points.{Held, no_points, points_in, seen_points}
+use Rattle.kb_manifest.specs.Points.{Held, contributions_of, seen_points}
 
 -- what a package holds: the manifest, and the entries of its key rules as in the file
 pub record Stated : Type 0 where
@@ -50,12 +50,16 @@ id_of name publisher = do
   publisher ← publisher_of publisher
   Some ((publisher ++ codes ".") ++ extension)
 
+-- the identifiers that an extension depends on, none where they are absent
+unfoldable pub dependencies_of : Option Data → Option (List (List ℕ))
+dependencies_of ids = optional [] texts_of ids
+
 -- what members say, where each part has its shape
 abbrev pub head_in : Members → Option Outline
 head_in ms = do
   id ← id_of (get_member (codes "name") ms) (get_member (codes "publisher") ms)
-  dependencies ← optional [] texts_of (get_member (codes "extensionDependencies") ms)
-  points ← optional no_points points_in (get_member (codes "contributes") ms)
+  dependencies ← dependencies_of (get_member (codes "extensionDependencies") ms)
+  points ← contributions_of (get_member (codes "contributes") ms)
   Some (record { id = id; dependencies = dependencies; points = points })
 
 -- what an object says, where each part has its shape

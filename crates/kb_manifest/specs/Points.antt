@@ -23,23 +23,35 @@ entries_of (string s) = None
 entries_of (array ds) = Some (listed ds)
 entries_of (object ms) = Some (object ms ∷ [])
 
+-- the entries of a point, none where its member is absent
+unfoldable pub point_of : Option Data → Option (List Data)
+point_of point = optional [] entries_of point
+
 -- the palette's menu in the menus of a manifest
 unfoldable pub palette_of : Data → Option (List Data)
 palette_of menus = do
   members ← as_object menus
-  optional [] entries_of (get (codes "commandPalette") menus)
+  point_of (get (codes "commandPalette") menus)
 
--- what the contributions of a manifest hold, by their members; a point that is absent has no entry
+-- the palette's menu, none where the menus are absent
+unfoldable pub menu_of : Option Data → Option (List Data)
+menu_of menus = optional [] palette_of menus
+
+-- what the contributions of a manifest hold, by their members
 abbrev pub points_by : Members → Option Held
 points_by ms = do
-  commands ← optional [] entries_of (get_member (codes "commands") ms)
-  keybindings ← optional [] entries_of (get_member (codes "keybindings") ms)
-  palette ← optional [] palette_of (get_member (codes "menus") ms)
+  commands ← point_of (get_member (codes "commands") ms)
+  keybindings ← point_of (get_member (codes "keybindings") ms)
+  palette ← menu_of (get_member (codes "menus") ms)
   Some (record { commands = commands; keybindings = keybindings; palette = palette })
 
 -- what the contributions of a manifest hold
 unfoldable pub points_in : Data → Option Held
 points_in d = as_object d >>= points_by
+
+-- the same, nothing where they are absent
+unfoldable pub contributions_of : Option Data → Option Held
+contributions_of d = optional no_points points_in d
 
 -- the same of points that were taken out of a manifest
 abbrev pub seen_points : Points → Held

@@ -8,8 +8,8 @@ ghost use Rattle.kb_base.specs.Reading.{or_fault};
 ghost use Rattle.kb_jsonc.specs.declared.file_fault.FileFault.TheVariants.{WrongShape};
 ghost use Rattle.kb_jsonc.specs.declared.mismatch.Expected.TheVariants.{Word};
 ghost use Rattle.kb_jsonc.specs.Mismatch.{GivesOr, fault_at};
-ghost use Rattle.kb_jsonc.specs.Parts.{optional, texts_of};
 ghost use Rattle.kb_manifest.specs.Manifest.{publisher_of, id_of, seen_head, head_in, head_of};
+ghost use Rattle.kb_manifest.specs.Manifest.{dependencies_of};
 ghost use Rattle.kb_manifest.specs.Manifest.{seen_package, told_by, contributed, package_of, IsRead};
 ghost use Rattle.kb_manifest.specs.Manifest.{outline_of, IsRightIn, IsRightBy};
 
@@ -181,11 +181,12 @@ fn ids_of(alloc: Global, texts: Seq<Text>) -> Result<Seq<ExtensionId>, NoMemory>
 
 /// The identifiers of the extensions that one depends on, taken out of its members, none where theirs is
 /// absent. The contributions stay.
+#[tactic(auto, unfolding(crate::specs::Manifest::dependencies_of))]
 fn read_dependencies(
     alloc: Global,
     members: &mut Map<String, Value>,
 ) -> Result<Seq<ExtensionId>, Failure<Mismatch<'static, Expected>>>
-    ensures ids { GivesOr fault_at (λ ids. ids) result (or_fault WrongShape (optional [] texts_of
+    ensures ids { GivesOr fault_at (λ ids. ids) result (or_fault WrongShape (dependencies_of
         (get_member (codes "extensionDependencies") (members_view members.old.entries)))) }
     ensures contributes { get_member (codes "contributes") (members_view members.new.entries)
         ≡ get_member (codes "contributes") (members_view members.old.entries) }

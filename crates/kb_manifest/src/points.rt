@@ -4,9 +4,9 @@ ghost use Rattle.serde_json.specs.View.{view, items_view, members_view};
 ghost use Rattle.kb_base.specs.Reading.{or_fault};
 ghost use Rattle.kb_jsonc.specs.declared.file_fault.FileFault.TheVariants.{WrongShape};
 ghost use Rattle.kb_jsonc.specs.Mismatch.{GivesOr, fault_at, path_of};
-ghost use Rattle.kb_jsonc.specs.Parts.{optional, listed};
-ghost use Rattle.kb_manifest.specs.Points.{entries_of, palette_of, no_points, points_by, points_in};
-ghost use Rattle.kb_manifest.specs.Points.{seen_points};
+ghost use Rattle.kb_jsonc.specs.Parts.{listed};
+ghost use Rattle.kb_manifest.specs.Points.{contributions_of, entries_of, menu_of, palette_of, point_of};
+ghost use Rattle.kb_manifest.specs.Points.{points_by, points_in, seen_points};
 
 use kb_base::{Failure, NoMemory};
 use kb_jsonc::{Expected, Mismatch, Place, members_in, take_member};
@@ -69,13 +69,14 @@ fn entries_in(
 }
 
 /// The entries of the point at a place, none where its member is absent.
+#[tactic(auto, unfolding(crate::specs::Points::point_of))]
 fn entries_at(
     alloc: Global,
     point: Option<Value>,
     place: Place<'static>,
 ) -> Result<Vec<Value>, Failure<Mismatch<'static, Expected>>>
     ensures { GivesOr fault_at (λ list. listed (items_view list.items)) result
-        (or_fault WrongShape (optional [] entries_of (option_map view point))) }
+        (or_fault WrongShape (point_of (option_map view point))) }
 {
     match point {
         Some(point) => entries_in(alloc, point, place),
@@ -84,12 +85,13 @@ fn entries_at(
 }
 
 /// The entries of the palette's menu, none where `menus` or its member is absent.
+#[tactic(auto, unfolding(crate::specs::Points::menu_of))]
 fn palette_at(
     alloc: Global,
     menus: Option<Value>,
 ) -> Result<Vec<Value>, Failure<Mismatch<'static, Expected>>>
     ensures { GivesOr fault_at (λ list. listed (items_view list.items)) result
-        (or_fault WrongShape (optional [] palette_of (option_map view menus))) }
+        (or_fault WrongShape (menu_of (option_map view menus))) }
 {
     match menus {
         Some(menus) => palette_in(alloc, menus),
@@ -119,12 +121,13 @@ fn palette_in(
 }
 
 /// What the points hold, nothing where `contributes` is absent.
+#[tactic(auto, unfolding(crate::specs::Points::contributions_of))]
 pub(crate) fn read_points(
     alloc: Global,
     contributes: Option<Value>,
 ) -> Result<Points, Failure<Mismatch<'static, Expected>>>
     ensures { GivesOr fault_at seen_points result
-        (or_fault WrongShape (optional no_points points_in (option_map view contributes))) }
+        (or_fault WrongShape (contributions_of (option_map view contributes))) }
 {
     match contributes {
         Some(contributes) => points_in(alloc, contributes),

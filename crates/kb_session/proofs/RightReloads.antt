@@ -1,5 +1,5 @@
 -- The marks of the rules that a reload brings.
-use Rattle.std.proofs.Common.{◌≡◌, ◌×◌, ℕ, List, [], None, Result, Ok, Err, sym, subst}
+use Rattle.std.proofs.Common.{◌≡◌, ℕ, List, [], None, Result, Ok, Err, sym, subst}
 use Rattle.std.specs.Prelude.{IfOk}
 use Rattle.serde_json.specs.Data.{Data}
 use Rattle.kb_base.specs.Reading.{seen}
