@@ -12,12 +12,12 @@ use Rattle.kb_rules.specs.RuleList.{AreRightlyMarked, Listed}
 use Rattle.kb_session.specs.State.{IsRightlyTold, reload}
 
 -- what was read is marked as its patterns are
-told_rightly : (bytes : List ℕ) (user : Listed) → rules_in user.unread User bytes ≡ Ok user
+pub told_rightly : (bytes : List ℕ) (user : Listed) → rules_in user.unread User bytes ≡ Ok user
     → AreRightlyMarked user → IsRightlyTold (reload bytes user.unread)
 told_rightly bytes user is right = subst (λ (r : Result Listed Refusal). IfOk r AreRightlyMarked) (sym is) right
 
 -- a file that is refused has no patterns
-told_refused : (bytes : List ℕ) (marks : List EntryPattern) (refusal : Refusal)
+pub told_refused : (bytes : List ℕ) (marks : List EntryPattern) (refusal : Refusal)
     → rules_in marks User bytes ≡ Err refusal → IsRightlyTold (reload bytes marks)
 told_refused bytes marks refusal is = subst (λ (r : Result Listed Refusal). IfOk r AreRightlyMarked) (sym is) tt
 
