@@ -179,7 +179,8 @@ lacks (Some said) old new a b n session before part =
 pub line_lacks : (marks : List EntryPattern) (number : ℕ) (line : List ℕ) (read : Option Said)
     (old new : Traced Stand) (a b : Option (List ℕ)) (n : ℕ) (refused : WriteRefused)
     → read ≡ line_said number line → new ≡ after_all move (with_marks marks read) old
-    → AreRightlySaid (with_marks marks read) → n ≡ length old.trace → AppendsPart a b (text_of_lines (drop n new.trace))
+    → AreRightlySaid (with_marks marks read) → n ≡ length old.trace
+    → AppendsPart a b (text_of_lines (drop n new.trace))
     → BreaksSaid (Fault refused) (option_to_list (line_said number line)) old new a b
 line_lacks marks number line read old new a b n refused is moved right before part =
     let session : new ≡ after_all move (said_at marks number line) old =
