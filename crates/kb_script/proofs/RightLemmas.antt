@@ -13,7 +13,7 @@ all_right-append [] ys h k = k
 all_right-append (x ∷ xs) ys h k = (h.0, all_right-append xs ys h.1 k)
 
 -- the same line, with right marks
-right_told : Told → Told
+abbrev pub right_told : Told → Told
 right_told (happens e) = happens e
 right_told (reload bytes marks) = reload bytes (right_reload bytes).0
 right_told (register native) = register native
