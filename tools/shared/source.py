@@ -92,7 +92,10 @@ def impl_at(words, at):
         parameters = [it for it, after in pairs if re.match(r"\w", it) and after in ",:>"]
         head = head[end + 1 :]
     if "for" not in head:
-        return squeezed(head, parameters), ""
+        # (a block for one instance of a type has a plus sign before the instance's own types)
+        end = head.index("<") if "<" in head else len(head)
+        of_instance = squeezed(head[end:], parameters)
+        return squeezed(head[:end], parameters) + (of_instance and f"+{of_instance}"), ""
     cut = head.index("for")
     trait = head[:cut]
     # A name has only the last word of the trait's own path, but all words of its parameters.

@@ -70,6 +70,19 @@ impl From<Given> for Count {
     }
 }
 
+#[derive(Clone, Copy)]
+pub struct Held<T> {
+    pub held: T,
+}
+
+impl Held<u8> {
+    pub fn number(self) -> u8
+        ensures { result ≡ self.held }
+    {
+        self.held
+    }
+}
+
 pub fn counted(number: u8) -> Count
     ensures { result.number ≡ number }
 {
@@ -113,6 +126,7 @@ EDITS = {
     "number_is_lost": ("    given", "    0", "in a batch"),
     "inner_closure_gives_none": ("inner.map(|_| number)", "inner.map(|_| 0)", "in a batch"),
     "constant_is_four": ("LIMIT: u8 = 3", "LIMIT: u8 = 4", "in a batch"),
+    "instance_gives_none": ("        self.held", "        0", "in a batch"),
     "trait_counts_none": ("number: given.number", "number: 0", "in a batch"),
     "trait_counts_one": ("number: given.number", "number: 1", "in a batch"),
     "caller_counts_none": ("Given { number })", "Given { number: 0 })", "in a batch"),
