@@ -13,4 +13,5 @@ pub mod request;
 pub mod running;
 pub mod words;
 
-pub use running::keycheck;
+pub use reason::Reasons;
+pub use running::{keycheck, keycheck_over};
