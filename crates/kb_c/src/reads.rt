@@ -24,11 +24,11 @@ pub extern "C" fn pafjirn_read(
     ensures copied { into.new
         ≡ over (take (length into.old) (drop from (text_held part h.old.value))) into.old }
 {
-    let Some(engine) = h.take(alloc) else {
+    let Some(hosted) = h.take(alloc) else {
         return read_over(&[], from, into);
     };
-    let length = engine.read(part, from, into);
-    h.put(alloc, engine);
+    let length = hosted.engine.read(part, from, into);
+    h.put(alloc, hosted);
     length
 }
 
@@ -39,11 +39,11 @@ pub extern "C" fn pafjirn_taken(alloc: Global, h: &mut Handle) -> u32
     ensures same { h.new.value ≡ h.old.value }
     ensures kind { result ≡ kind_held h.old.value }
 {
-    let Some(engine) = h.take(alloc) else {
+    let Some(hosted) = h.take(alloc) else {
         return 0;
     };
-    let kind = engine.kind();
-    h.put(alloc, engine);
+    let kind = hosted.engine.kind();
+    h.put(alloc, hosted);
     kind
 }
 
@@ -53,11 +53,11 @@ pub extern "C" fn pafjirn_place(alloc: Global, h: &mut Handle) -> usize
     ensures same { h.new.value ≡ h.old.value }
     ensures place { result ≡ place_held h.old.value }
 {
-    let Some(engine) = h.take(alloc) else {
+    let Some(hosted) = h.take(alloc) else {
         return 0;
     };
-    let place = engine.taken().place;
-    h.put(alloc, engine);
+    let place = hosted.engine.taken().place;
+    h.put(alloc, hosted);
     place
 }
 
@@ -67,11 +67,11 @@ pub extern "C" fn pafjirn_entries(alloc: Global, h: &mut Handle) -> usize
     ensures same { h.new.value ≡ h.old.value }
     ensures count { result ≡ entries_held h.old.value }
 {
-    let Some(engine) = h.take(alloc) else {
+    let Some(hosted) = h.take(alloc) else {
         return 0;
     };
-    let count = engine.entries().len();
-    h.put(alloc, engine);
+    let count = hosted.engine.entries().len();
+    h.put(alloc, hosted);
     count
 }
 
@@ -91,10 +91,10 @@ pub extern "C" fn pafjirn_entry(
     ensures copied { into.new
         ≡ over (take (length into.old) (drop from (entry_held number part h.old.value))) into.old }
 {
-    let Some(engine) = h.take(alloc) else {
+    let Some(hosted) = h.take(alloc) else {
         return read_over(&[], from, into);
     };
-    let length = engine.read_entry(number, part, from, into);
-    h.put(alloc, engine);
+    let length = hosted.engine.read_entry(number, part, from, into);
+    h.put(alloc, hosted);
     length
 }

@@ -1,5 +1,5 @@
 -- What a desk does: it keeps files, and runs `keycheck` over them.
-use Rattle.std.specs.Prelude.{◌≡◌, ◌≤◌, ℕ, List, [], Option, Some, None}
+use Rattle.std.specs.Prelude.{◌≡◌, ◌≤◌, ℕ, List, [], Option, Some, None, nat_eq, if◌then◌else◌}
 use Rattle.std.specs.FinMap.{FinMap, empty, get}
 use Rattle.std.specs.Ordering.{nat_cmp}
 use Rattle.std.specs.Cmp.Lexicographic.{slice_cmp}
@@ -26,3 +26,7 @@ pub record Runs (old new : DeskData) : Type 0 where
   pub words : new.words ≡ []
   pub runs : RunsLine (held_in old.files) old.words new.status
   pub table : new.status ≤ 4
+
+-- what a run wrote to a stream
+abbrev pub written : ℕ → DeskData → List ℕ
+written stream desk = if nat_eq stream 0 then desk.output else (if nat_eq stream 1 then desk.errors else [])

@@ -1,7 +1,7 @@
 //! Files by their paths, the words of a command line, and what the last run of `keycheck` wrote.
 ghost use Rattle.std.specs.Prelude.{◌≡◌, ◌≤◌, ◌++◌, ◌∷◌, [], OnErr, OnOk};
 ghost use Rattle.std.specs.FinMap as map;
-ghost use Rattle.kb_hosted_keycheck.specs.Desk.{Runs, new_desk};
+ghost use Rattle.kb_hosted_keycheck.specs.Desk.{Runs, new_desk, written};
 
 use crate::memory_files::MemoryFiles;
 use crate::streams::Streams;
@@ -25,9 +25,18 @@ pub struct Desk {
 
 impl Model for Desk {
     ghost use Rattle.std.specs.Prelude.{map as mapped, string_bytes};
+    ghost use Rattle.std.specs.Coded.{codes, coded_list, coded_ℕ};
+    ghost use Rattle.std.specs.FinMap as map;
+    ghost use Rattle.std.specs.Ordering.{nat_cmp};
+    ghost use Rattle.std.specs.Cmp.Lexicographic.{slice_cmp};
     ghost use Rattle.kb_hosted_keycheck.specs.Values.{DeskData};
 
     ghost Value = { DeskData };
+
+    ghost coded = { Prim.hlevel (
+      codes,
+      map.code {R = slice_cmp nat_cmp} (coded_list coded_ℕ) (coded_list coded_ℕ),
+    ) };
 
     ghost view = { λ d. record {
       files = d.files;
@@ -104,17 +113,14 @@ impl Desk {
         self.status
     }
 
-    /// What the last run wrote to standard output.
-    pub fn output(&self) -> &[u8]
-        ensures { result.now ≡ self.now.output }
+    /// What the last run wrote: 0 is standard output, 1 standard error; nothing for any other number.
+    pub fn written(&self, stream: u32) -> &[u8]
+        ensures { result.now ≡ written stream self.now }
     {
-        self.output.as_slice()
-    }
-
-    /// What the last run wrote to standard error.
-    pub fn errors(&self) -> &[u8]
-        ensures { result.now ≡ self.now.errors }
-    {
-        self.errors.as_slice()
+        match stream {
+            0 => self.output.as_slice(),
+            1 => self.errors.as_slice(),
+            _ => &[],
+        }
     }
 }

@@ -137,7 +137,8 @@ fn obey_command<R: Print + Eprint, F: FileSource + Reasons>(
     matches: &ArgMatches<'_>,
     files: &F,
 ) -> u8
-    ensures does { (result ≡ 4) ⊎ DoesCommand (F.held files.now) command (rows_of (found_of matches.now)) result }
+    ensures does { (result ≡ 4)
+        ⊎ DoesCommand (F.held files.now) command (rows_of (found_of matches.now)) result }
     ensures table { result ≤ 4 }
 {
     let Ok(mut out) = BufWriter::new(alloc, io::writer(rt)) else {
