@@ -238,8 +238,8 @@ PAFJIRN_NONNULL size_t pafjirn_entry(pafjirn_handle *engine, uint32_t number, ui
                                      uint8_t *into, size_t room);
 
 /* The program keycheck over files in memory, beside the engine: nothing of it changes the session, and the
- * files of pafjirn_file aren't among those of pafjirn_put. Put the files, add the words of a command line, run
- * it, and read what it wrote:
+ * files of pafjirn_file aren't among those of pafjirn_put. Put the files, add the words of a command line,
+ * run it, and read what it wrote:
  *
  *     pafjirn_put(&engine, "keybindings.json", 16, rules, rules_length);
  *     pafjirn_word(&engine, "keycheck", 8);
