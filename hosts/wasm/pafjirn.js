@@ -12,10 +12,11 @@
 // synchronous, and take some microseconds. tools/build-wasm makes the module pafjirn.wasm.
 
 import { ANSWERS, EngineError, LoadRefused } from "./errors.js";
+import { Keycheck } from "./keycheck.js";
 import { keystroke } from "./keys.js";
-import { Module } from "./module.js";
+import { Module, OF_MODULE, bytesOf } from "./module.js";
 
-export { EngineError, LoadRefused, keystroke };
+export { EngineError, Keycheck, LoadRefused, keystroke };
 
 // The numbers of include/pafjirn.h. tools/check-wasm compares them.
 const FILES = { layout: 0, defaults: 1, user: 2 };
@@ -34,7 +35,6 @@ const NATIVES = [
   "type", "deleteLeft", "deleteRight", "cursorLeft", "cursorRight", "buffer.clear", "buffer.top",
   "buffer.bottom", "setContext",
 ];
-const OF_MODULE = Symbol("the constructor's secret");
 
 /** An engine that is loaded. */
 export class Engine {
@@ -301,6 +301,11 @@ export class Pafjirn {
     return new Engine(OF_MODULE, this.#module, files);
   }
 
+  /** The program keycheck, without files. */
+  keycheck() {
+    return new Keycheck(OF_MODULE, this.#module);
+  }
+
   /** How many bytes of the module's memory are in use. */
   get bytesInUse() {
     return Number(this.#module.call("in_use"));
@@ -315,6 +320,11 @@ export class Pafjirn {
   get dead() {
     return this.#module.dead;
   }
+}
+
+/** The program keycheck, without files, in the module of `Engine.load`. */
+export async function keycheck() {
+  return (await shared()).keycheck();
 }
 
 // The module of Engine.load. If it died, another one takes its place.
@@ -403,11 +413,4 @@ function decoded(text) {
     if (wrong instanceof RangeError) throw wrong;
     throw new EngineError(ANSWERS.NO_TEXT, { cause: wrong });
   }
-}
-
-function bytesOf(text) {
-  if (typeof text === "string" || text instanceof Uint8Array) return text;
-  if (text instanceof ArrayBuffer) return new Uint8Array(text);
-  if (ArrayBuffer.isView(text)) return new Uint8Array(text.buffer, text.byteOffset, text.byteLength);
-  throw new TypeError("give a text, or bytes");
 }
