@@ -32,7 +32,11 @@ PAGES, MOST_PAGES = 16, 16384
 TYPES = ["--strict", "--noEmit", "--target", "es2022", "--lib", "es2022,dom"]
 TYPES += ["--module", "node16", "--moduleResolution", "node16"]
 # The objects of the package that have the numbers of the header.
-NUMBERS = {"errors.js": ["ANSWERS"], "pafjirn.js": ["FILES", "PLATFORMS", "PARTS", "ENTRY_PARTS", "TAKEN"]}
+NUMBERS = {
+    "errors.js": ["ANSWERS"],
+    "keycheck.js": ["STREAMS"],
+    "pafjirn.js": ["FILES", "PLATFORMS", "PARTS", "ENTRY_PARTS", "TAKEN"],
+}
 
 
 def node(prefix, test, *words, flags=()):
