@@ -95,9 +95,9 @@ enum { PAFJIRN_LAYOUT = 0, PAFJIRN_DEFAULTS = 1, PAFJIRN_USER = 2 };
  * (registered), a line that was no event (unread line), and what a reload and a change of an extension did.
  *
  * Where runCommands names a command of the host's own, the answer is PAFJIRN_NOT_FOUND, and the record has
- * runCommands with the arguments of the rule. The last line of the trace that begins with `run ` names the
- * command; the number of such lines is its number in the list, from 1. Those above it ran, and those below it
- * didn't. So it is with a command whose arguments don't fit. */
+ * runCommands with the arguments of the rule. PAFJIRN_STEP is the command, and pafjirn_steps its number in
+ * the list, from 1. Those above it ran, and those below it didn't. So it is with a command whose arguments
+ * don't fit. (Don't look for it in the lines of the trace: a command's name may have a line feed in it.) */
 enum {
     PAFJIRN_TRACE = 0,     /* the trace lines of the last event, each with a line feed behind it */
     PAFJIRN_NOTICE = 1,    /* the warnings of the load, or why it was refused, in lines */
@@ -106,7 +106,8 @@ enum {
     PAFJIRN_ARGUMENTS = 4, /* the arguments of its rule as JSON, or nothing */
     PAFJIRN_SOURCE = 5,    /* the file of its rule: defaults, user, or the identifier of an extension */
     PAFJIRN_BEFORE = 6,    /* the text before the caret */
-    PAFJIRN_AFTER = 7      /* the text behind the caret */
+    PAFJIRN_AFTER = 7,     /* the text behind the caret */
+    PAFJIRN_STEP = 8       /* the command of the last step of runCommands that began in the last event */
 };
 
 /* What the last event did, for pafjirn_taken. */
@@ -227,6 +228,10 @@ PAFJIRN_NONNULL uint32_t pafjirn_taken(pafjirn_handle *engine);
  * contributes.keybindings of its package.json. It is also 0 where no rule was taken: then PAFJIRN_SOURCE is
  * empty. */
 PAFJIRN_NONNULL size_t pafjirn_place(pafjirn_handle *engine);
+
+/* Returns how many steps of runCommands began in the last event. PAFJIRN_STEP is the command of the last one.
+ * It is 0 behind any other event, and without an engine. */
+PAFJIRN_NONNULL size_t pafjirn_steps(pafjirn_handle *engine);
 
 /* Returns the number of entries of the last palette, until one of them is chosen. It is 0 without a palette,
  * and without an engine. */

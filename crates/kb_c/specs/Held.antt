@@ -6,7 +6,7 @@ use denote.RawPtr.{Ptr}
 use mir.Syntax.{Ty}
 use Rattle.std.specs.contracts.impls.GlobalAllocator.TheImpl.{ghosts}
 use Rattle.std_alloc.specs.Box.Ownership.{box_owns}
-use Rattle.kb_engine.specs.Engine.{entries_of, entry_text, kind_number, new_engine, numbered_text}
+use Rattle.kb_engine.specs.Engine.{entries_of, entry_text, kind_number, new_engine, numbered_text, steps_of}
 use Rattle.kb_engine.specs.Values.{EngineData}
 use Rattle.kb_hosted_keycheck.specs.Desk.{new_desk}
 use Rattle.kb_hosted_keycheck.specs.Values.{DeskData}
@@ -57,6 +57,11 @@ kind_held (Some e) = kind_number e.engine.taken.kind
 abbrev pub place_held : Option Hosted → ℕ
 place_held None = 0
 place_held (Some e) = e.engine.taken.place
+
+-- how many steps of `runCommands` began in the last event
+abbrev pub steps_held : Option Hosted → ℕ
+steps_held None = 0
+steps_held (Some e) = steps_of e.engine.running
 
 -- how many entries the last palette has
 abbrev pub entries_held : Option Hosted → ℕ

@@ -1,6 +1,6 @@
 //! What C reads of an engine. No read changes it. Without an engine a text is empty, and a number is 0.
 ghost use Rattle.std.specs.Prelude.{◌≡◌, length, take, drop};
-ghost use Rattle.kb_c.specs.Held.{entries_held, entry_held, kind_held, place_held, text_held};
+ghost use Rattle.kb_c.specs.Held.{entries_held, entry_held, kind_held, place_held, steps_held, text_held};
 ghost use Rattle.kb_engine.specs.Engine.{over};
 
 use crate::handle::Handle;
@@ -10,7 +10,7 @@ use std::alloc::Global;
 /// Copies a text from a place on, as much as there is room for, and returns the length of the whole text: 0
 /// is the trace of the last event, 1 the notice of the load, 2 to 5 what the last event took (the keystrokes
 /// so far, the command, its arguments as JSON, the rule's file), 6 and 7 the text before and behind the
-/// caret.
+/// caret, 8 the command of the last step of `runCommands` that began.
 #[unsafe(no_mangle)]
 pub extern "C" fn pafjirn_read(
     alloc: Global,
@@ -59,6 +59,20 @@ pub extern "C" fn pafjirn_place(alloc: Global, h: &mut Handle) -> usize
     let place = hosted.engine.taken().place;
     h.put(alloc, hosted);
     place
+}
+
+/// How many steps of `runCommands` began in the last event. Text 8 is the command of the last one.
+#[unsafe(no_mangle)]
+pub extern "C" fn pafjirn_steps(alloc: Global, h: &mut Handle) -> usize
+    ensures same { h.new.value ≡ h.old.value }
+    ensures steps { result ≡ steps_held h.old.value }
+{
+    let Some(hosted) = h.take(alloc) else {
+        return 0;
+    };
+    let steps = hosted.engine.steps();
+    h.put(alloc, hosted);
+    steps
 }
 
 /// The number of entries of the last palette.
