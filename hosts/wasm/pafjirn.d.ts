@@ -60,6 +60,9 @@ export interface EventRecord {
   /** The file of the rule (`defaults`, `user`, or the identifier of an extension) and the number of elements
    * above it there; null without a rule. */
   readonly rule: { readonly source: string; readonly place: number } | null;
+  /** The last step of `runCommands` that began, with its number from 1; null if no list ran. Those above it
+   * ran, and those below it didn't. */
+  readonly step: { readonly number: number; readonly command: string } | null;
   /** Why the event was refused. */
   readonly refusal: Fault | null;
   /** The command of the host that ran (`Engine.command`). */

@@ -21,7 +21,9 @@ export { EngineError, Keycheck, LoadRefused, keystroke };
 // The numbers of include/pafjirn.h. tools/check-wasm compares them.
 const FILES = { layout: 0, defaults: 1, user: 2 };
 const PLATFORMS = { linux: 0, mac: 1, windows: 2 };
-const PARTS = { trace: 0, notice: 1, chord: 2, command: 3, arguments: 4, source: 5, before: 6, after: 7 };
+const PARTS = {
+  trace: 0, notice: 1, chord: 2, command: 3, arguments: 4, source: 5, before: 6, after: 7, step: 8,
+};
 const ENTRY_PARTS = { label: 0, entryCommand: 1 };
 const TAKEN = { nothing: 0, chording: 1, started: 2 };
 
@@ -241,7 +243,7 @@ export class Engine {
 
   #record(ending) {
     const source = this.#read(PARTS.source), written = this.#read(PARTS.arguments);
-    const trace = this.#read(PARTS.trace);
+    const trace = this.#read(PARTS.trace), step = Number(this.#call("steps"));
     return {
       ending,
       kind: KINDS[this.#call("taken")],
@@ -250,6 +252,7 @@ export class Engine {
       arguments: written === "" ? undefined : JSON.parse(written),
       argumentsJson: written === "" ? null : written,
       rule: source === "" ? null : { source, place: Number(this.#call("place")) },
+      step: step === 0 ? null : { number: step, command: this.#read(PARTS.step) },
       refusal: refusalIn(trace),
       ranBy: null,
       trace,
@@ -376,11 +379,9 @@ function refusalIn(trace) {
 }
 
 // The command that the engine lacks, and its arguments. Of runCommands it is the last one that began.
-function missingIn(record) {
-  if (record.command !== "runCommands") return { name: record.command, value: record.arguments };
-  const began = record.trace.split("\n").filter((line) => line.startsWith("run "));
-  const step = record.arguments?.commands?.[began.length - 1];
-  return typeof step === "string" ? { name: step } : { name: step?.command, value: step?.args };
+function missingIn({ command, arguments: value, step }) {
+  if (step === null) return { name: command, value };
+  return { name: step.command, value: value?.commands?.[step.number - 1]?.args };
 }
 
 function linesOf(text) {
