@@ -5,8 +5,11 @@
 
 use std::fmt;
 
+mod keycheck;
 #[allow(unsafe_code)]
 mod sys;
+
+pub use keycheck::{Checked, Keycheck};
 
 /// A file that an engine is loaded from.
 #[derive(Clone, Copy, Debug, PartialEq, Eq)]
@@ -328,7 +331,7 @@ impl Engine {
         match answer {
             sys::DONE => Ok(()),
             sys::REFUSED => Err(Error::Refused(self.handle.text(sys::NOTICE))),
-            answer => Err(self.error_of(answer)),
+            answer => Err(error_of(&mut self.handle, answer)),
         }
     }
 
@@ -339,26 +342,26 @@ impl Engine {
             sys::REFUSED => Ending::Refused,
             sys::NOT_FOUND => Ending::NotFound,
             sys::BAD_ARGUMENTS => Ending::BadArguments,
-            answer => return Err(self.error_of(answer)),
+            answer => return Err(error_of(&mut self.handle, answer)),
         };
         Ok(Told {
             engine: self,
             ending,
         })
     }
+}
 
-    /// The error for an answer that is neither done nor refused.
-    fn error_of(&mut self, answer: u32) -> Error {
-        match answer {
-            sys::OUT_OF_ORDER => Error::OutOfOrder,
-            sys::NO_KEY => Error::NoKey,
-            sys::NO_MEMORY => Error::NoMemory,
-            sys::STOPPED => Error::Stopped,
-            sys::TRAPPED => Error::Trapped {
-                trace: self.handle.text(sys::TRACE),
-            },
-            answer => Error::Unknown(answer),
-        }
+/// The error for an answer that is neither done nor refused.
+fn error_of(handle: &mut sys::Handle, answer: u32) -> Error {
+    match answer {
+        sys::OUT_OF_ORDER => Error::OutOfOrder,
+        sys::NO_KEY => Error::NoKey,
+        sys::NO_MEMORY => Error::NoMemory,
+        sys::STOPPED => Error::Stopped,
+        sys::TRAPPED => Error::Trapped {
+            trace: handle.text(sys::TRACE),
+        },
+        answer => Error::Unknown(answer),
     }
 }
 

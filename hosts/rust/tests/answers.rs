@@ -1,5 +1,6 @@
-//! What the crate answers: to events in and out of order, to refusals, and to what records have.
-use pafjirn::{Ending, Engine, Error, File, Kind, Place, Platform, Value};
+//! What the crate answers: to events in and out of order, to refusals, to what records have, and what runs of
+//! `keycheck` write.
+use pafjirn::{Ending, Engine, Error, File, Keycheck, Kind, Place, Platform, Value};
 
 const LAYOUT: &[u8] = br#"{"scopes":[{"name":"window"},{"name":"editor","parent":"window"}]}"#;
 const RULES: &[u8] = br#"[
@@ -115,5 +116,45 @@ fn a_long_trace_is_read_whole() -> Result<(), Error> {
         .set("window", &name, Value::Truth(true))?
         .read_trace(&mut text);
     assert_eq!(text, format!("set window {name}\n").into_bytes());
+    Ok(())
+}
+
+#[test]
+fn keycheck_shows_what_is_wrong_in_files() -> Result<(), Error> {
+    let mut keycheck = Keycheck::new()?;
+    keycheck.put("ü/keys", b"[\n  {\"key\":\"a\"} ]")?;
+    let words = ["check", "--user", "ü/keys"];
+    let checked = keycheck.run(words)?;
+    assert_eq!((checked.status, &*checked.errors), (1, ""));
+    let shown = "ü/keys:2:3: error: 40 MissingMember: the rule has no member `command`; the rule is dropped\n\
+        \u{20}     {\"key\":\"a\"} ]\n\u{20}     ^\n1 problem: 1 error\n";
+    assert_eq!(checked.output, shown);
+    assert_eq!(keycheck.run(words)?, checked);
+    keycheck.put("ü/keys", b"[]")?;
+    let fine = keycheck.run(words)?;
+    assert_eq!((fine.status, &*fine.output, &*fine.errors), (0, "", ""));
+    keycheck.remove("ü/keys");
+    keycheck.remove("ü/keys");
+    let missing = keycheck.run(words)?;
+    assert_eq!((missing.status, &*missing.output), (3, ""));
+    assert_eq!(
+        missing.errors,
+        "cannot read ü/keys: there is no such file\n"
+    );
+    Ok(())
+}
+
+#[test]
+fn keycheck_gets_the_words_of_one_run_and_its_own_files() -> Result<(), Error> {
+    let mut keycheck = Keycheck::new()?;
+    let none: [&str; 0] = [];
+    assert_eq!(keycheck.run(none)?.status, 2);
+    let version = keycheck.run(vec![String::from("--version")])?;
+    assert_eq!((version.status, &*version.errors), (0, ""));
+    assert!(version.output.starts_with("keycheck "));
+    let mut other = Keycheck::new()?;
+    other.put("k", b"[]")?;
+    assert_eq!(other.run(["list", "--user", "k"])?.status, 0);
+    assert_eq!(keycheck.run(["list", "--user", "k"])?.status, 3);
     Ok(())
 }
