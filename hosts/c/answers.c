@@ -257,7 +257,9 @@ static void chords_and_steps(void) {
     pafjirn_handle engine = {0};
     load(&engine, "{\"scopes\":[{\"name\":\"window\"}]}",
          "[{\"key\":\"a b\",\"command\":\"runCommands\",\"args\":{\"commands\":[\"buffer.top\",\"my.own\"]}},"
-         "{\"key\":\"c\",\"command\":\"type\",\"args\":[]}]",
+         "{\"key\":\"c\",\"command\":\"type\",\"args\":[]},"
+         "{\"key\":\"d\",\"command\":\"runCommands\","
+         "\"args\":{\"commands\":[\"buffer.top\",\"x\\nrun y\"]}}]",
          "{\"name\":\"e\",\"publisher\":\"p\"}");
     expect("a first keystroke", pafjirn_key(&engine, TEXT("a")), PAFJIRN_DONE);
     expect_record(&engine, PAFJIRN_CHORDING, "a", "", "", "");
@@ -266,8 +268,16 @@ static void chords_and_steps(void) {
                   "{\"commands\":[\"buffer.top\",\"my.own\"]}", "user");
     expect_text(&engine, PAFJIRN_TRACE,
                 "key a b: start runCommands\nrun buffer.top\ndone \"\" \"\"\nrun my.own\nnot found my.own\n");
+    expect("the steps that began", pafjirn_steps(&engine), 2);
+    expect_text(&engine, PAFJIRN_STEP, "my.own");
     expect("bad arguments", pafjirn_key(&engine, TEXT("c")), PAFJIRN_BAD_ARGUMENTS);
+    expect("the steps of another command", pafjirn_steps(&engine), 0);
+    expect_text(&engine, PAFJIRN_STEP, "");
+    expect("a step with a line feed", pafjirn_key(&engine, TEXT("d")), PAFJIRN_NOT_FOUND);
+    expect("its number", pafjirn_steps(&engine), 2);
+    expect_text(&engine, PAFJIRN_STEP, "x\nrun y");
     pafjirn_free(&engine);
+    expect("the steps without an engine", pafjirn_steps(&engine), 0);
 }
 
 /* What keycheck shows of a rule without a command. */

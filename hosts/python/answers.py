@@ -12,7 +12,7 @@ from collections.abc import Callable, Iterator
 from typing import Any
 
 from pafjirn import Checked, Ending, Engine, EngineError, Entry, File, Keycheck, Kind, LibraryNotFound
-from pafjirn import LoadRefused, OutOfRange, Platform, WrongThread
+from pafjirn import LoadRefused, OutOfRange, Platform, Step, WrongThread
 
 LAYOUT = b'{"scopes": [{"name": "window"}, {"name": "editor", "parent": "window"}]}'
 RULES = b"""[
@@ -20,6 +20,7 @@ RULES = b"""[
     { "key": "x", "command": "type", "args": "n", "when": "number == -9223372036854775808" },
     { "key": "x", "command": "type", "args": "l", "when": "'b' in list" },
     { "key": "y", "command": "my.own", "args": null },
+    { "key": "s", "command": "runCommands", "args": { "commands": ["buffer.top", "x\\nrun y"] } },
     { "key": "z z", "command": "my.own" },
 ]"""
 MANIFEST = """{
@@ -91,6 +92,9 @@ def records(engine: Engine) -> Iterator[tuple[str, bool]]:
     yield "a command of the host's own", (own.ending, own.command) == (Ending.NOT_FOUND, "my.own")
     yield "its rule", (own.source, own.place) == ("user", 3)
     yield "its arguments", own.arguments is None and own.arguments_json in {None, "null"}
+    yield "no step", own.step is None
+    listed = engine.press("s")
+    yield "a step", (listed.ending, listed.step) == (Ending.NOT_FOUND, Step(2, "x\nrun y"))
     yield "a chord", engine.press("z").kind == Kind.CHORDING
     yield "no arguments", engine.press("z").arguments_json is None
     yield "no key", raises(EngineError, lambda: engine.press("nokey"))

@@ -68,6 +68,7 @@ __all__ = [
     "OutOfRange",
     "Platform",
     "Record",
+    "Step",
     "Value",
     "WrongThread",
 ]
@@ -121,6 +122,7 @@ class _Part(enum.IntEnum):
     SOURCE = 5
     BEFORE = 6
     AFTER = 7
+    STEP = 8
 
 
 class _EntryPart(enum.IntEnum):
@@ -191,6 +193,14 @@ class WrongThread(RuntimeError):
 
 
 @dataclasses.dataclass(frozen=True)
+class Step:
+    """A step of `runCommands`."""
+
+    number: int  # its number in the list, from 1
+    command: str
+
+
+@dataclasses.dataclass(frozen=True)
 class Record:
     """What an event did. Only key presses and choices start commands. The trace has everything else."""
 
@@ -201,6 +211,7 @@ class Record:
     arguments_json: str | None  # the arguments of the rule, as JSON; None without arguments
     source: str | None  # the file of the rule: defaults, user, or the identifier of an extension
     place: int | None  # the number of elements above the rule in its file
+    step: Step | None  # the last step of runCommands that began; those above it ran, those below it didn't
     trace: str  # the lines that the event added to the trace, each with its line feed
 
     @property
@@ -265,6 +276,7 @@ _FUNCTIONS: dict[str, tuple[list[Any], Any]] = {
     "read": ([_NUMBER, _SIZE, *_TEXT], _SIZE),
     "taken": ([], _NUMBER),
     "place": ([], _SIZE),
+    "steps": ([], _SIZE),
     "entries": ([], _SIZE),
     "entry": ([_NUMBER, _NUMBER, _SIZE, *_TEXT], _SIZE),
     "put": ([*_TEXT, *_TEXT], _NUMBER),
@@ -501,8 +513,13 @@ class Engine(_Owner):
             arguments_json=arguments or None,
             source=source or None,
             place=self._library.pafjirn_place(self._handle) if source else None,
+            step=self._step(),
             trace=self._text(_Part.TRACE),
         )
+
+    def _step(self) -> Step | None:
+        number = self._library.pafjirn_steps(self._handle)
+        return Step(number, self._text(_Part.STEP)) if number else None
 
     def text(self) -> tuple[str, str]:
         """The text before the caret, and the text after it."""

@@ -130,8 +130,20 @@ pub struct Record {
     pub arguments: Option<String>,
     /// The rule that was taken.
     pub rule: Option<Place>,
+    /// The last step of `runCommands` that began. Those above it ran, and those below it didn't.
+    pub step: Option<Step>,
     /// The lines that the event added to the trace, each with its line feed.
     pub trace: String,
+}
+
+/// A step of `runCommands`.
+#[derive(Clone, Debug, PartialEq, Eq)]
+#[non_exhaustive]
+pub struct Step {
+    /// Its number in the list, from 1.
+    pub number: usize,
+    /// Its command.
+    pub command: String,
 }
 
 /// Where a rule is.
@@ -399,6 +411,7 @@ impl Told<'_> {
                 source,
                 above: handle.place(),
             }),
+            step: last_step(handle),
             trace: handle.text(sys::TRACE),
         }
     }
@@ -414,6 +427,15 @@ impl Told<'_> {
     pub fn read_trace(self, text: &mut Vec<u8>) {
         self.engine.handle.read_into(sys::TRACE, text);
     }
+}
+
+/// The last step of `runCommands` that began in an event.
+fn last_step(handle: &mut sys::Handle) -> Option<Step> {
+    let number = handle.steps();
+    (number > 0).then(|| Step {
+        number,
+        command: handle.text(sys::STEP),
+    })
 }
 
 /// A text that isn't empty.

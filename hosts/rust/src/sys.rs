@@ -23,6 +23,7 @@ pub const ARGUMENTS: u32 = 4;
 pub const SOURCE: u32 = 5;
 pub const BEFORE: u32 = 6;
 pub const AFTER: u32 = 7;
+pub const STEP: u32 = 8;
 
 pub const CHORDING: u32 = 1;
 pub const STARTED: u32 = 2;
@@ -97,6 +98,7 @@ extern "C" {
     fn pafjirn_read(engine: &mut Raw, part: u32, from: usize, into: *mut u8, room: usize) -> usize;
     fn pafjirn_taken(engine: &mut Raw) -> u32;
     fn pafjirn_place(engine: &mut Raw) -> usize;
+    fn pafjirn_steps(engine: &mut Raw) -> usize;
     fn pafjirn_entries(engine: &mut Raw) -> usize;
     fn pafjirn_entry(
         engine: &mut Raw,
@@ -254,6 +256,11 @@ impl Handle {
     pub fn place(&mut self) -> usize {
         // SAFETY: the handle is one of this file, and the call takes no pointer.
         unsafe { pafjirn_place(&mut self.0) }
+    }
+
+    pub fn steps(&mut self) -> usize {
+        // SAFETY: the handle is one of this file, and the call takes no pointer.
+        unsafe { pafjirn_steps(&mut self.0) }
     }
 
     pub fn entries(&mut self) -> usize {

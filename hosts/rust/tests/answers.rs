@@ -8,7 +8,8 @@ const RULES: &[u8] = br#"[
     {"key":"x","command":"type","args":"n","when":"number == -7"},
     {"key":"x","command":"type","args":"w","when":"word == b"},
     {"key":"a b","command":"my.own"},
-    {"key":"e","command":""}
+    {"key":"e","command":""},
+    {"key":"s","command":"runCommands","args":{"commands":["buffer.top",{"command":"x\nrun y"}]}}
 ]"#;
 const MANIFEST: &str = r#"{"name":"e","publisher":"p","contributes":{"commands":[
     {"command":"buffer.top","title":"Größe"}]}}"#;
@@ -73,6 +74,11 @@ fn records_have_what_an_event_took() -> Result<(), Error> {
     };
     assert_eq!(own.rule, Some(place));
     assert_eq!(own.trace, "key a b: start my.own\nnot found my.own\n");
+    assert_eq!(own.step, None);
+    let (ending, step) = engine.press("s").map(|told| (told.ending(), told.record().step))?;
+    assert_eq!(ending, Ending::NotFound);
+    let named = step.map(|it| (it.number, it.command));
+    assert_eq!(named, Some((2, "x\nrun y".into())));
     let empty = engine.press("e")?.record();
     assert_eq!(empty.command.as_deref(), Some(""));
     let unbound = engine.press("q")?.record();
