@@ -6,8 +6,8 @@
  *     ./keycheck-in-memory [FILE].. -- [WORD]..
  *
  * It puts each of these files at its path, and runs keycheck by the words. So `user.json -- check --user
- * user.json` writes what is wrong in user.json. The output and the status are those of keycheck. The status is
- * also 3 if a file can't be read, and 4 if memory is refused.
+ * user.json` writes what is wrong in user.json. The output and the status are those of keycheck. The status
+ * is also 3 if a file can't be read, and 4 if memory is refused.
  */
 #include <pafjirn.h>
 #include <stdio.h>
