@@ -1,16 +1,17 @@
 """What tools/check-wasm tests on the page, in Chromium."""
 
-import base64
 import contextlib
 import functools
 import http.server
 import json
 import os
 import re
+import shutil
 import tempfile
 import threading
 
 from shared.browser import Browser, chromium
+from wasm.golden_page import check_golden
 
 # The policy of the page is its own, so any server does. A type that isn't known would stop the module.
 KINDS = {".js": "text/javascript", ".wasm": "application/wasm"}
@@ -40,6 +41,9 @@ var control = (...words) => [...document.querySelectorAll("[data-control]")]
 true"""
 OPENED = "new Promise((done) => { const look = () => document.documentElement?.dataset.ready === undefined"
 OPENED += " ? setTimeout(look, 20) : done(true); look(); })"
+# The page says something.
+SAYS = "new Promise((done) => { const look = () => document.getElementById('status')?.textContent"
+SAYS += " ? done(true) : setTimeout(look, 20); look(); })"
 # The elements that can have the focus, and that nothing names.
 UNNAMED = """[...document.querySelectorAll("button, input, select, textarea, [tabindex]")].filter((it) =>
   !(it.labels?.length || it.ariaLabel || it.getAttribute("aria-labelledby") || it.textContent.trim()))
@@ -57,6 +61,14 @@ CONTRAST = """((id) => {
   probe.remove();
   return (Math.max(one, other) + 0.05) / (Math.min(one, other) + 0.05);
 })(%s)"""
+# A module that traps at each line.
+TRAPPING = """
+const whole = WebAssembly.instantiateStreaming;
+WebAssembly.instantiateStreaming = async (...given) => {
+  const { instance } = await whole.apply(WebAssembly, given);
+  const trap = () => { throw new WebAssembly.RuntimeError("unreachable"); };
+  return { instance: { exports: { ...instance.exports, pafjirn_line: trap } } };
+};"""
 RULES = """[{"key": "f2", "command": "my.own", "args": {"n": 9007199254740993}},
   {"key": "a"}, {"key": "b b", "command": "x"}]"""
 COMMANDS = [{"command": "buffer.top", "title": "Go to Top"}, {"command": "x", "title": "Other"}]
@@ -101,6 +113,15 @@ class Page:
     def focus(self, name):
         self.run(f"at({json.dumps(name)}).focus()")
 
+    def type(self, text):
+        self.browser.call("Input.insertText", text=text)
+
+    def drop(self, paths):
+        """Drops files and folders, as a file manager does."""
+        data = {"items": [], "files": paths, "dragOperationsMask": 1}
+        for kind in ["dragEnter", "dragOver", "drop"]:
+            self.browser.call("Input.dispatchDragEvent", type=kind, x=200, y=200, data=data)
+
     def is_(self, what, expression, wanted):
         """Checks the value of an expression, or the text of an element."""
         is_name = re.fullmatch("[a-z-]+", expression)
@@ -140,6 +161,9 @@ def with_keys(page):
     page.is_("the tab key is a key", "chord", "tab")
     page.press("Escape", "Escape", ["shift"])
     page.is_("shift+escape leaves the text", "document.activeElement.id", "key")
+    page.run("at('key').value = 'ctrl+j  alt+j'; at('press').requestSubmit()")
+    last = "shown('trace').trim().split('\\n').slice(-2).join()"
+    page.is_("keys by name", last, "key ctrl+j: unbound,key alt+j: unbound")
     page.run("at('key').value = 'ctrl+k'; at('press').requestSubmit()")
     page.is_("a key by its name", "open", "ctrl+k")
     page.run("at('key').value = 'ctrl+nothing'; at('press').requestSubmit()")
@@ -176,6 +200,14 @@ def with_context_keys(page):
     page.run("control('window', 'language').value = '1.5'")
     page.run("control('window', 'language').dispatchEvent(new Event('change'))")
     page.is_("a value that no key has", "control('window', 'language').value", '"markdown"')
+    page.is_("why", "shown('status').startsWith('1.5 is no value of a context key.')", True)
+    page.run("at('unset').click()")
+    page.is_("a key is unset", "status", "deep unset in window: done.")
+    page.is_("its control", "control('window', 'deep') === undefined", True)
+    page.run("at('set-key').value = 'two words'; at('set').requestSubmit()")
+    page.is_("no key", "status", "A key is a word without spaces.")
+    offered = "[...at('known-keys').children].map((it) => it.value).join()"
+    page.is_("the keys of the clauses", offered, "dirty")
 
 
 def with_files(page):
@@ -193,6 +225,17 @@ def with_files(page):
     page.run(f"pasted({json.dumps(MANIFEST)})")
     page.wait("a manifest is pasted", "at('file').options.length === 5")
     page.is_("its name", "at('file').options[3].textContent", "p.e/package.json")
+    page.run("at('file').value = 'manifest 0'; at('file').onchange()")
+    page.is_("what the button removes", "at('remove').textContent", "Remove this extension")
+    page.run("at('remove').click()")
+    page.is_("an extension is removed", "at('file').options.length", 3)
+    page.run("at('back').click()")
+    page.is_("and comes back", "at('file').options.length", 5)
+    page.run("at('file').value = 'user'; at('file').onchange()")
+
+
+def with_a_text(page):
+    """Changes the text of a file: the events are told again."""
     page.run("at('source').value = '['; at('source').dispatchEvent(new Event('input'))")
     page.wait("a load that is refused", "at('problems').querySelector('.refused')")
     refused = "keybindings.json: Syntax: the text isn't JSON, or nests deeper than 127 levels"
@@ -203,20 +246,49 @@ def with_files(page):
     text = json.dumps(RULES)
     page.run(f"at('source').value = {text}; at('source').dispatchEvent(new Event('input'))")
     page.wait("a load behind it", "!at('problems').querySelector('.refused')")
+    page.focus("text")
+    page.press("F2", "F2")
+    page.is_("an event", "command", "my.own")
+    text = json.dumps(RULES.replace("my.own", "my.other"))
+    page.run(f"at('source').value = {text}; at('source').dispatchEvent(new Event('input'))")
+    page.wait("the events follow the files", "shown('command') === 'my.other'")
+    page.run("at('source').value = '{'; at('source').dispatchEvent(new Event('input'))")
+    page.wait("a load that is refused again", "at('problems').querySelector('.refused')")
+    text = json.dumps(RULES)
+    page.run(f"at('source').value = {text}; at('source').dispatchEvent(new Event('input'))")
+    page.wait("the events stay behind it", "shown('command') === 'my.own'")
+
+
+def with_many_files(page):
+    """Files of other kinds are left out, and extensions stand behind those on which they depend."""
+    needed = json.dumps({"publisher": "p", "name": "needed"})
+    first = json.dumps({"publisher": "p", "name": "first", "extensionDependencies": ["P.needed"]})
+    files = [["keybindings.json", RULES], ["settings.json", "{}"], ["tasks.json", "[]"]]
+    page.run("at('over').click()")
+    page.run(f"picked({json.dumps(files)})")
+    said = "Left out, since neither rules nor scopes are in it: settings.json, tasks.json."
+    page.wait("files of other kinds", f"shown('status') === '1 file loaded, with 1 problem. {said}'")
+    page.is_("the rules", "at('source').value.includes('my.own')", True)
+    page.run(f"picked({json.dumps([['any.json', '[]']])})")
+    page.wait("rules by any name", "shown('status') === '1 file loaded, with 0 problems.'")
+    page.run("at('over').click()")
+    paths = [["a/package.json", first], ["b/package.json", needed], ["b/x/y.json", "[5]"]]
+    given = json.dumps([{"path": path, "text": text} for path, text in paths])
+    module = "import('./page/files.js')"
+    inside = f"{module}.then((it) => it.wanted({given}).map(({{ path }}) => path).join())"
+    page.is_("other files of an extension", inside, "a/package.json,b/package.json")
+    order = f"{module}.then((it) => it.taken(it.firstFiles(), {given}).files.extensions"
+    page.is_("the order of extensions", order + ".map(({ folder }) => folder).join())", "b,a")
 
 
 def with_a_drop(page, room):
-    """Drops a folder and a file, as a file manager does."""
     folder = os.path.join(room, "dropped")
     for name, text in [("my-ext/package.json", MANIFEST), ("default-keys.json", RULES)]:
         path = os.path.join(folder, name)
         os.makedirs(os.path.dirname(path), exist_ok=True)
         with open(path, "w", encoding="utf-8") as file:
             file.write(text)
-    given = [os.path.join(folder, it) for it in ("my-ext", "default-keys.json")]
-    data = {"items": [], "files": given, "dragOperationsMask": 1}
-    for kind in ["dragEnter", "dragOver", "drop"]:
-        page.browser.call("Input.dispatchDragEvent", type=kind, x=200, y=200, data=data)
+    page.drop([os.path.join(folder, it) for it in ("my-ext", "default-keys.json")])
     page.wait("files are dropped", "shown('status') === '2 files loaded, with 1 problem.'")
     page.is_("the extension", "at('file').options[3].textContent", "my-ext/package.json")
     page.is_("its place", "at('problems').querySelector('button').textContent", "defaults.json, line 2")
@@ -257,6 +329,10 @@ def with_state(page):
     page.run("at('over').click()")
     page.is_("a start over", "open", "–")
     page.is_("its files", "at('file').options.length", 3)
+    page.run("at('back').click()")
+    page.is_("the way back", "open", "b")
+    page.run("at('back').click()")
+    page.is_("and again", "at('file').options.length", 3)
     page.open(link)
     page.is_("the state of a link", "open", "b")
     page.is_("its context key", "control('window', 'dirty').checked", True)
@@ -265,10 +341,37 @@ def with_state(page):
     page.focus("text")
     page.press("b", "KeyB", text="b")
     page.is_("the chord ends", "command", "x")
+    page.is_("the address is no link to that", "location.hash", "")
     page.counts.add(bool(trace), "the page: no trace")
+    page.open()
+    page.is_("a link that was used is kept", "command", "x")
+    page.run("at('back').click()")
+    page.is_("the files before the link", "at('file').options.length", 3)
     page.open("#broken")
     page.is_("a broken link", "status", "The link is broken: its end may be missing.")
     page.run("at('over').click()")
+
+
+def with_an_engine_that_fails(page, prefix, room):
+    """The page says that its module isn't there, or that it trapped; and it asks no other server."""
+    broken = os.path.join(room, "broken")
+    shutil.copytree(prefix, broken, ignore=shutil.ignore_patterns("*.wasm"))
+    with served(broken) as url:
+        page.browser.call("Page.navigate", url=url)
+        page.run(SAYS)
+        page.run(HELPERS)
+        page.is_("the module isn't there", "/^The engine can't start: .*404/.test(shown('status'))", True)
+        page.open()
+        other = f"fetch({json.dumps(url)}).then(() => 'sent', () => 'refused')"
+        page.is_("nothing is sent to another server", other, "refused")
+    patched = page.browser.call("Page.addScriptToEvaluateOnNewDocument", source=TRAPPING)["identifier"]
+    page.open()
+    page.run("at('key').value = 'f19'; at('press').requestSubmit()")
+    page.is_("a trap", "status", "The engine trapped: reload the page.")
+    page.browser.call("Page.removeScriptToEvaluateOnNewDocument", identifier=patched)
+    page.open()
+    page.run("at('key').value = 'f19'; at('press').requestSubmit()")
+    page.is_("the page behind it", "status", "f19: no rule matches. The line is empty.")
 
 
 def in_each_look(page):
@@ -290,12 +393,7 @@ def in_each_look(page):
     page.is_("no element is cut off", wide + ".length", 0)
 
 
-def picture(browser, path):
-    with open(path, "wb") as file:
-        file.write(base64.b64decode(browser.call("Page.captureScreenshot", format="png")["data"]))
-
-
-def check_on_page(prefix, path, counts):
+def check_on_page(prefix, words, counts):
     """All tests of the page."""
     program = chromium()
     if program is None:
@@ -311,10 +409,13 @@ def check_on_page(prefix, path, counts):
         with_keys(page)
         with_the_picture(page)
         with_context_keys(page)
-        if path:
-            picture(browser, path)
         with_files(page)
+        with_a_text(page)
         with_the_palette(page)
         with_state(page)
         with_a_drop(page, room)
+        with_many_files(page)
+        page.run("at('over').click()")
+        with_an_engine_that_fails(page, prefix, room)
+        check_golden(page, words, counts)
         in_each_look(page)

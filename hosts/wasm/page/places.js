@@ -71,12 +71,23 @@ function decoded(token) {
   }
 }
 
+// Values of texts that were read last. Each press asks for its rule again.
+const values = new Map(), MOST_VALUES = 8;
+
+function valueOf(text) {
+  const found = values.get(text) ?? read(text);
+  values.delete(text);
+  values.set(text, found);
+  if (values.size > MOST_VALUES) values.delete(values.keys().next().value);
+  return found;
+}
+
 /** The entries of a part of a file (`keybindings`, `commands`, `palette`): of a manifest those below
- * `contributes`, and otherwise the rules of the whole file. In a manifest a single object counts as a list.
- * */
+ * `contributes`, and otherwise the rules of the whole file. In a manifest a single object counts as a
+ * list. */
 export function entriesOf(text, part, isManifest) {
   const names = part === "palette" ? ["menus", "commandPalette"] : [part];
-  let found = read(text);
+  let found = valueOf(text);
   if (isManifest) for (const name of ["contributes", ...names]) found = found?.members?.get(name);
   if (found?.members) return [found];
   return found?.items ?? [];
@@ -89,9 +100,25 @@ export function lineAt(text, place) {
   return line;
 }
 
+// The words of a clause: a comparison with a pattern or a value, a text, or a key.
+const WORDS = [
+  String.raw`=~\s*/(?:\\.|\[(?:\\.|[^\]])*\]|[^/\\])*/\w*`,
+  String.raw`(?:[=!]==?|[<>]=?)\s*(?:'[^']*'|[^\s()&|]*)`,
+  "'[^']*'", String.raw`[^\s()&|=!<>']+`,
+];
+const WORD = new RegExp(WORDS.join("|"), "g"), CLAUSE = /"(?:when|enablement)"\s*:\s*("(?:[^"\\]|\\.)*")/g;
+const NO_KEYS = new Set(["true", "false", "in", "not"]);
+
+/** The context keys that the clauses of a file name. */
+export function keysIn(text) {
+  const clauses = [...text.matchAll(CLAUSE)].map((it) => decoded(it[1]));
+  const words = clauses.flatMap((it) => String(it).match(WORD) ?? []);
+  return words.filter((it) => /^[^=!<>']/.test(it) && !NO_KEYS.has(it));
+}
+
 /** The identifier of an extension: publisher.name. */
 export function identifier(manifest) {
-  const { members } = read(manifest);
+  const { members } = valueOf(manifest);
   const [publisher, name] = ["publisher", "name"].map((it) => plain(members?.get(it)));
   return `${publisher || "undefined_publisher"}.${name}`;
 }
