@@ -10,6 +10,7 @@ import tempfile
 from shared.kit import TOP
 from shared.programs import run_program
 from wasm.binary import least_pages, with_memory
+from wasm.sessions import check_sessions
 
 HOST = os.path.join(TOP, "hosts/wasm")
 TESTS = os.path.join(HOST, "tests")
@@ -162,12 +163,14 @@ def snippet_of(page):
 
 def check_in_node(words, prefix, tests, counts):
     """All tests in Node."""
+    check_header(prefix, counts)
     if not shutil.which("node"):
         counts.skip("all that runs in Node", "node")
         return
-    check_header(prefix, counts)
     with tempfile.TemporaryDirectory() as room:
         check_output(prefix, words.keyrun, room, counts)
+    with tempfile.TemporaryDirectory() as room:
+        check_sessions(words, lambda path: node(prefix, "sessions.js", path), room, counts, LIMIT)
     counts.add_run("answers", node(prefix, "answers.js", flags=["--expose-gc"]))
     with tempfile.TemporaryDirectory() as room:
         check_package(prefix, room, counts)
