@@ -48,19 +48,29 @@ SAYS += " ? done(true) : setTimeout(look, 20); look(); })"
 UNNAMED = """[...document.querySelectorAll("button, input, select, textarea, [tabindex]")].filter((it) =>
   !(it.labels?.length || it.ariaLabel || it.getAttribute("aria-labelledby") || it.textContent.trim()))
   .map((it) => it.outerHTML)"""
-# The ratio of contrast of the text of an element and what is behind it.
-CONTRAST = """((id) => {
-  const parse = (it) => it.match(/[\\d.]+/g).map(Number);
-  const light = ([r, g, b]) => [r, g, b].map((it) => it / 255)
+# The texts of which the contrast to what is behind them is less than 4.5.
+FAINT = r"""(() => {
+  const parse = (it) => { const [r, g, b, a = 1] = it.match(/[\d.]+/g).map(Number); return [r, g, b, a]; };
+  const over = ([r, g, b, a], below) => [r, g, b].map((it, at) => it * a + below[at] * (1 - a));
+  const light = (color) => color.map((it) => it / 255)
     .map((it) => it <= 0.03928 ? it / 12.92 : ((it + 0.055) / 1.055) ** 2.4)
     .reduce((sum, it, place) => sum + it * [0.2126, 0.7152, 0.0722][place], 0);
-  const probe = document.createElement("p");
-  probe.style.color = "Canvas";
-  document.body.append(probe);
-  const [one, other] = [getComputedStyle(at(id)).color, getComputedStyle(probe).color].map(parse).map(light);
-  probe.remove();
-  return (Math.max(one, other) + 0.05) / (Math.min(one, other) + 0.05);
-})(%s)"""
+  const canvas = Object.assign(document.createElement("p"), { style: "background: Canvas" });
+  document.body.append(canvas);
+  const page = parse(getComputedStyle(canvas).backgroundColor);
+  canvas.remove();
+  const behind = (it) =>
+    it ? over(parse(getComputedStyle(it).backgroundColor), behind(it.parentElement)) : page;
+  const hasText = (it) => it.value || [...it.childNodes].some((one) => one.nodeType === 3 && one.data.trim());
+  const isFaint = (it) => {
+    const below = behind(it), above = over(parse(getComputedStyle(it).color), below);
+    const [one, other] = [above, below].map(light);
+    return (Math.max(one, other) + 0.05) / (Math.min(one, other) + 0.05) < 4.5;
+  };
+  const seen = [...document.querySelectorAll("body *:not(option)")].filter((it) => it.checkVisibility());
+  const faint = seen.filter((it) => hasText(it) && !it.disabled && isFaint(it));
+  return faint.map((it) => it.outerHTML.slice(0, 100));
+})()"""
 # A module that traps at each line.
 TRAPPING = """
 const whole = WebAssembly.instantiateStreaming;
@@ -279,6 +289,15 @@ def with_many_files(page):
     page.is_("other files of an extension", inside, "a/package.json,b/package.json")
     order = f"{module}.then((it) => it.taken(it.firstFiles(), {given}).files.extensions"
     page.is_("the order of extensions", order + ".map(({ folder }) => folder).join())", "b,a")
+    page.run(f"picked({json.dumps([['package.json', needed]])})")
+    page.wait("an extension", "shown('status') === '1 file loaded, with 0 problems.'")
+    page.run(f"pasted({json.dumps(first)})")
+    page.wait("one that depends on it", "at('extensions').children.length === 2")
+    page.run("at('extensions').querySelector('input').click()")
+    why = "an extension can't be disabled, since an enabled one depends on it (p.first)"
+    page.is_("why it isn't disabled", "status", f"disable p.needed: refused: {why}.")
+    page.is_("it is enabled", "at('extensions').querySelector('input').checked", True)
+    page.run("at('over').click()")
 
 
 def with_a_drop(page, room):
@@ -376,21 +395,39 @@ def with_an_engine_that_fails(page, prefix, room):
 
 def in_each_look(page):
     page.is_("elements that nothing names", UNNAMED, [])
+    page.run("at('query').focus(); at('keyboard').querySelector('button').click()")
+    page.run("at('status').classList.add('wrong')")
+    page.run("at('source').value = '['; at('source').dispatchEvent(new Event('input'))")
+    page.wait("an error is shown", "at('problems').querySelector('.refused')")
     for scheme in ["light", "dark"]:
         features = [{"name": "prefers-color-scheme", "value": scheme}]
         page.browser.call("Emulation.setEmulatedMedia", features=features)
-        for name in ["status", "chord", "keys-hint"]:
-            ratio = page.run(CONTRAST % json.dumps(name))
-            page.counts.add(ratio >= 4.5, f"the page: the contrast of {name}, {scheme}, is {ratio:.1f}")
-        page.run("at('status').classList.add('wrong')")
-        ratio = page.run(CONTRAST % '"status"')
-        page.counts.add(ratio >= 4.5, f"the page: the contrast of an error, {scheme}, is {ratio:.1f}")
+        page.is_(f"faint texts, {scheme}", FAINT, [])
     size = {"width": 360, "height": 740, "deviceScaleFactor": 1, "mobile": True}
     page.browser.call("Emulation.setDeviceMetricsOverride", **size)
     page.open()
     page.is_("no column is cut off at 360 pixels", "document.documentElement.scrollWidth <= 360", True)
     wide = "[...document.querySelectorAll('main *')].filter((it) => it.getBoundingClientRect().right > 361)"
     page.is_("no element is cut off", wide + ".length", 0)
+    close = "[...at('keyboard').querySelectorAll('button')].map((it) => it.getBoundingClientRect())"
+    close += ".filter((it, at, all) => all[at + 1]?.top === it.top && all[at + 1].x - it.x < 24).length"
+    page.is_("keys that are hard to hit", close, 0)
+
+
+def by_the_tab_key(page):
+    """The Tab key goes through the page, and Shift+Escape leaves the text."""
+    page.open()
+    page.run("document.activeElement.blur()")
+    active = "document.activeElement.id || document.activeElement.tagName.toLowerCase()"
+    gone = []
+    while len(gone) < 100 and "body" not in gone:
+        page.press("Tab", "Tab")
+        gone.append(page.run(active))
+        if gone[-1] == "text":
+            page.press("Escape", "Escape", ["shift"])
+            page.is_("shift+escape leaves the text", "document.activeElement.id", "key")
+    wanted = ["share", "over", "text", "trace", "pick", "file", "source", "set-key", "query", "body"]
+    page.counts.add([it for it in gone if it in wanted] == wanted, f"the page: the Tab key goes to {gone}")
 
 
 def check_on_page(prefix, words, counts):
@@ -418,4 +455,5 @@ def check_on_page(prefix, words, counts):
         page.run("at('over').click()")
         with_an_engine_that_fails(page, prefix, room)
         check_golden(page, words, counts)
+        by_the_tab_key(page)
         in_each_look(page)

@@ -159,8 +159,14 @@ function keep() {
   isFull = !isKept;
 }
 
+// What a refusal means, with the name that it adds.
+function meaningOf({ number, name, detail }) {
+  const meaning = (FAULTS.get(number)?.[1] ?? name).replaceAll(/ \(the line adds [^)]*\)/g, "");
+  return detail === undefined ? meaning : `${meaning} (${detail})`;
+}
+
 function resultOf(record) {
-  if (record.refusal) return `refused: ${FAULTS.get(record.refusal.number)?.[1] ?? record.refusal.name}`;
+  if (record.refusal) return `refused: ${meaningOf(record.refusal)}`;
   if (record.chord && record.kind === "nothing") return "no rule matches";
   if (record.kind === "chording") return "a chord is open";
   const steps = record.trace.split("\n").filter((it) => it.startsWith("run "));
@@ -211,9 +217,9 @@ function problemOf(warning) {
   return { file, place, name: source, text: `${name}: ${meaning}` };
 }
 
-function refusal({ file: source, number, name, detail }) {
-  const meaning = FAULTS.get(number)?.[1] ?? "", more = detail === undefined ? "" : ` (${detail})`;
-  return { file: fileOf(source), name: source, text: `${name}: ${meaning}${more}`, isRefused: true };
+function refusal(fault) {
+  const text = `${fault.name}: ${meaningOf(fault)}`;
+  return { file: fileOf(fault.file), name: fault.file, text, isRefused: true };
 }
 
 function showProblems(problems) {
@@ -254,6 +260,7 @@ function showSource() {
 }
 
 function showExtensions() {
+  at("extensions-heading").hidden = !engine || files.extensions.length === 0;
   at("extensions").replaceChildren(...(engine ? files.extensions : []).map(({ manifest }) => {
     const name = identifier(manifest), label = document.createElement("label");
     const box = element("input", "", { type: "checkbox", checked: true });
