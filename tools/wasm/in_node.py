@@ -27,8 +27,8 @@ LIMIT = 1800
 HEAP_CALLS = 300_000
 PRESSES = 1_000_000
 # By how many pages the small fixed memory is larger than the least, and how many pages the one for hostile
-# files has.
-PAGES, MOST_PAGES = 16, 16384
+# files has: 1536 MiB, of which the costliest of them needs between 1024 and 1280.
+PAGES, MOST_PAGES = 16, 24576
 # How tsc is called.
 TYPES = ["--strict", "--noEmit", "--target", "es2022", "--lib", "es2022,dom"]
 TYPES += ["--module", "node16", "--moduleResolution", "node16"]

@@ -16,6 +16,8 @@ RANDOM = 400
 # Where the files of the first session stay that differs, and the most differences that are shown.
 KEPT, SHOWN = os.path.join(TOP, ".rt/session-that-differs"), 3
 PARTS = ["the status", "standard output", "standard error"]
+# The statuses of hosts/wasm/tests/sessions.js that keyrun hasn't.
+OWN = {-1: "the module is dead", -2: "the module lost memory", -3: "a call answers otherwise than its line"}
 
 
 def all_runs(first):
@@ -47,6 +49,8 @@ def by_keyrun(keyrun, given, seconds):
 
 def difference(has, wants):
     """The first difference of two answers, as a sentence."""
+    if has[0] in OWN:
+        return f"{OWN[has[0]]}: {has[2]}"
     for part, one, other in zip(PARTS, has, wants):
         if one == other:
             continue

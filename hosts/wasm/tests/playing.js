@@ -68,8 +68,8 @@ function open(path) {
   }
 }
 
-// The lines of a script, as bytes. A line may end with a carriage return and a line feed.
-function linesOf(file) {
+/** The lines of a script, as bytes. A line may end with a carriage return and a line feed. */
+export function linesOf(file) {
   const script = scriptIn(file), lines = [];
   if (script.length > MOST_BYTES) throw new Stop("script: too long", 4);
   for (let at = 0; at <= script.length;) {
