@@ -248,7 +248,7 @@ def with_a_text(page):
     """Changes the text of a file: the events are told again."""
     page.run("at('source').value = '['; at('source').dispatchEvent(new Event('input'))")
     page.wait("a load that is refused", "at('problems').querySelector('.refused')")
-    refused = "keybindings.json: Syntax: the text isn't JSON, or nests deeper than 127 levels"
+    refused = "keybindings.json, line 1: Syntax: the text isn't JSON, or nests deeper than 127 levels"
     page.is_("why", "at('problems').textContent", refused)
     page.focus("text")
     page.press("F2", "F2")

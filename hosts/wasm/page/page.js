@@ -8,7 +8,7 @@ import { FAULTS } from "./faults.js";
 import * as store from "./files.js";
 import { makeKeyboard } from "./keyboard.js";
 import { Palette } from "./palette.js";
-import { entriesOf, identifier, keysIn, lineAt, read } from "./places.js";
+import { entriesOf, identifier, keysIn, lineAt, read, wrongAt } from "./places.js";
 import { Scopes } from "./scopes.js";
 import { at, counted, element, line as item, link, spokenText } from "./shown.js";
 
@@ -18,6 +18,8 @@ const ENDINGS = {
   "not found": "not a command of the engine: the host runs it",
   "bad arguments": "the arguments don't fit the command",
 };
+// The faults of texts that aren't JSON with comments.
+const SYNTAX = new Set([2, 3, 4]);
 // How long the text of a file stays as it is before it is loaded.
 const PAUSE = 300;
 const NO_VALUE = "is no value of a context key. Such a value is true or false, a whole number, a text, "
@@ -218,8 +220,10 @@ function problemOf(warning) {
 }
 
 function refusal(fault) {
-  const text = `${fault.name}: ${meaningOf(fault)}`;
-  return { file: fileOf(fault.file), name: fault.file, text, isRefused: true };
+  const text = `${fault.name}: ${meaningOf(fault)}`, file = fileOf(fault.file);
+  const at = file && SYNTAX.has(fault.number) ? wrongAt(file.text) : null;
+  const place = at === null ? null : { begin: at, end: at + 1 };
+  return { file, place, name: fault.file, text, isRefused: true };
 }
 
 function showProblems(problems) {

@@ -1,7 +1,7 @@
 // Finds where the rules of a file stand: reads JSON with comments, with the place of each value. A text with
 // syntax errors gives any value: the engine has checked the text before.
 
-const TOKEN = /([\s\ufeff]+|\/\/[^\n]*|\/\*[^]*?\*\/)|"(?:[^"\\]|\\.)*"|[{}[\]:,]|[^\s{}[\]:,"/]+/gs;
+const TOKEN = /([\s\ufeff]+|\/\/[^\r\n]*|\/\*[^]*?\*\/)|"(?:[^"\\]|\\.)*"|[{}[\]:,]|[^\s{}[\]:,"/]+/gs;
 // The engine refuses what nests deeper.
 const DEEPEST = 127;
 
@@ -91,6 +91,61 @@ export function entriesOf(text, part, isManifest) {
   if (isManifest) for (const name of ["contributes", ...names]) found = found?.members?.get(name);
   if (found?.members) return [found];
   return found?.items ?? [];
+}
+
+// A token without syntax errors, white space or a comment.
+const RIGHT = new RegExp([
+  String.raw`(?<skipped>[ \t\r\n]+|//[^\r\n]*|/\*[^]*?\*/)`, String.raw`(?<mark>[{}\[\]:,])`,
+  String.raw`(?<text>"(?:[^"\\\r\n]|\\(?:["\\/bfnrt]|u[\dA-Fa-f]{4}))*")`,
+  String.raw`(?:-?(?:0|[1-9]\d*)(?:\.\d+)?(?:[eE][+-]?\d+)?|true|false|null)(?![\w.+-])`,
+].join("|"), "y");
+// The ends of lists and objects.
+const CLOSING = { "[": "]", "{": "}" };
+
+/** Where the first syntax error of a text is, or null without one. */
+export function wrongAt(text) {
+  const open = [];
+  let wanted = "value";
+  RIGHT.lastIndex = text.startsWith("\ufeff") ? 1 : 0;
+  while (RIGHT.lastIndex < text.length) {
+    const at = RIGHT.lastIndex, found = RIGHT.exec(text);
+    if (found === null) return at;
+    if (found.groups.skipped !== undefined) continue;
+    wanted = behind(found, wanted, open);
+    if (wanted === null || open.length > DEEPEST || !hasValue(found)) return at;
+  }
+  const isWhole = open.length === 0 && (wanted === "comma" || isBlank(text));
+  return isWhole ? null : text.length;
+}
+
+// What is wanted behind a token, or null if another one was wanted. `open` has the ends of the open lists and
+// objects.
+function behind({ 0: token, groups: { mark, text } }, wanted, open) {
+  if (mark && mark === open.at(-1) && ["item", "name", "comma"].includes(wanted)) {
+    open.pop();
+    return "comma";
+  }
+  if (wanted === "name") return text ? "colon" : null;
+  if (wanted === "colon") return mark === ":" ? "value" : null;
+  if (wanted === "comma") {
+    if (mark !== "," || open.length === 0) return null;
+    return open.at(-1) === "]" ? "item" : "name";
+  }
+  if (!mark) return "comma";
+  if (!CLOSING[token]) return null;
+  open.push(CLOSING[token]);
+  return token === "[" ? "item" : "name";
+}
+
+// Whether a token has a value: a number is finite, and a text has no half of a character.
+function hasValue({ 0: token, groups: { mark, text } }) {
+  if (mark) return true;
+  return text ? !/\p{Surrogate}/u.test(decoded(token)) : Number.isFinite(Number(JSON.parse(token)));
+}
+
+// Whether a text has only white space and comments.
+function isBlank(text) {
+  return [...text.matchAll(TOKEN)].every((it) => it[1] !== undefined);
 }
 
 /** The number of the line of a place in a text, from 1. */
