@@ -30,6 +30,8 @@ HOW = '"no-builtin-bcmp" "no-builtin-memcmp" "no-builtin-strlen" "target-feature
 HOW += f'"target-cpu"="{PROCESSOR}"'
 # Functions that a module may declare besides those of LLVM: those of heap.c, and the toolchain's own helpers.
 GIVEN = {"rattle_alloc", "rattle_realloc", "rattle_dealloc", "fmod", "fmodf"}
+# Functions of C that a module may declare, since what calls them goes.
+UNUSED = {"__sysv_signal", "rattle_arg", "rattle_set_errno", "rattle_errno"}
 OF_X86 = re.compile(r' "(probe-stack|stack-probe-size|target-features|tune-cpu)"="[^"]*"| sanitize_address')
 
 # (the module has no words on linkage or visibility but `internal`)
@@ -123,7 +125,7 @@ class Port:
         found = self.exports or self.of_crates
         if found.keys() != self.names:
             raise NotPortable("the module lacks " + ", ".join(sorted(self.names - found.keys())))
-        check_declared(self.declared, is_of_programs=bool(self.of_crates))
+        check_declared(self.declared, is_of_programs=not self.exports)
         if self.has_shuffle:
             self.made.append(SHUFFLED % (HOW, ", ".join(["i8 -113"] * 16)))
         return [*self.made, GUARD, *(guarded(name, *it) for name, it in found.items())]
@@ -134,7 +136,7 @@ def check_declared(names, is_of_programs):
     for name in sorted(names):
         is_of_llvm = name.startswith("llvm.") and not name.startswith("llvm.x86.")
         is_of_c = is_of_programs and not name.startswith("llvm.")
-        if not (is_of_llvm or is_of_c or name in GIVEN):
+        if not (is_of_llvm or is_of_c or name in GIVEN | UNUSED):
             raise NotPortable("a call of " + name)
 
 
