@@ -371,6 +371,25 @@ def with_state(page):
     page.run("at('over').click()")
 
 
+def with_many_rules(page):
+    """600 default rules, of which the clause of one holds."""
+    rules = [{"key": f"alt+{'abcdef'[at % 6]}", "command": f"c{at}", "when": f"k{at}"} for at in range(600)]
+    text = "[\n" + "".join(json.dumps(it) + ",\n" for it in rules) + "]\n"
+    page.run(f"picked({json.dumps([['defaults.json', text]])})")
+    page.wait("many rules", "shown('status') === '1 file loaded, with 0 problems.'")
+    page.is_("all their keys", "at('known-keys').children.length", 601)
+    page.run("at('set-key').value = 'k300'; at('set-value').value = ''; at('set').requestSubmit()")
+    page.focus("text")
+    page.press("a", "KeyA", ["alt"])
+    page.is_("one of many rules", "rule", "defaults.json, line 302")
+    page.is_("its text", "at('rule-text').textContent", json.dumps(rules[300]))
+    page.run("at('share').click()")
+    page.wait("a link to many rules", "shown('status').startsWith('The link is ')")
+    page.open(page.run("location.hash"))
+    page.is_("the same rule by the link", "rule", "defaults.json, line 302")
+    page.run("at('over').click()")
+
+
 def with_an_engine_that_fails(page, prefix, room):
     """The page says that its module isn't there, or that it trapped; and it asks no other server."""
     broken = os.path.join(room, "broken")
@@ -381,7 +400,8 @@ def with_an_engine_that_fails(page, prefix, room):
         page.run(HELPERS)
         page.is_("the module isn't there", "/^The engine can't start: .*404/.test(shown('status'))", True)
         page.open()
-        other = f"fetch({json.dumps(url)}).then(() => 'sent', () => 'refused')"
+        # (a request without an answer for the page, which only the page's own policy refuses)
+        other = f"fetch({json.dumps(url)}, {{ mode: 'no-cors' }}).then(() => 'sent', () => 'refused')"
         page.is_("nothing is sent to another server", other, "refused")
     patched = page.browser.call("Page.addScriptToEvaluateOnNewDocument", source=TRAPPING)["identifier"]
     page.open()
@@ -452,6 +472,7 @@ def check_on_page(prefix, words, counts):
         with_state(page)
         with_a_drop(page, room)
         with_many_files(page)
+        with_many_rules(page)
         page.run("at('over').click()")
         with_an_engine_that_fails(page, prefix, room)
         check_golden(page, words, counts)
