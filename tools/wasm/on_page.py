@@ -273,10 +273,12 @@ def with_many_files(page):
     """Files of other kinds are left out, and extensions stand behind those on which they depend."""
     needed = json.dumps({"publisher": "p", "name": "needed"})
     first = json.dumps({"publisher": "p", "name": "first", "extensionDependencies": ["P.needed"]})
-    files = [["keybindings.json", RULES], ["settings.json", "{}"], ["tasks.json", "[]"]]
+    files = [["a-keybindings.json", RULES], ["keybindings.json", "[]"]]
+    files += [["settings.json", "{}"], ["t.json", "[]"]]
     page.run("at('over').click()")
     page.run(f"picked({json.dumps(files)})")
-    said = "Left out, since neither rules nor scopes are in it: settings.json, tasks.json."
+    said = "Left out: keybindings.json (another file is taken), settings.json (neither rules nor scopes), "
+    said += "t.json (another file is taken)."
     page.wait("files of other kinds", f"shown('status') === '1 file loaded, with 1 problem. {said}'")
     page.is_("the rules", "at('source').value.includes('my.own')", True)
     page.run(f"picked({json.dumps([['any.json', '[]']])})")

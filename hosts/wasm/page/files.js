@@ -67,22 +67,26 @@ export function idOf(files, source) {
   return place < 0 ? null : `manifest ${place}`;
 }
 
-/** Files in which given ones, each with a path and a text, take the place of those of the same kind. Returns
- * them with the names of those that are of no kind. */
+/** Files in which given ones, each with a path and a text, take the place of those of the same kind. Of two
+ * of a kind the first counts. Returns the files, and which ones were left out, with the reason. */
 export function taken(files, given) {
-  const made = { ...files, extensions: files.extensions.map((it) => ({ ...it })) }, others = [];
-  const found = given.map((it) => ({ ...it, kind: kindOf(it.path, it.text) }));
+  const made = { ...files, extensions: files.extensions.map((it) => ({ ...it })) };
+  const found = given.map((it) => ({ ...it, kind: kindOf(it.path, it.text) })), left = [], filled = new Set();
+  // (a list of rules may have any name, and so may a lone text with a mistake)
+  const other = found.length === 1 ? "user" : null;
   const hasUser = found.some(({ kind }) => kind === "user");
-  for (const { path, text, kind } of found) {
-    // (a list of rules may have any name, and so may a text with a mistake)
-    const isUser = kind === "rules" || (kind === null && found.length === 1);
+  for (const { path, text, kind: own } of found) {
+    const kind = own === "rules" && !hasUser ? "user" : own ?? other;
     if (kind === "manifest" || kind === "handlers") takeOfExtension(made, path, kind, text);
-    else if (kind !== null && kind !== "rules") made[kind] = text;
-    else if (isUser && !hasUser) made.user = text;
-    else others.push(path);
+    else if (kind === null) left.push(`${path} (neither rules nor scopes)`);
+    else if (kind === "rules" || filled.has(kind)) left.push(`${path} (another file is taken)`);
+    else {
+      made[kind] = text;
+      filled.add(kind);
+    }
   }
   made.extensions = inOrder(made.extensions);
-  return { files: made, others };
+  return { files: made, left };
 }
 
 // What a file is, by a word in its name, or else by its content; null if it is neither.

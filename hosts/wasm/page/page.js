@@ -299,14 +299,13 @@ function showText() {
 // Takes files, each with its path and text, and says how many there were.
 function take(given) {
   if (given.length === 0) throw new Error("There is no JSON file. Drop JSON files, or folders with them.");
-  const { files: taken, others } = store.taken(files, given);
+  const { files: taken, left } = store.taken(files, given);
   remember();
   files = taken;
   showFiles();
   reload();
-  const found = `${counted(given.length - others.length, "file")} loaded`;
-  const left = `Left out, since neither rules nor scopes are in it: ${others.join(", ")}.`;
-  const more = others.length > 0 ? ` ${left}` : "";
+  const found = `${counted(given.length - left.length, "file")} loaded`;
+  const more = left.length > 0 ? ` Left out: ${left.join(", ")}.` : "";
   say(`${found}, with ${counted(at("problems").children.length, "problem")}.${more}`, !engine);
 }
 
