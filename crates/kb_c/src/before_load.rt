@@ -1,7 +1,7 @@
 //! An engine, from its making to the load of a session, and its end. The answers are the numbers of
 //! outcomes: 0; 1 after the load, 2 for an unknown number, and 5 for refused memory, after each of which
 //! nothing changed.
-ghost use Rattle.std.specs.Prelude.{◌≡◌, Some, None, if◌then◌else◌};
+ghost use Rattle.std.specs.Prelude.{◌≡◌, Some, None, if◌then◌else◌, option_map};
 ghost use Rattle.kb_c.specs.Held.{Answers, Makes, OnEngine};
 ghost use Rattle.kb_engine.specs.Engine.{GivesExtension, GivesFile, GivesPlatform, LoadsBy};
 ghost use Rattle.kb_engine.specs.Outcome.{outcome_numbered};
@@ -70,6 +70,13 @@ pub extern "C" fn pafjirn_file(alloc: Global, h: &mut Handle, file: u32, bytes: 
     outcome.number()
 }
 
+/// The bytes of handlers, if there are some.
+fn handlers_in(has_handlers: bool, handlers: &[u8]) -> Option<&[u8]>
+    ensures { option_map (λ bytes. bytes.now) result ≡ (if has_handlers then Some handlers.now else None) }
+{
+    if has_handlers { Some(handlers) } else { None }
+}
+
 /// Takes a copy of the bytes of an extension's `package.json` and, if it has one, its `handlers.json`, behind
 /// those of earlier extensions.
 #[unsafe(no_mangle)]
@@ -88,11 +95,9 @@ pub extern "C" fn pafjirn_extension(
     let Some(mut hosted) = h.take(alloc) else {
         return Outcome::Unknown.number();
     };
-    let outcome = if has_handlers {
-        hosted.engine.add_extension(manifest, Some(handlers))
-    } else {
-        hosted.engine.add_extension(manifest, None)
-    };
+    let outcome = hosted
+        .engine
+        .add_extension(manifest, handlers_in(has_handlers, handlers));
     h.put(alloc, hosted);
     outcome.number()
 }
