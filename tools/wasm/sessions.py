@@ -50,7 +50,7 @@ def by_keyrun(keyrun, given, seconds):
 def difference(has, wants):
     """The first difference of two answers, as a sentence."""
     if has[0] in OWN:
-        return f"{OWN[has[0]]}: {has[2]}"
+        return f"{OWN[has[0]]}: {has[2].strip()}"
     for part, one, other in zip(PARTS, has, wants):
         if one == other:
             continue
