@@ -15,12 +15,12 @@ use Rattle.kb_c.proofs.events.pafjirn_set_number.Goals as goal
 pub returns : goal.returns
 returns c =
     let tells = λ (n : ℤ) (old : EngineData) (o : Outcome) (new : EngineData).
-        TellsIf outcome.NoText (when_text c.args.scope.now (when_text c.args.key.now
-        (Some (event.SetKey c.args.scope.now c.args.key.now (value.Number n))))) old o new in
+    TellsIf outcome.NoText (when_text c.args.scope.now (when_text c.args.key.now
+    (Some (event.SetKey c.args.scope.now c.args.key.now (value.Number n))))) old o new in
     let told = c.set_number-outcome in
     let lent = c.deref_mut.result.now in
     let told_number = subst (λ n. tells n lent.engine told.result told.new.self)
-        (to_z-of_z {w = w64} {z = c.args.number} search) told.ensures in
+    (to_z-of_z {w = w64} {z = c.args.number} search) told.ensures in
     answers_engine (tells c.args.number) c.args.h.now.value c.put.new.self.value
     (outcome_numbered c.number-2.result) c.in-Some.hosted.value _ _ c.in-Some.ensures.value c.number-2.ensures
     c.put.ensures
