@@ -65,6 +65,8 @@ export interface EventRecord {
   readonly step: { readonly number: number; readonly command: string } | null;
   /** Why the event was refused. */
   readonly refusal: Fault | null;
+  /** Of a press: whether the key is used up. Otherwise the host gives it to the text, as VS Code does. */
+  readonly isUsed: boolean;
   /** The command of the host that ran (`Engine.command`). */
   readonly ranBy: string | null;
   /** The lines that the event added to the trace, each with its line feed. */

@@ -243,17 +243,19 @@ export class Engine {
 
   #record(ending) {
     const source = this.#read(PARTS.source), written = this.#read(PARTS.arguments);
-    const trace = this.#read(PARTS.trace), step = Number(this.#call("steps"));
+    const [trace, chord, command] = [PARTS.trace, PARTS.chord, PARTS.command].map((it) => this.#read(it));
+    const kind = KINDS[this.#call("taken")], step = Number(this.#call("steps"));
     return {
       ending,
-      kind: KINDS[this.#call("taken")],
-      chord: this.#read(PARTS.chord),
-      command: this.#read(PARTS.command),
+      kind,
+      chord,
+      command,
       arguments: written === "" ? undefined : JSON.parse(written),
       argumentsJson: written === "" ? null : written,
       rule: source === "" ? null : { source, place: Number(this.#call("place")) },
       step: step === 0 ? null : { number: step, command: this.#read(PARTS.step) },
       refusal: refusalIn(trace),
+      isUsed: kind === "chording" || command !== "" || chord.includes(" "),
       ranBy: null,
       trace,
     };

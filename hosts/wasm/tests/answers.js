@@ -15,6 +15,8 @@ const RULES = `[
     "args": { "commands": ["cursorLeft", { "command": "my.own", "args": 7 }, "type"] } },
   { "key": "h", "command": "p.hi" },
   { "key": "q", "command": "type", "args": { "text": 5 } },
+  { "key": "n", "command": "" },
+  { "key": "z n", "command": "" },
 ]`;
 const COMMANDS = [{ command: "buffer.top", title: "Größe" }];
 const MANIFEST = JSON.stringify({ name: "e", publisher: "p", contributes: { commands: COMMANDS } });
@@ -30,13 +32,19 @@ function presses(pafjirn) {
   is("no arguments", [engine.press("h").arguments, engine.press("h").argumentsJson], [undefined, null]);
   is("no rule", engine.press("ctrl+j"), {
     ending: "done", kind: "nothing", chord: "ctrl+j", command: "", argumentsJson: null, rule: null,
-    refusal: null, ranBy: null, trace: "key ctrl+j: unbound\n",
+    refusal: null, isUsed: false, ranBy: null, trace: "key ctrl+j: unbound\n",
   });
   is("no key", thrown(() => engine.press("ctrl+")), ["NoKey", 10]);
   is("the trace behind it", engine.trace, "key ctrl+j: unbound\n");
   is("a chord", [engine.press("z").kind, engine.press("z").chord], ["chording", "z z"]);
   is("a quiet press", engine.pressQuietly("y"), "not found");
   is("its trace", engine.trace, "key y: start my.own\nnot found my.own\n");
+  const used = (...keys) => keys.map((key) => engine.press(key).isUsed);
+  is("a key that is used up", used("y", "q"), [true, true]);
+  is("the keys of a chord", used("z", "z"), [true, true]);
+  is("a key that ends a chord", used("z", "ctrl+j"), [true, true]);
+  is("keys for the text", used("ctrl+j", "n"), [false, false]);
+  is("no action in a chord", used("z", "n"), [true, true]);
   is("an event", engine.press({ key: "y", code: "KeyY" }).command, "my.own");
   is("Shift alone", engine.press({ key: "Shift", code: "ShiftLeft", shiftKey: true }), null);
   is("an entry", engine.palette("grö"), [{ number: 1, label: "Größe", command: "buffer.top" }]);

@@ -17,7 +17,7 @@ export async function example(page: { addEventListener: typeof addEventListener 
   });
   page.addEventListener("keydown", (event: KeyboardEvent) => {
     const record: EventRecord | null = engine.press(event);
-    if (record && record.kind !== "nothing") event.preventDefault();
+    if (record?.isUsed) event.preventDefault();
   });
   const { ending, command, rule, refusal, trace } = engine.press("ctrl+h");
   const values = [true, 1, 2n ** 40n, "a", ["a", "b"], { a: 1 }];
