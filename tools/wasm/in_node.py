@@ -1,6 +1,5 @@
 """What tools/check-wasm tests in Node."""
 
-import json
 import os
 import re
 import shlex
@@ -11,7 +10,6 @@ import tempfile
 from shared.kit import TOP
 from shared.programs import run_program
 from wasm.binary import least_pages, with_memory
-from wasm.golden_sessions import json_texts
 from wasm.sessions import check_sessions
 
 HOST = os.path.join(TOP, "hosts/wasm")
@@ -167,14 +165,6 @@ def snippet_of(page):
     return code, re.sub("^    ", "", re.search(r"^It prints\n\n((?:    .*\n)+)", rest, re.M)[1], flags=re.M)
 
 
-def check_places(prefix, room, counts):
-    """Checks where the page finds syntax errors, on the golden texts of the engine."""
-    listed = os.path.join(room, "texts.json")
-    with open(listed, "w", encoding="utf-8") as file:
-        json.dump(list(json_texts()), file)
-    counts.add_run("syntax errors", node(prefix, "places.js", listed))
-
-
 def check_in_node(words, prefix, tests, counts):
     """All tests in Node."""
     check_header(prefix, counts)
@@ -185,9 +175,11 @@ def check_in_node(words, prefix, tests, counts):
         check_output(prefix, words.keyrun, room, counts)
     with tempfile.TemporaryDirectory() as room:
         check_sessions(words, lambda path: node(prefix, "sessions.js", path), room, counts, LIMIT)
-    counts.add_run("answers", node(prefix, "answers.js", flags=["--expose-gc"]))
+    for test in ["answers", "keycheck"]:
+        counts.add_run(test, node(prefix, test + ".js", flags=["--expose-gc"]))
+    golden = [sys.executable, os.path.join(TOP, "tools/golden-programs"), "--package", prefix]
+    counts.add_run("golden cases of keycheck", run_program(golden, LIMIT))
     with tempfile.TemporaryDirectory() as room:
-        check_places(prefix, room, counts)
         check_package(prefix, room, counts)
     if words.quick:
         return
