@@ -50,7 +50,7 @@ def by_keyrun(keyrun, given, seconds):
 def difference(has, wants):
     """The first difference of two answers, as a sentence."""
     if has[0] in OWN:
-        return f"{OWN[has[0]]}: {has[2]}"
+        return f"{OWN[has[0]]}: {has[2].strip()}"
     for part, one, other in zip(PARTS, has, wants):
         if one == other:
             continue
@@ -71,16 +71,17 @@ def check_sessions(words, play, room, counts, seconds):
     """Compares all runs. `play` runs hosts/wasm/tests/sessions.js."""
     runs = all_runs(words.seed)
     folders = [os.path.join(room, str(at)) for at in range(len(runs))]
-    given = [words_of(*it) for it in zip(runs.values(), folders, strict=True)]
+    given = [words_of(*it) for it in zip(runs.values(), folders)]
     listed = os.path.join(room, "sessions.json")
     with open(listed, "w", encoding="utf-8") as file:
         json.dump(given, file)
     status, out, said = play(listed)
-    if status:
+    answers = [] if status else json.loads(out)
+    if len(answers) != len(given):
         counts.add(False, "the sessions: " + said.decode(errors="replace"))
         return
-    answers, wanted = json.loads(out), by_keyrun(words.keyrun, given, seconds)
-    differ = [it for it in zip(runs, answers, wanted, folders, strict=True) if it[1] != it[2]]
+    wanted = by_keyrun(words.keyrun, given, seconds)
+    differ = [it for it in zip(runs, answers, wanted, folders) if it[1] != it[2]]
     for at, (name, has, wants, folder) in enumerate(differ[:SHOWN]):
         print(f"check-wasm: {name}: {difference(has, wants)}", flush=True)
         if at == 0:

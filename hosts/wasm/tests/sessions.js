@@ -42,7 +42,11 @@ function toldByCall(engine, line) {
   for (const [form, call] of CALLS) {
     const found = form.exec(text);
     if (!found || (text.startsWith("set ") && !isJson(found[3]))) continue;
-    return call(engine, ...found.slice(1));
+    try {
+      return call(engine, ...found.slice(1));
+    } catch (wrong) {
+      return { thrown: `${wrong.name} ${wrong.message}` };
+    }
   }
   return engine.line(line);
 }
