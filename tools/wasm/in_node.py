@@ -175,7 +175,7 @@ def check_in_node(words, prefix, tests, counts):
         check_output(prefix, words.keyrun, room, counts)
     with tempfile.TemporaryDirectory() as room:
         check_sessions(words, lambda path: node(prefix, "sessions.js", path), room, counts, LIMIT)
-    for test in ["answers", "keycheck"]:
+    for test in ["answers", "keycheck", "page"]:
         counts.add_run(test, node(prefix, test + ".js", flags=["--expose-gc"]))
     golden = [sys.executable, os.path.join(TOP, "tools/golden-programs"), "--package", prefix]
     counts.add_run("golden cases of keycheck", run_program(golden, LIMIT))
