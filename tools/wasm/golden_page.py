@@ -77,6 +77,7 @@ def steps_with_keys(page):
     page.press("s", "KeyS", ["ctrl"])
     yield "ctrl+s, with nothing to save"
     page.run("at('why-summary').click()")
+    page.wait("the reasons", "at('reasons').children.length > 0")
     yield "why ctrl+s typed"
     yield from steps_with_a_chord(page)
     page.press("ArrowLeft", "ArrowLeft")

@@ -139,14 +139,22 @@ def check_package(prefix, room, counts):
     installed = run_program(["npm", "install", *quiet, os.path.join(room, name)], LIMIT, cwd=room)
     is_installed = packed[0] == installed[0] == 0
     counts.add(is_installed, f"npm doesn't install the package: {packed} {installed}")
-    snippet, printed = snippet_of(os.path.join(HOST, "README.md"))
-    is_short = len(snippet.strip().splitlines()) <= 10
-    counts.add(is_short, "the first lines of hosts/wasm/README.md are more than ten")
-    with open(os.path.join(room, "snippet.js"), "w", encoding="utf-8") as file:
-        file.write(snippet)
-    ran = run_program(["node", "snippet.js"], LIMIT, cwd=room)
-    counts.add(ran == (0, printed.encode(), b""), f"the first lines of hosts/wasm/README.md: {ran}")
+    check_snippets(room, counts)
     check_types(room, counts)
+
+
+def check_snippets(room, counts):
+    """Checks that the README's codes print what stands below them, and that the first one is short."""
+    found = snippets_of(os.path.join(HOST, "README.md"))
+    counts.add(len(found) == 2, f"hosts/wasm/README.md has {len(found)} codes with their output, and not 2")
+    for place, (snippet, printed) in enumerate(found):
+        name = f"code {place + 1} of hosts/wasm/README.md"
+        is_short = len(snippet.strip().splitlines()) <= 10
+        counts.add(is_short, name + " has more than ten lines")
+        with open(os.path.join(room, "snippet.js"), "w", encoding="utf-8") as file:
+            file.write(snippet)
+        ran = run_program(["node", "snippet.js"], LIMIT, cwd=room)
+        counts.add(ran == (0, printed.encode(), b""), f"{name}: {ran}")
 
 
 def check_types(room, counts):
@@ -158,11 +166,11 @@ def check_types(room, counts):
     counts.add(ran[0] == 0, "the types: " + (ran[1] + ran[2]).decode())
 
 
-def snippet_of(page):
-    """The first code of a document, and what it prints."""
+def snippets_of(page):
+    """Each code of a document that is followed by what it prints, and that."""
+    code = re.compile(r"^```js\n((?:(?!```).*\n)+)```\n\nIt prints\n\n((?:    .*\n)+)", re.M)
     with open(page, encoding="utf-8") as text:
-        _, code, rest = re.split(r"^```(?:js)?\n", text.read(), maxsplit=2, flags=re.M)
-    return code, re.sub("^    ", "", re.search(r"^It prints\n\n((?:    .*\n)+)", rest, re.M)[1], flags=re.M)
+        return [(it[1], re.sub("^    ", "", it[2], flags=re.M)) for it in code.finditer(text.read())]
 
 
 def check_in_node(words, prefix, tests, counts):

@@ -72,14 +72,16 @@ FAINT = r"""(() => {
   const faint = seen.filter((it) => hasText(it) && !it.disabled && isFaint(it));
   return faint.map((it) => it.outerHTML.slice(0, 100));
 })()"""
-# A module that traps at each line.
-TRAPPING = """
+# A module with another call.
+CHANGED = """
 const whole = WebAssembly.instantiateStreaming;
 WebAssembly.instantiateStreaming = async (...given) => {
   const { instance } = await whole.apply(WebAssembly, given);
-  const trap = () => { throw new WebAssembly.RuntimeError("unreachable"); };
-  return { instance: { exports: { ...instance.exports, pafjirn_line: trap } } };
+  return { instance: { exports: { ...instance.exports, %s } } };
 };"""
+# One that traps at each line, and one whose keycheck is refused memory.
+TRAPPING = CHANGED % 'pafjirn_line: () => { throw new WebAssembly.RuntimeError("unreachable"); }'
+REFUSING = CHANGED % "pafjirn_status: () => 4, pafjirn_written: () => 0n"
 RULES = """[{"key": "f2", "command": "my.own", "args": {"n": 9007199254740993}},
   {"key": "a"}, {"key": "b b", "command": "x"}]"""
 COMMANDS = [{"command": "buffer.top", "title": "Go to Top"}, {"command": "x", "title": "Other"}]
@@ -409,12 +411,18 @@ def with_an_engine_that_fails(page, prefix, room):
         # (a request without an answer for the page, which only the page's own policy refuses)
         other = f"fetch({json.dumps(url)}, {{ mode: 'no-cors' }}).then(() => 'sent', () => 'refused')"
         page.is_("nothing is sent to another server", other, "refused")
-    patched = page.browser.call("Page.addScriptToEvaluateOnNewDocument", source=TRAPPING)["identifier"]
+    for script, what, wanted in [
+        (TRAPPING, "a trap", "The engine trapped: reload the page."),
+        (REFUSING, "a press without keycheck", "f19: no rule matches. The line is empty."),
+    ]:
+        patched = page.browser.call("Page.addScriptToEvaluateOnNewDocument", source=script)["identifier"]
+        page.open()
+        page.is_(f"before {what}", "status", "keycheck: " if script == REFUSING else "")
+        page.run("at('key').value = 'f19'; at('press').requestSubmit()")
+        page.is_(what, "status", wanted)
+        page.browser.call("Page.removeScriptToEvaluateOnNewDocument", identifier=patched)
     page.open()
-    page.run("at('key').value = 'f19'; at('press').requestSubmit()")
-    page.is_("a trap", "status", "The engine trapped: reload the page.")
-    page.browser.call("Page.removeScriptToEvaluateOnNewDocument", identifier=patched)
-    page.open()
+    page.run("at('over').click()")
     page.run("at('key').value = 'f19'; at('press').requestSubmit()")
     page.is_("the page behind it", "status", "f19: no rule matches. The line is empty.")
 

@@ -52,12 +52,13 @@ export class Checks {
   rules(events) {
     const changes = events.filter((it) => CHANGES.test(it)), behind = changes.join("\n");
     if (this.#listed?.behind === behind) return this.#listed.rules;
+    // (where memory is refused, that is thrown once, and there are none)
+    this.#listed = { behind, rules: [] };
     const paths = ["defaults.json", ...this.#folders.map((it) => `${it}/package.json`)];
     const fileOf = ({ path }) => (paths.includes(path) ? paths.indexOf(path) : paths.length);
     const found = this.#run("list", this.#script(changes)).map((it) => JSON.parse(it).rule);
-    const rules = found.map((rule) => ({ ...rule, file: fileOf(rule.place) }));
-    this.#listed = { behind, rules };
-    return rules;
+    this.#listed.rules = found.map((rule) => ({ ...rule, file: fileOf(rule.place) }));
+    return this.#listed.rules;
   }
 
   #script(events) {

@@ -72,9 +72,16 @@ function load(again = []) {
     // (the problems have why a load is refused)
     if (!(wrong instanceof LoadRefused)) failure = wrong;
   }
-  problems.show(checks.problems(), store.listed(files).map(({ title }) => title));
+  const shown = (show) => {
+    try {
+      show();
+    } catch (wrong) {
+      failure ??= wrong;
+    }
+  };
+  shown(() => problems.show(checks.problems(), store.listed(files).map(({ title }) => title)));
   showExtensions();
-  showState();
+  shown(showState);
   scopes.offer(store.listed(files).flatMap(({ text }) => keysIn(text)));
   if (failure) throw failure;
 }
