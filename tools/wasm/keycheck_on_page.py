@@ -68,6 +68,10 @@ def with_problems(page):
     page.run("buttons('#problems')[0].click()")
     page.is_("its line", "selected()", '"esc", "command": "x"},')
     page.is_("the text has the focus", "document.activeElement.id", "source")
+    press(page, "b")
+    page.run("at('rule').querySelector('button').click()")
+    page.is_("the rule of a press", "[shown('rule'), selected()]",
+             ["keybindings.json, line 3", '{"key": "b", "command": "😀😀"}'])
     page.run("buttons('#problems')[3].click()")
     page.is_("the line of another file", "[at('file').value, selected()]", ["layout", '"keyz": {}}]}'])
     page.is_("the notes", "texts('#notes-label').join().trim()", "3 notes too")
