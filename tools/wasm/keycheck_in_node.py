@@ -13,7 +13,7 @@ PLAYER = os.path.join(TOP, "hosts/wasm/tests/keychecks.js")
 
 class KeycheckInNode:
     """One Keycheck of a process, which has the package in this folder. Its calls are those of hosts/python,
-    and a call that throws raises RuntimeError."""
+    and a call that throws raises ValueError."""
 
     def __init__(self, package):
         env = {**os.environ, "PAFJIRN_FOLDER": os.path.abspath(package)}
@@ -36,5 +36,5 @@ class KeycheckInNode:
         line = self._process.stdout.readline()
         answer = json.loads(line) if line else {"thrown": "the process ended"}
         if "thrown" in answer:
-            raise RuntimeError(answer["thrown"])
+            raise ValueError(answer["thrown"])
         return answer
