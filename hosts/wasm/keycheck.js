@@ -19,19 +19,24 @@ export class Keycheck {
 
   /** Puts a file at a path, in the place of the one before. */
   put(path, text) {
-    this.#done("put", ...this.#module.passed([path, bytesOf(text)]));
+    this.#done("put", ...this.#module.passed([path, text].map(bytesOf)));
     this.#module.forgetTexts();
   }
 
   /** Removes the file at a path, if there is one. */
   remove(path) {
-    this.#done("remove", ...this.#module.passed([path]));
+    this.#done("remove", ...this.#module.passed([bytesOf(path)]));
   }
 
   /** Runs keycheck by the words of a command line, without the program's name. */
   run(...words) {
-    for (const word of ["keycheck", ...words]) this.#done("word", ...this.#module.passed([word]));
-    this.#done("keycheck");
+    const given = ["keycheck", ...words].map(bytesOf);
+    try {
+      for (const word of given) this.#done("word", ...this.#module.passed([word]));
+    } finally {
+      // (a run takes all words away, also those before a word that was refused)
+      this.#done("keycheck");
+    }
     const status = this.#module.call("status", this.#handle);
     const written = (stream) => this.#module.read("written", this.#handle, STREAMS[stream]);
     return { status, output: written("output"), errors: written("errors") };

@@ -244,8 +244,7 @@ export class Engine {
   #record(ending) {
     const source = this.#read(PARTS.source), written = this.#read(PARTS.arguments);
     const [trace, chord, command] = [PARTS.trace, PARTS.chord, PARTS.command].map((it) => this.#read(it));
-    const step = Number(this.#call("steps"));
-    const kind = KINDS[this.#call("taken")];
+    const kind = KINDS[this.#call("taken")], step = Number(this.#call("steps"));
     return {
       ending,
       kind,

@@ -1,13 +1,14 @@
-"""The sizes and times of the module, for tools/check-wasm --figures."""
+"""The sizes and times of the module and its page, for tools/check-wasm --figures."""
 
 import gzip
 import os
 
 from wasm.in_node import node
+from wasm.page_times import page_rows
 
 
 def figures(prefix):
-    """Prints the size of the module, and times in Node."""
+    """Prints the size of the module, and times in Node and of the page."""
     with open(os.path.join(prefix, "pafjirn.wasm"), "rb") as file:
         module = file.read()
     print("| what | figure |")
@@ -18,3 +19,5 @@ def figures(prefix):
     if ran[0]:
         raise RuntimeError((ran[1] + ran[2]).decode(errors="replace"))
     print(ran[1].decode(), end="")
+    for what, figure in page_rows(prefix):
+        print(f"| {what} | {figure} |", flush=True)

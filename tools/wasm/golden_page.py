@@ -12,22 +12,26 @@ GOLDEN = os.path.join(TOP, "golden/wasm/page.txt")
 EXAMPLES = [os.path.join(TOP, "examples", it) for it in ("layout.json", "defaults.json", "keybindings.json")]
 EXAMPLES += [os.path.join(TOP, "examples", it) for it in ("notes", "brackets")]
 # The step behind which the picture is taken.
-PICTURED = "ctrl+s, with nothing to save"
+PICTURED = "why ctrl+s typed"
 # The script that returns what is compared: the texts of these elements.
 SHOWN = """(() => {
   const text = at("text"), caret = text.selectionStart, active = document.activeElement;
   const inputs = [...document.querySelectorAll("#scopes fieldset:first-of-type label")];
   const valueOf = (input) => input.type === "checkbox" ? input.checked : input.value;
   const mark = (it) => it.getAttribute("aria-selected") === "true" ? "> " : "  ";
+  const textsOf = (all) => [...all].filter((it) => it.checkVisibility()).map((it) => it.textContent);
   return JSON.stringify({
     text: text.value.slice(0, caret) + "|" + text.value.slice(caret),
     keys: shown("chord"), open: shown("open"), result: shown("result"), command: shown("command"),
     arguments: shown("arguments"), rule: shown("rule"), "rule text": at("rule-text").textContent,
-    entries: [...document.querySelectorAll("#entries li")].map((it) => mark(it) + it.firstChild.textContent),
+    "goes on": textsOf(at("continuations").children),
+    why: textsOf(document.querySelectorAll("#no-reasons, #reasons li")),
+    entries: [...at("entries").children].map((it) => mark(it) + textsOf(it.children).join(" | ")),
     list: `${at("query").getAttribute("aria-expanded")} ${at("query").getAttribute("aria-activedescendant")}`,
     window: inputs.map((it) => it.textContent.trim() + "=" + valueOf(it.querySelector("input"))),
     trace: shown("trace").split("\\n").slice(-3).join("\\n").trim(),
-    problems: [...at("problems").children].map((it) => it.textContent), status: shown("status"),
+    problems: textsOf(document.querySelectorAll("#no-problems, #notes-label, #problems :is(h4, li)")),
+    status: shown("status"),
     focus: active.dataset.control || active.id || active.tagName.toLowerCase(),
   });
 })()"""
@@ -72,6 +76,10 @@ def steps_with_keys(page):
     yield "ctrl+s clears it"
     page.press("s", "KeyS", ["ctrl"])
     yield "ctrl+s, with nothing to save"
+    page.run("at('why-summary').click()")
+    page.wait("the reasons", "at('reasons').children.length > 0")
+    yield "why ctrl+s typed"
+    yield from steps_with_a_chord(page)
     page.press("ArrowLeft", "ArrowLeft")
     yield "the caret goes left"
     page.press("j", "KeyJ", ["ctrl", "alt"])
@@ -86,6 +94,18 @@ def steps_with_keys(page):
     yield "other keys that have names"
     page.press("!", "Digit1", ["shift"], text="!")
     yield "a digit with shift"
+
+
+def steps_with_a_chord(page):
+    button = "at('continuations').querySelectorAll('button')[%d]"
+    page.press("k", "KeyK", ["ctrl"])
+    yield "ctrl+k opens a chord again"
+    page.run(button % 2 + ".focus()")
+    page.press("Enter", "Enter", text="\r")
+    yield "a key that goes on with the chord is pressed, and waits for another one"
+    page.press("Enter", "Enter", text="\r")
+    yield "that key ends the chord, and the focus leaves the keys"
+    page.focus("text")
 
 
 def steps_with_context_keys(page):
@@ -106,6 +126,9 @@ def steps_with_the_palette(page):
     yield "the palette lists all"
     page.press("ArrowDown", "ArrowDown")
     yield "an arrow selects the next"
+    page.run("at('notes').click()")
+    yield "notes are shown too"
+    page.run("at('notes').click()")
     for letter in "no s":
         page.press(letter, "Space" if letter == " " else "Key" + letter.upper(), text=letter)
     yield "the palette is filtered"
@@ -134,6 +157,7 @@ def steps_with_files(page):
 def texts(page, picture):
     """What the page shows behind each step. The picture is a path, or None."""
     for name in steps(page):
+        page.run("wait(() => at('reasons').getAttribute('aria-busy') !== 'true')")
         if picture and name == PICTURED:
             take_picture(page, picture)
         lines = ["# " + name]

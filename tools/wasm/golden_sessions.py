@@ -1,11 +1,9 @@
-"""The golden sessions of the engine, as runs of a program: the files and the script of each. Also the golden
-texts of JSON with comments.
+"""The golden sessions of the engine, as runs of a program: the files and the script of each.
 
 A run is a dictionary of files by their paths. What no program can be told is left out: the closures that a
 session is loaded with, and calls that aren't lines of a script.
 """
 
-import contextlib
 import glob
 import os
 import re
@@ -64,12 +62,3 @@ def golden_runs():
             user, _, rest = line.partition(" ;; ")
             files = {"platform": b"linux", "user.json": bytes_of(user)}
             yield f"{name}, {line[:40]}", files | {"script": bytes_of(rest.partition(" => ")[0])}
-
-
-def json_texts():
-    """Each golden text of JSON with comments, and whether it has a syntax error."""
-    for _, kind, lines in blocks():
-        for line in lines if kind == "json" else []:
-            given, _, wanted = line.rpartition(" => ")
-            with contextlib.suppress(UnicodeDecodeError):
-                yield bytes_of(given).decode(), bool(re.match("[234] ", wanted))

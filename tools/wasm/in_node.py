@@ -1,6 +1,5 @@
 """What tools/check-wasm tests in Node."""
 
-import json
 import os
 import re
 import shlex
@@ -11,7 +10,6 @@ import tempfile
 from shared.kit import TOP
 from shared.programs import run_program
 from wasm.binary import least_pages, with_memory
-from wasm.golden_sessions import json_texts
 from wasm.sessions import check_sessions
 
 HOST = os.path.join(TOP, "hosts/wasm")
@@ -141,14 +139,22 @@ def check_package(prefix, room, counts):
     installed = run_program(["npm", "install", *quiet, os.path.join(room, name)], LIMIT, cwd=room)
     is_installed = packed[0] == installed[0] == 0
     counts.add(is_installed, f"npm doesn't install the package: {packed} {installed}")
-    snippet, printed = snippet_of(os.path.join(HOST, "README.md"))
-    is_short = len(snippet.strip().splitlines()) <= 10
-    counts.add(is_short, "the first lines of hosts/wasm/README.md are more than ten")
-    with open(os.path.join(room, "snippet.js"), "w", encoding="utf-8") as file:
-        file.write(snippet)
-    ran = run_program(["node", "snippet.js"], LIMIT, cwd=room)
-    counts.add(ran == (0, printed.encode(), b""), f"the first lines of hosts/wasm/README.md: {ran}")
+    check_snippets(room, counts)
     check_types(room, counts)
+
+
+def check_snippets(room, counts):
+    """Checks that the README's codes print what stands below them, and that the first one is short."""
+    found = snippets_of(os.path.join(HOST, "README.md"))
+    counts.add(len(found) == 2, f"hosts/wasm/README.md has {len(found)} codes with their output, and not 2")
+    for place, (snippet, printed) in enumerate(found):
+        name = f"code {place + 1} of hosts/wasm/README.md"
+        is_short = len(snippet.strip().splitlines()) <= 10
+        counts.add(is_short, name + " has more than ten lines")
+        with open(os.path.join(room, "snippet.js"), "w", encoding="utf-8") as file:
+            file.write(snippet)
+        ran = run_program(["node", "snippet.js"], LIMIT, cwd=room)
+        counts.add(ran == (0, printed.encode(), b""), f"{name}: {ran}")
 
 
 def check_types(room, counts):
@@ -160,19 +166,11 @@ def check_types(room, counts):
     counts.add(ran[0] == 0, "the types: " + (ran[1] + ran[2]).decode())
 
 
-def snippet_of(page):
-    """The first code of a document, and what it prints."""
+def snippets_of(page):
+    """Each code of a document that is followed by what it prints, and that."""
+    code = re.compile(r"^```js\n((?:(?!```).*\n)+)```\n\nIt prints\n\n((?:    .*\n)+)", re.M)
     with open(page, encoding="utf-8") as text:
-        _, code, rest = re.split(r"^```(?:js)?\n", text.read(), maxsplit=2, flags=re.M)
-    return code, re.sub("^    ", "", re.search(r"^It prints\n\n((?:    .*\n)+)", rest, re.M)[1], flags=re.M)
-
-
-def check_places(prefix, room, counts):
-    """Checks where the page finds syntax errors, on the golden texts of the engine."""
-    listed = os.path.join(room, "texts.json")
-    with open(listed, "w", encoding="utf-8") as file:
-        json.dump(list(json_texts()), file)
-    counts.add_run("syntax errors", node(prefix, "places.js", listed))
+        return [(it[1], re.sub("^    ", "", it[2], flags=re.M)) for it in code.finditer(text.read())]
 
 
 def check_in_node(words, prefix, tests, counts):
@@ -185,9 +183,11 @@ def check_in_node(words, prefix, tests, counts):
         check_output(prefix, words.keyrun, room, counts)
     with tempfile.TemporaryDirectory() as room:
         check_sessions(words, lambda path: node(prefix, "sessions.js", path), room, counts, LIMIT)
-    counts.add_run("answers", node(prefix, "answers.js", flags=["--expose-gc"]))
+    for test in ["answers", "keycheck", "page"]:
+        counts.add_run(test, node(prefix, test + ".js", flags=["--expose-gc"]))
+    golden = [sys.executable, os.path.join(TOP, "tools/golden-programs"), "--package", prefix]
+    counts.add_run("golden cases of keycheck", run_program(golden, LIMIT))
     with tempfile.TemporaryDirectory() as room:
-        check_places(prefix, room, counts)
         check_package(prefix, room, counts)
     if words.quick:
         return

@@ -12,6 +12,7 @@ import threading
 
 from shared.browser import Browser, chromium
 from wasm.golden_page import check_golden
+from wasm.keycheck_on_page import check_keycheck
 
 # The policy of the page is its own, so any server does. A type that isn't known would stop the module.
 KINDS = {".js": "text/javascript", ".wasm": "application/wasm"}
@@ -71,14 +72,16 @@ FAINT = r"""(() => {
   const faint = seen.filter((it) => hasText(it) && !it.disabled && isFaint(it));
   return faint.map((it) => it.outerHTML.slice(0, 100));
 })()"""
-# A module that traps at each line.
-TRAPPING = """
+# A module with another call.
+CHANGED = """
 const whole = WebAssembly.instantiateStreaming;
 WebAssembly.instantiateStreaming = async (...given) => {
   const { instance } = await whole.apply(WebAssembly, given);
-  const trap = () => { throw new WebAssembly.RuntimeError("unreachable"); };
-  return { instance: { exports: { ...instance.exports, pafjirn_line: trap } } };
+  return { instance: { exports: { ...instance.exports, %s } } };
 };"""
+# One that traps at each line, and one whose keycheck is refused memory.
+TRAPPING = CHANGED % 'pafjirn_line: () => { throw new WebAssembly.RuntimeError("unreachable"); }'
+REFUSING = CHANGED % "pafjirn_status: () => 4, pafjirn_written: () => 0n"
 RULES = """[{"key": "f2", "command": "my.own", "args": {"n": 9007199254740993}},
   {"key": "a"}, {"key": "b b", "command": "x"}]"""
 COMMANDS = [{"command": "buffer.top", "title": "Go to Top"}, {"command": "x", "title": "Other"}]
@@ -224,11 +227,11 @@ def with_files(page):
     files = [["keybindings.json", RULES]]
     page.run(f"picked({json.dumps(files)})")
     page.wait("files are loaded", "shown('status') === '1 file loaded, with 1 problem.'")
-    problem = "keybindings.json, line 2: MissingMember: a required member is absent"
-    page.is_("the problem", "at('problems').textContent", problem)
+    problem = "Line 2, column 3, error: the rule has no member `command`; the rule is dropped"
+    page.is_("the problem", "at('problems').textContent", "keybindings.json" + problem)
     page.run("at('problems').querySelector('button').click()")
     selected = "at('source').value.slice(at('source').selectionStart, at('source').selectionEnd)"
-    page.is_("its place", selected, '{"key": "a"}')
+    page.is_("its place", selected, '{"key": "a"}, {"key": "b b", "command": "x"}]')
     page.focus("text")
     page.press("F2", "F2")
     page.is_("arguments that aren't rounded", "arguments", '{"n":9007199254740993}')
@@ -248,8 +251,8 @@ def with_a_text(page):
     """Changes the text of a file: the events are told again."""
     page.run("at('source').value = '['; at('source').dispatchEvent(new Event('input'))")
     page.wait("a load that is refused", "at('problems').querySelector('.refused')")
-    refused = "keybindings.json, line 1: Syntax: the text isn't JSON, or nests deeper than 127 levels"
-    page.is_("why", "at('problems').textContent", refused)
+    refused = "Line 1, column 1, error: this isn't JSON"
+    page.is_("why", "at('problems').querySelector('li').textContent.split(':', 2).join(':')", refused)
     page.focus("text")
     page.press("F2", "F2")
     page.is_("a key without an engine", "status", "The files don't load: see Problems.")
@@ -312,12 +315,12 @@ def with_a_drop(page, room):
     page.drop([os.path.join(folder, it) for it in ("my-ext", "default-keys.json")])
     page.wait("files are dropped", "shown('status') === '2 files loaded, with 1 problem.'")
     page.is_("the extension", "at('file').options[3].textContent", "my-ext/package.json")
-    page.is_("its place", "at('problems').querySelector('button').textContent", "defaults.json, line 2")
+    page.is_("its place", "at('problems').querySelector('h4').textContent", "defaults.json")
 
 
 def with_the_palette(page):
     page.focus("query")
-    page.is_("all commands", "at('entries').textContent", "Go to Topbuffer.topOtherx")
+    page.is_("all commands", "at('entries').textContent", "Go to Topbuffer.topOtherb bx")
     page.press("ArrowDown", "ArrowDown")
     page.is_("the second entry", "at('query').getAttribute('aria-activedescendant')", "entry-1")
     for letter in "top":
@@ -408,29 +411,55 @@ def with_an_engine_that_fails(page, prefix, room):
         # (a request without an answer for the page, which only the page's own policy refuses)
         other = f"fetch({json.dumps(url)}, {{ mode: 'no-cors' }}).then(() => 'sent', () => 'refused')"
         page.is_("nothing is sent to another server", other, "refused")
-    patched = page.browser.call("Page.addScriptToEvaluateOnNewDocument", source=TRAPPING)["identifier"]
+    for script, what, wanted in [
+        (TRAPPING, "a trap", "The engine trapped: reload the page."),
+        (REFUSING, "a press without keycheck", "f19: no rule matches. The line is empty."),
+    ]:
+        patched = page.browser.call("Page.addScriptToEvaluateOnNewDocument", source=script)["identifier"]
+        page.open()
+        page.is_(f"before {what}", "status", "keycheck: " if script == REFUSING else "")
+        page.run("at('key').value = 'f19'; at('press').requestSubmit()")
+        page.is_(what, "status", wanted)
+        page.browser.call("Page.removeScriptToEvaluateOnNewDocument", identifier=patched)
     page.open()
-    page.run("at('key').value = 'f19'; at('press').requestSubmit()")
-    page.is_("a trap", "status", "The engine trapped: reload the page.")
-    page.browser.call("Page.removeScriptToEvaluateOnNewDocument", identifier=patched)
-    page.open()
+    page.run("at('over').click()")
     page.run("at('key').value = 'f19'; at('press').requestSubmit()")
     page.is_("the page behind it", "status", "f19: no rule matches. The line is empty.")
 
 
-def in_each_look(page):
-    page.is_("elements that nothing names", UNNAMED, [])
-    page.run("at('query').focus(); at('keyboard').querySelector('button').click()")
-    page.run("at('status').classList.add('wrong')")
-    page.run("at('source').value = '['; at('source').dispatchEvent(new Event('input'))")
-    page.wait("an error is shown", "at('problems').querySelector('.refused')")
+def with_all_lists(page):
+    """Shows a chord with its keys, why, and the notes among the problems."""
+    page.run("at('over').click(); at('key').value = 'ctrl+k'; at('press').requestSubmit()")
+    page.run("at('why').open = true")
+    dropped, kept = {"key": "ctrl+k a", "command": "x", "args": 1.5}, {"key": "ctrl+k b", "command": "y"}
+    text = json.dumps(json.dumps([dropped, kept]))
+    page.run(f"at('source').value = {text}; at('source').dispatchEvent(new Event('input'))")
+    page.wait("the rules are loaded", "at('continuations').textContent === 'b y'")
+    page.run("at('notes').checked = true; at('notes').onchange()")
+    lists = "['#continuations li', '#reasons li', '#problems li'].map((it) => document.querySelector(it))"
+    page.wait("all lists are shown", lists + ".every((it) => it?.checkVisibility())")
+
+
+def in_each_scheme(page, what):
     for scheme in ["light", "dark"]:
         features = [{"name": "prefers-color-scheme", "value": scheme}]
         page.browser.call("Emulation.setEmulatedMedia", features=features)
-        page.is_(f"faint texts, {scheme}", FAINT, [])
+        page.is_(f"faint texts, {scheme}, {what}", FAINT, [])
+
+
+def in_each_look(page):
+    with_all_lists(page)
+    page.is_("elements that nothing names", UNNAMED, [])
+    page.run("at('query').focus(); at('keyboard').querySelector('button').click()")
+    in_each_scheme(page, "with all lists")
+    page.run("at('status').classList.add('wrong')")
+    page.run("at('source').value = '['; at('source').dispatchEvent(new Event('input'))")
+    page.wait("an error is shown", "at('problems').querySelector('.refused')")
+    in_each_scheme(page, "with an error")
     size = {"width": 360, "height": 740, "deviceScaleFactor": 1, "mobile": True}
     page.browser.call("Emulation.setDeviceMetricsOverride", **size)
     page.open()
+    with_all_lists(page)
     page.is_("no column is cut off at 360 pixels", "document.documentElement.scrollWidth <= 360", True)
     wide = "[...document.querySelectorAll('main *')].filter((it) => it.getBoundingClientRect().right > 361)"
     page.is_("no element is cut off", wide + ".length", 0)
@@ -451,7 +480,8 @@ def by_the_tab_key(page):
         if gone[-1] == "text":
             page.press("Escape", "Escape", ["shift"])
             page.is_("shift+escape leaves the text", "document.activeElement.id", "key")
-    wanted = ["share", "over", "text", "trace", "pick", "file", "source", "set-key", "query", "body"]
+    wanted = ["share", "over", "text", "why-summary", "trace", "pick", "file", "source", "set-key", "query"]
+    wanted.append("body")
     page.counts.add([it for it in gone if it in wanted] == wanted, f"the page: the Tab key goes to {gone}")
 
 
@@ -478,7 +508,7 @@ def check_on_page(prefix, words, counts):
         with_a_drop(page, room)
         with_many_files(page)
         with_many_rules(page)
-        page.run("at('over').click()")
+        check_keycheck(page)
         with_an_engine_that_fails(page, prefix, room)
         check_golden(page, words, counts)
         by_the_tab_key(page)

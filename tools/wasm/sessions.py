@@ -18,6 +18,7 @@ KEPT, SHOWN = os.path.join(TOP, ".rt/session-that-differs"), 3
 PARTS = ["the status", "standard output", "standard error"]
 # The statuses of hosts/wasm/tests/sessions.js that keyrun hasn't.
 OWN = {-1: "the module is dead", -2: "the module lost memory", -3: "a call answers otherwise than its line"}
+OWN[-4] = "the page has other context keys than keycheck"
 
 
 def all_runs(first):

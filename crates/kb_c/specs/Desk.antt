@@ -8,12 +8,12 @@ use Rattle.kb_engine.specs.declared.outcome.Outcome.TheVariants as outcome
 use Rattle.kb_hosted_keycheck.specs.Desk.{Runs, written}
 use Rattle.kb_hosted_keycheck.specs.Values.{DeskData}
 
--- a change that takes a text of these bytes was made; or they are no text, or memory was refused, and nothing
--- changed
+-- a change that takes a text of these bytes was made; or they are no text, or memory was refused for one, and
+-- nothing changed
 abbrev pub Changes : List ℕ → DeskData → DeskData → Outcome → DeskData → Type 0
 Changes bytes old changed outcome.Done new = (is_utf8 bytes ≡ true) × (new ≡ changed)
 Changes bytes old changed outcome.NoText new = (is_utf8 bytes ≡ false) × (new ≡ old)
-Changes bytes old changed outcome.NoMemory new = new ≡ old
+Changes bytes old changed outcome.NoMemory new = (is_utf8 bytes ≡ true) × (new ≡ old)
 Changes bytes old changed o new = ⊥
 
 -- a file is at the path, in the place of the one before

@@ -24,44 +24,49 @@ export class Context {
     this.values = new Map(found.map(({ name, keys }) => [name, valuesOf(keys)]));
   }
 
-  set(scope, key, value) {
-    this.values.get(scope)?.set(key, value);
+  /** Follows an event that the engine accepted: its line, and the keys that its commands set, in order, by
+   * `setContext` of a rule or an entry, of a step of `runCommands`, and of a call of a handler. */
+  follow(line, record) {
+    const [name, scope, key, ...value] = line.split(" ");
+    if (name === "focus") this.focus = scope;
+    if (name === "set") this.values.get(scope)?.set(key, value.join(" "));
+    if (name === "unset") this.values.get(scope)?.delete(key);
+    for (const it of settings(record)) this.#set(...it);
   }
 
-  unset(scope, key) {
-    this.values.get(scope)?.delete(key);
-  }
-
-  /** Sets the keys that the commands of an event set, in order: `setContext` of a rule or an entry, of a step
-   * of `runCommands`, and of a call of a handler. */
-  follow(record) {
-    for (const [key, value] of settings(record)) {
-      const count = [...this.values.values()].reduce((sum, keys) => sum + keys.size, 0);
-      if (this.values.get(this.root).has(key) || count < MOST_KEYS) this.set(this.root, key, value);
-    }
+  #set(key, value) {
+    const count = [...this.values.values()].reduce((sum, keys) => sum + keys.size, 0);
+    const keys = this.values.get(this.root);
+    if (keys.has(key) || count < MOST_KEYS) keys.set(key, value);
   }
 }
 
 // The keys that `setContext` set in an event, with their values. A command that didn't end has set nothing.
+// Each one that ended has a line `done` at its end, with the calls of a handler above it.
 function* settings(record) {
   const head = `start ${record.command}\n`, begin = record.trace.indexOf(head), call = "call setContext ";
   if (record.kind !== "started" || begin < 0) return;
   const given = record.argumentsJson === null ? undefined : read(record.argumentsJson);
-  const steps = record.command === "runCommands" ? stepsOf(given) : [];
-  let rest = record.trace.slice(begin + head.length), running = [record.command, given];
-  while (rest) {
-    // (the name of a step may have a line feed)
-    const step = rest.startsWith("run ") ? steps.shift() : undefined;
-    const line = step ? `run ${step[0]}` : rest.split("\n", 1)[0];
-    if (step) running = step;
-    rest = rest.slice(line.length + 1);
-    if (line.startsWith(call)) {
+  let rest = record.trace.slice(begin + head.length);
+  for (const [name, value] of ended(record, given)) {
+    // (the line of a step has its command, which may have a line feed)
+    if (record.step) rest = rest.slice(`run ${name}\n`.length);
+    for (let line = ""; !line.startsWith("done ") && rest;) {
+      line = rest.split("\n", 1)[0];
+      rest = rest.slice(line.length + 1);
+      if (!line.startsWith(call)) continue;
       const { items } = read(line.slice(call.length));
       yield [plain(items?.[0]), json(items?.[1])];
-    } else if (line.startsWith("done ") && running[0] === "setContext") {
-      yield setting(running[1]);
     }
+    if (name === "setContext") yield setting(value);
   }
+}
+
+// The commands of an event that ended, with their arguments: of `runCommands` all above the last step that
+// began, and that one if the event is done.
+function ended({ command, ending, step }, given) {
+  const count = (step ? step.number - 1 : 0) + (ending === "done" ? 1 : 0);
+  return (step ? stepsOf(given) : [[command, given]]).slice(0, count);
 }
 
 // The commands of a `runCommands` with their arguments, in order.

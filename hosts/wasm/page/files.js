@@ -40,6 +40,11 @@ export function listed(files) {
   ]));
 }
 
+/** Whether a file is there. One without text isn't, but for a manifest. */
+export function isThere({ id, text }) {
+  return id.startsWith("manifest") || text.trim() !== "";
+}
+
 /** Changes the text of a file. */
 export function change(files, id, text) {
   const [name, number] = id.split(" ");
@@ -47,22 +52,20 @@ export function change(files, id, text) {
   else files.extensions[number][name] = text;
 }
 
-/** What the engine loads. A file without text isn't there. */
+/** What the engine loads. */
 export function given(files) {
-  const there = (text) => (text.trim() === "" ? undefined : text);
-  const extensions = files.extensions.map(({ manifest, handlers }) => {
-    const found = there(handlers);
-    return found === undefined ? { manifest } : { manifest, handlers: found };
+  const there = new Map(listed(files).filter(isThere).map(({ id, text }) => [id, text]));
+  const extensions = files.extensions.map(({ manifest }, number) => {
+    const handlers = there.get(`handlers ${number}`);
+    return handlers === undefined ? { manifest } : { manifest, handlers };
   });
-  const [user, defaults, layout] = ["user", "defaults", "layout"].map((name) => there(files[name]));
+  const [user, defaults, layout] = ["user", "defaults", "layout"].map((id) => there.get(id));
   return { user, defaults, layout, platform: files.platform, extensions };
 }
 
-/** The name of the file that the source of a rule or of a refusal stands for, or null. */
+/** The name of the file that the source of a rule stands for, or null. */
 export function idOf(files, source) {
   if (source in NAMES) return source;
-  const [, number, name] = /^ext (\d+) (package|handlers)\.json$/.exec(source) ?? [];
-  if (number !== undefined) return `${name === "package" ? "manifest" : "handlers"} ${number}`;
   const place = files.extensions.findIndex(({ manifest }) => identifier(manifest) === source);
   return place < 0 ? null : `manifest ${place}`;
 }
@@ -248,6 +251,7 @@ function checked(state) {
   const isRight = files && [files.user, files.defaults, files.layout].every(isText)
     && ["linux", "mac", "windows"].includes(files.platform) && Array.isArray(files.extensions)
     && files.extensions.every((it) => [it?.folder, it?.manifest, it?.handlers].every(isText))
+    && new Set(files.extensions.map(({ folder }) => folder)).size === files.extensions.length
     && Array.isArray(lines) && lines.every(isText);
   if (!isRight) throw new Error("the state has another form");
   return { files, lines };

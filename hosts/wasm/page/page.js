@@ -2,15 +2,20 @@
 // shows what became of it. The engine runs here. The files and the lines are the whole state: a link carries
 // them, and this browser keeps them.
 
-import { EngineError, LoadRefused, instantiate, keystroke } from "../pafjirn.js";
+import { LoadRefused, instantiate, keystroke } from "../pafjirn.js";
+import { Checks } from "./checks.js";
 import { Context } from "./context.js";
+import { Continuations } from "./continuations.js";
 import { FAULTS } from "./faults.js";
 import * as store from "./files.js";
 import { makeKeyboard } from "./keyboard.js";
 import { Palette } from "./palette.js";
-import { entriesOf, identifier, keysIn, lineAt, read, wrongAt } from "./places.js";
+import { identifier, keysIn, lineAt, rangeOf, read, rulesOf, withLineFeeds } from "./places.js";
+import { Problems } from "./problems.js";
+import { keysOf } from "./rules.js";
 import { Scopes } from "./scopes.js";
 import { at, counted, element, line as item, link, spokenText } from "./shown.js";
+import { Why } from "./why.js";
 
 const ENDINGS = {
   done: "done",
@@ -18,8 +23,6 @@ const ENDINGS = {
   "not found": "not a command of the engine: the host runs it",
   "bad arguments": "the arguments don't fit the command",
 };
-// The faults of texts that aren't JSON with comments.
-const SYNTAX = new Set([2, 3, 4]);
 // How long the text of a file stays as it is before it is loaded.
 const PAUSE = 300;
 const NO_VALUE = "is no value of a context key. Such a value is true or false, a whole number, a text, "
@@ -27,7 +30,7 @@ const NO_VALUE = "is no value of a context key. Such a value is true or false, a
 // The most lines of the trace that are shown.
 const MOST_LINES = 1000;
 
-let pafjirn = null, engine = null, context = new Context("");
+let pafjirn = null, engine = null, checks = null, context = new Context("");
 let files = store.firstFiles(), lines = [], chord = "", isComposing = false, isFull = false, late = 0;
 // Whether the address is a link to the state, which the next change makes another one.
 let isLinked = false;
@@ -58,23 +61,42 @@ function load(again = []) {
   at("trace").replaceChildren();
   palette.clear();
   showRecord(null);
+  checks.take(files);
+  let failure = null;
   try {
     engine = pafjirn.load(store.given(files));
     context = new Context(files.layout.trim() ? files.layout : "");
-    showProblems(engine.warnings.map(problemOf));
     lines = [];
-    for (const line of again) {
-      const record = tell(line);
-      if (record) show(line, record);
-    }
+    tellAgain(again);
   } catch (wrong) {
-    if (!(wrong instanceof EngineError)) throw wrong;
-    const { fault } = wrong;
-    showProblems([fault ? refusal(fault) : { text: wrong.message, isRefused: true }]);
+    // (the problems have why a load is refused)
+    if (!(wrong instanceof LoadRefused)) failure = wrong;
   }
+  const shown = (show) => {
+    try {
+      show();
+    } catch (wrong) {
+      failure ??= wrong;
+    }
+  };
+  shown(() => problems.show(checks.problems(), store.listed(files).map(({ title }) => title)));
   showExtensions();
-  showState();
+  shown(showState);
   scopes.offer(store.listed(files).flatMap(({ text }) => keysIn(text)));
+  if (failure) throw failure;
+}
+
+// Tells the engine lines again, and shows the trace of all and the last press.
+function tellAgain(again) {
+  const traces = [];
+  let last = [null];
+  for (const line of again) {
+    const record = tell(line);
+    if (record) traces.push(record.trace);
+    if (record && isPress(line)) last = [record, line, lines.length - 1];
+  }
+  showTrace(traces);
+  showRecord(...last);
 }
 
 // Loads the files behind a change, and keeps them.
@@ -89,8 +111,9 @@ function tell(line) {
     say("The files don't load: see Problems.", true);
     return null;
   }
-  const record = engine.line(line);
-  if (record.trace.startsWith("unread line")) return null;
+  // (as a script, each event is a line)
+  const record = /[\r\n]/.test(line) ? null : engine.line(line);
+  if (!record || record.trace.startsWith("unread line")) return null;
   lines.push(line);
   if (!record.refusal) follow(line, record);
   return record;
@@ -98,19 +121,23 @@ function tell(line) {
 
 // Follows what an event changed: the open chord, the focus and the context keys.
 function follow(line, record) {
-  const [name, scope, key, ...value] = line.split(" ");
+  const [name] = line.split(" ");
   if (name === "key") chord = record.kind === "chording" ? record.chord : "";
   if (name === "focus" || name === "enable" || name === "disable") chord = "";
-  if (name === "focus") context.focus = scope;
-  if (name === "set") context.set(scope, key, value.join(" "));
-  if (name === "unset") context.unset(scope, key);
-  context.follow(record);
+  context.follow(line, record);
 }
+
+// Whether an event presses a key, or chooses a command as a press does.
+const isPress = (line) => /^(key|choose) /.test(line);
 
 // Shows what became of an event. What a press found stays until the next one.
 function show(line, record) {
-  if (/^(key|choose) /.test(line)) showRecord(record);
-  at("trace").append(record.trace);
+  if (isPress(line)) showRecord(record, line, lines.length - 1);
+  showTrace([record.trace]);
+}
+
+function showTrace(traces) {
+  at("trace").append(...traces.slice(-MOST_LINES));
   while (at("trace").childNodes.length > MOST_LINES) at("trace").firstChild.remove();
   at("trace").scrollTop = at("trace").scrollHeight;
 }
@@ -143,14 +170,15 @@ function press(text) {
 
 // Presses a key, and returns what became of it as a sentence.
 function pressOne(key) {
-  const line = `key ${key}`, record = /[\r\n]/.test(key) ? null : tell(line);
+  const line = `key ${key}`, record = tell(line);
   if (!record) throw new Error(`${key} is no key of rules.`);
   flash(key);
   show(line, record);
   showState();
   keep();
   const what = record.kind === "started" ? `${record.command || "no command"}, ` : "";
-  return `${record.chord}: ${what}${resultOf(record)}. ${spokenText(engine.text)}`;
+  const more = record.kind === "chording" ? ` It goes on with ${counted(continuations.count, "key")}.` : "";
+  return `${record.chord}: ${what}${resultOf(record)}.${more} ${spokenText(engine.text)}`;
 }
 
 function keep() {
@@ -171,19 +199,20 @@ function resultOf(record) {
   if (record.refusal) return `refused: ${meaningOf(record.refusal)}`;
   if (record.chord && record.kind === "nothing") return "no rule matches";
   if (record.kind === "chording") return "a chord is open";
-  const steps = record.trace.split("\n").filter((it) => it.startsWith("run "));
   // (if runCommands isn't done, its last step isn't)
-  const step = record.command === "runCommands" && record.ending !== "done" && steps.pop();
-  return step ? `${step.slice(4)}: ${ENDINGS[record.ending]}` : ENDINGS[record.ending];
+  const step = record.ending === "done" ? null : record.step;
+  return step ? `${step.command}: ${ENDINGS[record.ending]}` : ENDINGS[record.ending];
 }
 
-function showRecord(record) {
+// Shows what a press or a choice found, or that there was none. So many lines were told before it.
+function showRecord(record, line = "", before = 0) {
   const isStarted = record?.kind === "started";
   at("chord").textContent = record?.chord || "–";
   at("result").textContent = record ? resultOf(record) : "–";
   at("command").textContent = isStarted ? record.command || "(none: the key is taken)" : "–";
   at("arguments").textContent = record?.argumentsJson ?? "–";
   showRule(record?.rule);
+  why.show(line.startsWith("key ") ? { key: line.slice("key ".length), before } : null);
 }
 
 // The file of a source, with its title and text, or null.
@@ -192,47 +221,25 @@ function fileOf(source) {
   return store.listed(files).find((it) => it.id === id) ?? null;
 }
 
-// The place of an entry in a file, or null: where it begins and ends.
-function placeOf(file, part, place) {
-  return (file && entriesOf(file.text, part, file.id.startsWith("manifest"))[place]) ?? null;
-}
-
 function showRule(rule) {
-  const file = rule && fileOf(rule.source), place = file && placeOf(file, "keybindings", rule.place);
-  at("rule").replaceChildren(rule ? linkTo(file, place, rule.source) : "–");
+  const file = rule && fileOf(rule.source), text = file && withLineFeeds(file.text);
+  const place = file && (rulesOf(text, file.id.startsWith("manifest"))[rule.place] ?? null);
+  const where = place && `${file.title}, line ${lineAt(text, place.begin)}`;
+  const shown = place ? link(where, () => showFile(file.id, place)) : rule?.source ?? "–";
+  at("rule").replaceChildren(shown);
   at("rule-text").hidden = !place;
-  at("rule-text").textContent = place ? file.text.slice(place.begin, place.end) : "";
+  at("rule-text").textContent = place ? text.slice(place.begin, place.end) : "";
 }
 
-// A button that shows a place of a file.
-function linkTo(file, place, name) {
-  if (!file) return name;
-  const where = place ? `${file.title}, line ${lineAt(file.text, place.begin)}` : file.title;
-  return link(where, () => showFile(file.id, place));
+// A button that shows a place of keycheck's, or its path where it is in no file.
+function linkTo(place) {
+  if (!place.line) return place.path;
+  return link(`${place.path}, line ${place.line}`, () => showPlace(place));
 }
 
-// A warning of the load: `warning NUMBER SOURCE PART PLACE`.
-function problemOf(warning) {
-  const [, number, source, part, at] = /^warning (\d+) (.*) (\w+) (\d+)$/s.exec(warning) ?? [];
-  const file = source && fileOf(source), place = file && placeOf(file, part, Number(at));
-  const [name, meaning] = FAULTS.get(Number(number)) ?? ["", warning];
-  return { file, place, name: source, text: `${name}: ${meaning}` };
-}
-
-function refusal(fault) {
-  const text = `${fault.name}: ${meaningOf(fault)}`, file = fileOf(fault.file);
-  const at = file && SYNTAX.has(fault.number) ? wrongAt(file.text) : null;
-  const place = at === null ? null : { begin: at, end: at + 1 };
-  return { file, place, name: fault.file, text, isRefused: true };
-}
-
-function showProblems(problems) {
-  at("no-problems").hidden = problems.length > 0;
-  at("problems").replaceChildren(...problems.map(({ file, place, name, text, isRefused }) => {
-    const made = item(...(name ? [linkTo(file, place, name), ": "] : []), text);
-    made.classList.toggle("refused", Boolean(isRefused));
-    return made;
-  }));
+function showPlace({ path, line, column }) {
+  const { id, text } = store.listed(files).find(({ title }) => title === path);
+  showFile(id, rangeOf(withLineFeeds(text), line, column));
 }
 
 // Shows a file, and selects a place in it.
@@ -284,7 +291,11 @@ function showState() {
   showText();
   at("open").textContent = chord || "–";
   scopes.show(context);
-  palette.show(engine?.entries ?? []);
+  // (only few events change the rules; a press finds them as they were listed)
+  const rules = engine ? checks.rules(lines) : [];
+  continuations.show(chord, rules);
+  const entries = engine?.entries ?? [], keys = keysOf(entries.length > 0 ? rules : []);
+  palette.show(entries.map((it) => ({ ...it, keys: keys.get(it.command) ?? "" })));
 }
 
 // The text, and the caret in it.
@@ -306,7 +317,7 @@ function take(given) {
   reload();
   const found = `${counted(given.length - left.length, "file")} loaded`;
   const more = left.length > 0 ? ` Left out: ${left.join(", ")}.` : "";
-  say(`${found}, with ${counted(at("problems").children.length, "problem")}.${more}`, !engine);
+  say(`${found}, with ${counted(problems.count, "problem")}.${more}`, !engine);
 }
 
 async function takeFiles(given) {
@@ -330,6 +341,10 @@ const palette = new Palette({
     const what = `${record.command || "no command"}, ${resultOf(record)}`;
     return record.refusal ? `${resultOf(record)}.` : `${what}. ${spokenText(engine.text)}`;
   }),
+});
+const continuations = new Continuations(press), problems = new Problems(showPlace);
+const why = new Why({
+  explain: ({ key, before }) => checks.explain(key, lines.slice(0, before)), linkTo, tried,
 });
 const scopes = new Scopes({
   focus: (scope) => told(`focus ${scope}`, (record) => `Focus ${scope}: ${resultOf(record)}.`),
@@ -479,6 +494,7 @@ listenToGivenFiles();
 listenToState();
 try {
   pafjirn = await instantiate();
+  checks = new Checks(pafjirn.keycheck());
   await tried(start);
   document.documentElement.dataset.ready = "";
 } catch (wrong) {

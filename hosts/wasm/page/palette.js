@@ -25,7 +25,7 @@ export class Palette {
     });
   }
 
-  /** Shows entries. */
+  /** Shows entries, each with the keystrokes of its command, if it has some. */
   show(given) {
     const text = JSON.stringify(given);
     if (text === this.#shown) return;
@@ -57,10 +57,10 @@ export class Palette {
     query.value = "";
   }
 
-  #entryOf({ label, command }, place) {
+  #entryOf({ label, command, keys }, place) {
     const onclick = () => this.#chosen(place);
     const made = element("li", "", { id: `entry-${place}`, role: "option", onclick });
-    made.append(element("span", label), element("code", command));
+    made.append(element("span", label), ...(keys ? [element("kbd", keys)] : []), element("code", command));
     return made;
   }
 }

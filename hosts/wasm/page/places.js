@@ -15,7 +15,10 @@ export function read(text) {
     if (found) at++;
     return found;
   };
-  const end = () => (at > 0 ? tokens[at - 1].index + tokens[at - 1][0].length : 0);
+  const end = () => {
+    const last = tokens[Math.min(at, tokens.length) - 1];
+    return last ? last.index + last[0].length : 0;
+  };
   const value = (depth) => {
     const token = tokens[at++];
     const made = { begin: token?.index ?? text.length, token: token?.[0] ?? "" };
@@ -82,70 +85,17 @@ function valueOf(text) {
   return found;
 }
 
-/** The entries of a part of a file (`keybindings`, `commands`, `palette`): of a manifest those below
- * `contributes`, and otherwise the rules of the whole file. In a manifest a single object counts as a
+/** The rules of a file. Those of a manifest are below `contributes`, where a single object counts as a
  * list. */
-export function entriesOf(text, part, isManifest) {
-  const names = part === "palette" ? ["menus", "commandPalette"] : [part];
-  let found = valueOf(text);
-  if (isManifest) for (const name of ["contributes", ...names]) found = found?.members?.get(name);
-  if (found?.members) return [found];
-  return found?.items ?? [];
+export function rulesOf(text, isManifest) {
+  const whole = valueOf(text), below = (name) => (value) => value?.members?.get(name);
+  const found = isManifest ? below("keybindings")(below("contributes")(whole)) : whole;
+  return isManifest && found?.members ? [found] : found?.items ?? [];
 }
 
-// A token without syntax errors, white space or a comment.
-const RIGHT = new RegExp([
-  String.raw`(?<skipped>[ \t\r\n]+|//[^\r\n]*|/\*[^]*?\*/)`, String.raw`(?<mark>[{}\[\]:,])`,
-  String.raw`(?<text>"(?:[^"\\\r\n]|\\(?:["\\/bfnrt]|u[\dA-Fa-f]{4}))*")`,
-  String.raw`(?:-?(?:0|[1-9]\d*)(?:\.\d+)?(?:[eE][+-]?\d+)?|true|false|null)(?![\w.+-])`,
-].join("|"), "y");
-// The ends of lists and objects.
-const CLOSING = { "[": "]", "{": "}" };
-
-/** Where the first syntax error of a text is, or null without one. */
-export function wrongAt(text) {
-  const open = [];
-  let wanted = "value";
-  RIGHT.lastIndex = text.startsWith("\ufeff") ? 1 : 0;
-  while (RIGHT.lastIndex < text.length) {
-    const at = RIGHT.lastIndex, found = RIGHT.exec(text);
-    if (found === null) return at;
-    if (found.groups.skipped !== undefined) continue;
-    wanted = behind(found, wanted, open);
-    if (wanted === null || open.length > DEEPEST || !hasValue(found)) return at;
-  }
-  const isWhole = open.length === 0 && (wanted === "comma" || isBlank(text));
-  return isWhole ? null : text.length;
-}
-
-// What is wanted behind a token, or null if another one was wanted. `open` has the ends of the open lists and
-// objects.
-function behind({ 0: token, groups: { mark, text } }, wanted, open) {
-  if (mark && mark === open.at(-1) && ["item", "name", "comma"].includes(wanted)) {
-    open.pop();
-    return "comma";
-  }
-  if (wanted === "name") return text ? "colon" : null;
-  if (wanted === "colon") return mark === ":" ? "value" : null;
-  if (wanted === "comma") {
-    if (mark !== "," || open.length === 0) return null;
-    return open.at(-1) === "]" ? "item" : "name";
-  }
-  if (!mark) return "comma";
-  if (!CLOSING[token]) return null;
-  open.push(CLOSING[token]);
-  return token === "[" ? "item" : "name";
-}
-
-// Whether a token has a value: a number is finite, and a text has no half of a character.
-function hasValue({ 0: token, groups: { mark, text } }) {
-  if (mark) return true;
-  return text ? !/\p{Surrogate}/u.test(decoded(token)) : Number.isFinite(Number(JSON.parse(token)));
-}
-
-// Whether a text has only white space and comments.
-function isBlank(text) {
-  return [...text.matchAll(TOKEN)].every((it) => it[1] !== undefined);
+/** A text as a text area has it: each line ends with LF. */
+export function withLineFeeds(text) {
+  return text.replace(/\r\n?/g, "\n");
 }
 
 /** The number of the line of a place in a text, from 1. */
@@ -153,6 +103,17 @@ export function lineAt(text, place) {
   let line = 1;
   for (let at = text.indexOf("\n"); at >= 0 && at < place; at = text.indexOf("\n", at + 1)) line++;
   return line;
+}
+
+/** Where a line of a text begins, from a column up to its end. Columns count characters, and lines end with
+ * LF. */
+export function rangeOf(text, line, column) {
+  let begin = text.startsWith("\ufeff") ? 1 : 0;
+  for (let number = 1; number < line; number++) begin = text.indexOf("\n", begin) + 1;
+  const found = text.indexOf("\n", begin), end = found < 0 ? text.length : found;
+  // (a character has at most two units)
+  const before = [...text.slice(begin, Math.min(end, begin + 2 * column))].slice(0, column - 1);
+  return { begin: begin + before.join("").length, end };
 }
 
 // The words of a clause: a comparison with a pattern or a value, a text, or a key.

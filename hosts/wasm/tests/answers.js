@@ -1,7 +1,9 @@
 // Checks what the package answers and throws. It prints each difference from what pafjirn.d.ts says.
 
 import { readFileSync } from "node:fs";
-import { compiled, FOLDER, is, pafjirn as all, report, thrown, watched } from "./shared.js";
+import {
+  compiled, FOLDER, is, pafjirn as all, report, thrown, trapping, watched, watchMemory,
+} from "./shared.js";
 
 const { Engine, LoadRefused, Pafjirn, instantiate, keystroke } = all;
 const LAYOUT = '{"scopes": [{"name": "window"}, {"name": "editor", "parent": "window"}]}';
@@ -32,7 +34,7 @@ function presses(pafjirn) {
   is("no arguments", [engine.press("h").arguments, engine.press("h").argumentsJson], [undefined, null]);
   is("no rule", engine.press("ctrl+j"), {
     ending: "done", kind: "nothing", chord: "ctrl+j", command: "", argumentsJson: null, rule: null,
-    refusal: null, isUsed: false, ranBy: null, trace: "key ctrl+j: unbound\n",
+    step: null, refusal: null, isUsed: false, ranBy: null, trace: "key ctrl+j: unbound\n",
   });
   is("no key", thrown(() => engine.press("ctrl+")), ["NoKey", 10]);
   is("the trace behind it", engine.trace, "key ctrl+j: unbound\n");
@@ -63,6 +65,35 @@ function presses(pafjirn) {
   engine.dispose();
   is("an engine that is disposed of", thrown(() => engine.press("x")), ["Unknown", 2]);
   is("its text", thrown(() => engine.text), ["Unknown", 2]);
+}
+
+// The steps of runCommands. The name of a step may have line feeds, and look like lines of a trace.
+function steps(pafjirn) {
+  const named = "x\nrun type\ndone \"\" \"\"\n", lists = {
+    a: ["cursorLeft", "buffer.top"],
+    b: ["cursorLeft", named, "buffer.top"],
+    c: [{ command: "type", args: "c" }, { command: "type", args: { text: 5 } }, "buffer.top"],
+    d: [],
+    e: [{ command: named, args: { n: 5 } }],
+  };
+  const ruleOf = ([key, commands]) => ({ key, command: "runCommands", args: { commands } });
+  const others = [{ key: "f", command: named }, { key: "g g", command: "x" }];
+  const user = JSON.stringify([...Object.entries(lists).map(ruleOf), ...others]);
+  const engine = pafjirn.load({ user });
+  const stepOf = (key) => [engine.press(key)].map(({ ending, step }) => [ending, step])[0];
+  is("the last step of a list", stepOf("a"), ["done", { number: 2, command: "buffer.top" }]);
+  is("a step of the host", stepOf("b"), ["not found", { number: 2, command: named }]);
+  is("a step with bad arguments", stepOf("c"), ["bad arguments", { number: 2, command: "type" }]);
+  is("a list without steps", stepOf("d")[1], null);
+  is("a first step", stepOf("e"), ["not found", { number: 1, command: named }]);
+  is("a command without steps", stepOf("f"), ["not found", null]);
+  is("a chord", [engine.press("g").step, engine.press("g").step], [null, null]);
+  is("a focus behind steps", [engine.press("a").step?.number, engine.focus("window").step], [2, null]);
+  const seen = [];
+  engine.command(named, (args, { step }) => seen.push([args, step?.number]));
+  is("a step that the host runs", [engine.press("e").ranBy, ...seen], [named, [{ n: 5 }, 1]]);
+  is("a command that it runs", [engine.press("f").ranBy, ...seen.slice(1)], [named, [null, null]]);
+  engine.dispose();
 }
 
 function context(pafjirn) {
@@ -222,28 +253,9 @@ async function starts() {
 
 async function memory(pafjirn) {
   const before = pafjirn.bytesInUse;
-  for (let number = 0; number < 100; number++) pafjirn.load({ user: RULES }).dispose();
-  is("memory behind engines that were disposed of", pafjirn.bytesInUse, before);
   for (let number = 0; number < 100; number++) thrown(() => pafjirn.load({ user: "{" }));
   is("memory behind loads that were refused", pafjirn.bytesInUse, before);
-  for (let number = 0; number < 100; number++) pafjirn.load({ user: RULES });
-  for (let tries = 0; tries < 50 && pafjirn.bytesInUse > before; tries++) {
-    globalThis.gc();
-    await new Promise((done) => setTimeout(done, 20));
-  }
-  is("memory behind engines that were let go", pafjirn.bytesInUse, before);
-}
-
-// A module of which a call traps, as it does where its stack ends.
-async function trapping(name) {
-  const whole = WebAssembly.instantiate;
-  WebAssembly.instantiate = async (...given) => {
-    WebAssembly.instantiate = whole;
-    const { instance } = await whole(...given);
-    const trap = () => { throw new WebAssembly.RuntimeError("unreachable"); };
-    return { instance: { exports: { ...instance.exports, [`pafjirn_${name}`]: trap } } };
-  };
-  return instantiate();
+  await watchMemory(pafjirn, () => pafjirn.load({ user: RULES }));
 }
 
 async function traps() {
@@ -270,7 +282,7 @@ async function guards() {
 
 keys();
 const pafjirn = await instantiate();
-for (const test of [presses, context, changes, commands, loads]) test(pafjirn);
+for (const test of [presses, steps, context, changes, commands, loads]) test(pafjirn);
 await starts();
 await traps();
 await guards();

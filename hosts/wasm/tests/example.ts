@@ -1,7 +1,7 @@
 // An example that the types have to accept, and misuses that they have to refuse.
 
-import { Engine, EngineError, LoadRefused, instantiate, keystroke } from "pafjirn";
-import type { EventRecord, Files, Json } from "pafjirn";
+import { Engine, EngineError, Keycheck, LoadRefused, instantiate, keycheck, keystroke } from "pafjirn";
+import type { Checked, EventRecord, Files, Json } from "pafjirn";
 
 const files: Files = {
   user: '[{ "key": "ctrl+h", "command": "my.own", "args": [1, "a", null] }]',
@@ -29,6 +29,21 @@ export async function example(page: { addEventListener: typeof addEventListener 
   return said;
 }
 
+export async function problems(rules: ArrayBuffer): Promise<string> {
+  const checks: Keycheck = await keycheck(), other: Keycheck = (await instantiate()).keycheck();
+  checks.put("keybindings.json", rules);
+  checks.put("events", "key a");
+  const { status, output, errors }: Checked = checks.run("check", "--user", "keybindings.json");
+  const nothing: void = checks.remove("keybindings.json");
+  checks.dispose();
+  other[Symbol.dispose]();
+  return `${status + 1} ${output} ${errors} ${nothing}`;
+}
+
+export function lastStep({ step }: EventRecord): string {
+  return step === null ? "" : `${step.number + 1}. ${step.command}`;
+}
+
 export async function errors(bytes: ArrayBuffer): Promise<number> {
   const pafjirn = await instantiate(bytes);
   try {
@@ -52,6 +67,14 @@ export function misuses(engine: Engine): void {
   engine.setContext("window", "k", null);
   // @ts-expect-error: records can't be changed
   engine.press("a").command = "";
+  // @ts-expect-error: an event may have no step
+  engine.press("a").step.number;
+  // @ts-expect-error: keycheck is made by a call
+  new Keycheck();
+  // @ts-expect-error: the words of a command line are texts
+  void keycheck().then((it) => it.run("check", 5));
+  // @ts-expect-error: a file has a text
+  void keycheck().then((it) => it.put("keybindings.json"));
   const held = { ctrlKey: false, shiftKey: false, altKey: false, metaKey: false };
   const name: string | null = keystroke({ key: "a", code: "KeyA", ...held });
   console.log(name);

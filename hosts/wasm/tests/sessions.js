@@ -3,14 +3,17 @@
 //
 //     node sessions.js FILE    a JSON list, with the arguments of each script as a list
 //
-// It prints a JSON list, with the status and both outputs of each script. A script that differs by calls,
-// behind which the module lost memory, or is dead, has a status of its own.
+// Last, it compares the context keys of the page with those of keycheck (following.js).
+//
+// It prints a JSON list, with the status and both outputs of each script. A script that differs by calls or
+// in its context keys, behind which the module lost memory, or is dead, has a status of its own.
 
 import { readFileSync, writeSync } from "node:fs";
+import { contexts } from "./following.js";
 import { filesOf, linesOf, play, statusOf, wordsOf } from "./playing.js";
 import { pafjirn as all } from "./shared.js";
 
-const DEAD = -1, LOST = -2, DIFFERS = -3;
+const DEAD = -1, LOST = -2, DIFFERS = -3, CONTEXT = -4;
 // The events that have calls, by the words of their lines.
 const CALLS = [
   [/^key (\S+)$/, (engine, key) => engine.press(key)],
@@ -80,6 +83,12 @@ function differenceByCalls(args) {
   }
 }
 
+// What differs behind a script in the context keys of the page and of keycheck, or "".
+function differenceOfContexts(args) {
+  const words = wordsOf(args), { page, keycheck } = contexts(pafjirn, filesOf(words), linesOf(words.script));
+  return page === keycheck ? "" : `the page has\n${page}\nand keycheck\n${keycheck}\n`;
+}
+
 async function played(args) {
   let out = "", said = "";
   const say = (text) => { said += text; };
@@ -88,6 +97,10 @@ async function played(args) {
   if (status === 0) {
     const differs = differenceByCalls(args);
     if (differs) [status, said] = [DIFFERS, said + differs];
+  }
+  if (status === 0) {
+    const differs = differenceOfContexts(args);
+    if (differs) [status, said] = [CONTEXT, said + differs];
   }
   if (pafjirn.dead) {
     pafjirn = await all.instantiate();

@@ -46,6 +46,32 @@ export function watched() {
   return seen;
 }
 
+/** A module of which a call traps, as it does where its stack ends. */
+export async function trapping(name) {
+  const whole = WebAssembly.instantiate;
+  WebAssembly.instantiate = async (...given) => {
+    WebAssembly.instantiate = whole;
+    const { instance } = await whole(...given);
+    const trap = () => { throw new WebAssembly.RuntimeError("unreachable"); };
+    return { instance: { exports: { ...instance.exports, [`pafjirn_${name}`]: trap } } };
+  };
+  return pafjirn.instantiate();
+}
+
+/** Checks that what is made in a module gives its memory back when it is disposed of, and when it is let go.
+ * */
+export async function watchMemory(module, make) {
+  const before = module.bytesInUse;
+  for (let number = 0; number < 100; number++) make(module).dispose();
+  is("memory behind those that were disposed of", module.bytesInUse, before);
+  for (let number = 0; number < 100; number++) make(module);
+  for (let tries = 0; tries < 50 && module.bytesInUse > before; tries++) {
+    globalThis.gc();
+    await new Promise((done) => setTimeout(done, 20));
+  }
+  is("memory behind those that were let go", module.bytesInUse, before);
+}
+
 /** The compiled module. */
 export function compiled() {
   return new WebAssembly.Module(readFileSync(new URL("pafjirn.wasm", FOLDER)));
