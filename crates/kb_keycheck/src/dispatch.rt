@@ -3,14 +3,19 @@ ghost use Rattle.std.specs.Prelude.{◌≡◌, ◌≤◌, ◌⊎◌};
 ghost use Rattle.clap.specs.Words.{found_of, rows_of, subcommand_rows_of};
 ghost use Rattle.kb_keycheck.specs.Ends.{Answers, AnswersBy, Checks, ChecksBy, DoesCommand, Handles};
 ghost use Rattle.kb_keycheck.specs.Ends.{HandlersBy, Obeys};
+ghost use Rattle.kb_keycheck.specs.Ends.{Translates, TranslatesGiven};
 
 use crate::checking::check_files;
 use crate::ending::{Stop, answer_status, check_status};
 use crate::explaining::answer_question;
 use crate::mistakes::Mistakes;
 use crate::reason::unread_reason;
-use crate::request::{Subcommand, Topic, form_asked, given_in, question_in, subcommand_named};
+use crate::request::{
+    Direction, Subcommand, Topic, form_asked, given_in, path_asked, question_in, subcommand_named,
+};
+use crate::translating::{translate, translation_status};
 use clap::ArgMatches;
+use kb_base::Text;
 use kb_cli::all_texts;
 use kb_disk::{FileSource, SystemFiles};
 use kb_handler_report::{check_extensions, status_of};
@@ -134,6 +139,39 @@ fn obey_handlers<R: Files + Eprint, W: Write + Drop>(
     status_of(&end)
 }
 
+/// Does `assemble` or `disassemble`, and returns how it ended.
+#[tactic(auto, using(crate::proofs::DoesLemmas::translates))]
+fn translate_given<'a, F: FileSource, W: Write + Drop>(
+    alloc: Global,
+    direction: Direction,
+    matches: &ArgMatches<'a>,
+    files: &F,
+    out: &mut BufWriter<W>,
+) -> Result<Option<Text>, Stop<'a>>
+    ensures { TranslatesGiven (F.held files.now) direction (rows_of (found_of matches.now)) result }
+{
+    translate(alloc, direction, path_asked(matches), files, out)
+}
+
+/// Does `assemble` or `disassemble`, says which faults the file has or why it stopped, if it did, and returns
+/// the exit status.
+#[tactic(auto, using(crate::proofs::DoesLemmas::statuses))]
+fn obey_translation<R: Files + Eprint, W: Write + Drop>(
+    rt: &R,
+    alloc: Global,
+    direction: Direction,
+    matches: &ArgMatches<'_>,
+    out: &mut BufWriter<W>,
+) -> u8
+    ensures does { Translates direction (rows_of (found_of matches.now)) result }
+    ensures table { result ≤ 4 }
+{
+    let end = translate_given(alloc, direction, matches, &SystemFiles { rt }, out);
+    say_faults(rt, &end);
+    say_stop(rt, alloc, &end);
+    translation_status(&end)
+}
+
 /// Does what a command asks for, and returns the exit status.
 fn obey_command<R: Files + Print + Eprint>(
     rt: &R,
@@ -152,6 +190,9 @@ fn obey_command<R: Files + Print + Eprint>(
         Subcommand::Check => obey_check(rt, alloc, matches, &mut out),
         Subcommand::Ask(topic) => obey_question(rt, alloc, topic, matches, &mut out),
         Subcommand::Handlers => obey_handlers(rt, alloc, matches, &mut out),
+        Subcommand::Translate(direction) => obey_translation(
+            rt, alloc, direction, matches, &mut out,
+        ),
     }
 }
 
@@ -175,6 +216,13 @@ fn say_stop<R: Files + Eprint, T>(rt: &R, alloc: Global, end: &Result<T, Stop<'_
     if let Err(stop) = end {
         let reason = reason_of(rt, alloc, stop);
         let _ = rt.eprintln(format_args!("{stop}{reason}"));
+    }
+}
+
+/// Says which faults a file has, if it has some.
+fn say_faults<R: Eprint>(rt: &R, end: &Result<Option<Text>, Stop<'_>>) {
+    if let Ok(Some(faults)) = end {
+        let _ = rt.eprint(faults.as_str());
     }
 }
 

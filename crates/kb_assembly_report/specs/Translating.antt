@@ -1,0 +1,51 @@
+-- What a file is translated to.
+use Rattle.std.specs.Prelude.{◌≡◌, ◌≤◌, ◌⊎◌, ℕ, List, Ok, Err, length, map}
+use Rattle.kb_assembly.specs.declared.draft.Draft.{Draft}
+use Rattle.kb_assembly.specs.declared.file.FileFault.{FileFault}
+use Rattle.kb_assembly.specs.Draft.{handler_draft}
+use Rattle.kb_assembly.specs.File.{assemble}
+use Rattle.kb_base.specs.declared.refusal.Refusal.{Refusal}
+use Rattle.kb_code.specs.Handler.{HandlerData}
+use Rattle.kb_files.specs.HandlerFile.{handlers_in}
+use Rattle.kb_jsonc.specs.Reader.{without_mark}
+use Rattle.kb_assembly_report.specs.Judging.{IsFileOf}
+use Rattle.kb_assembly_report.specs.Json.{file_json}
+use Rattle.kb_assembly_report.specs.declared.assembling.Translation.{Translation}
+use Rattle.kb_assembly_report.specs.declared.assembling.Translation.TheVariants.{File, Faults}
+use Rattle.kb_assembly_report.specs.declared.entry.Entry.{Entry}
+
+-- a text is assembled: it has handlers, and the file that is written is one of these, and has its form
+pub record IsAssembled (bytes text : List ℕ) : Type 0 where
+  pub drafts : List Draft
+  pub read : assemble (without_mark bytes) ≡ Ok drafts
+  pub file : IsFileOf drafts text
+  pub entries : List Entry
+  pub form : text ≡ file_json entries
+  pub small : length text ≤ 16777216
+
+-- a text is refused: it is none of the language, or its handlers are looked at further
+abbrev pub IsRefused : List ℕ → Type 0
+IsRefused bytes = ((fault : FileFault) × (assemble (without_mark bytes) ≡ Err fault))
+    ⊎ ((drafts : List Draft) × (assemble (without_mark bytes) ≡ Ok drafts))
+
+abbrev pub Assembles : List ℕ → Translation → Type 0
+Assembles bytes (File text) = IsAssembled bytes text
+Assembles bytes (Faults faults) = IsRefused bytes
+
+-- a `handlers.json` is disassembled: its handlers are those of the text
+pub record IsDisassembled (bytes text : List ℕ) : Type 0 where
+  pub handlers : List HandlerData
+  pub read : handlers_in bytes ≡ Ok handlers
+  pub again : assemble text ≡ Ok (map handler_draft handlers)
+
+-- it is refused exactly if it can't be read
+abbrev pub Disassembles : List ℕ → Translation → Type 0
+Disassembles bytes (File text) = IsDisassembled bytes text
+Disassembles bytes (Faults faults) = (refusal : Refusal) × (handlers_in bytes ≡ Err refusal)
+
+-- ---- for private functions
+
+-- faults are given, and no file
+abbrev pub are_faults : Translation → Type 0
+are_faults (File text) = ⊥
+are_faults (Faults faults) = Unit {0}

@@ -1,0 +1,401 @@
+//! The budgets and the depths of handlers: those that a text gives, and the smallest ones of the others.
+ghost use Rattle.std.specs.Prelude.{◌≤◌, IfSome};
+
+use crate::found::{Faults, Found};
+use crate::sources::Source;
+use kb_assembly::Draft;
+use kb_base::{Failure, FaultKind, NoMemory, Seq, Text};
+use kb_code::{Code, CodeFault, Handler, Version};
+use kb_core::{NATIVES, Native, Param, Signature};
+use kb_verify::{Callable, VerifyFault, dearest_cost};
+use std::alloc::{AllocError, Global};
+use std::collections::HashMap;
+
+/// The largest budget and the largest depth.
+const BUDGET: u32 = 1_000_000_000;
+
+const DEPTH: u32 = 64;
+
+/// The most parameters.
+const PARAMS: usize = 8;
+
+/// The budget and the depth of a handler.
+#[derive(Clone, Copy, Debug)]
+pub(crate) struct Limits {
+    pub(crate) budget: u32,
+    pub(crate) depth: u32,
+}
+
+/// A number, if it is from 1 to a limit.
+fn within(limit: u32, number: u32) -> Option<u32>
+    ensures some { IfSome result (λ number. 1 ≤ number) }
+    ensures limit { IfSome result (λ number. number ≤ limit) }
+{
+    if number < 1 || limit < number {
+        return None;
+    }
+    Some(number)
+}
+
+/// A signature, if it is within the limits.
+fn signature_of(params: Seq<Param>, limits: Limits) -> Option<Signature>
+    ensures { IfSome result (λ signature. 1 ≤ signature.depth) }
+{
+    if params.len() > PARAMS {
+        return None;
+    }
+    let budget = within(BUDGET, limits.budget)?;
+    let depth = within(DEPTH, limits.depth)?;
+    Some(Signature::new(params, budget, depth as u8))
+}
+
+/// Copies parameters.
+fn params_of(alloc: Global, params: &[Param]) -> Result<Seq<Param>, NoMemory> {
+    let mut made = Seq::new(alloc);
+    for param in params {
+        made.push(Param {
+            name: param.name.copied()?,
+            kind: param.kind,
+        })?;
+    }
+    Ok(made)
+}
+
+/// Copies texts.
+fn texts_of(alloc: Global, texts: &[Text]) -> Result<Seq<Text>, NoMemory> {
+    let mut made = Seq::new(alloc);
+    for text in texts {
+        made.push(text.copied()?)?;
+    }
+    Ok(made)
+}
+
+/// The code of a handler. Errors: the fault of its blocks, and `NoMemory`.
+fn code_of(alloc: Global, draft: &Draft) -> Result<Code, Failure<CodeFault>> {
+    let mut instrs = Seq::new(alloc);
+    for instr in draft.code.as_slice() {
+        instrs.push(*instr)?;
+    }
+    Code::new(alloc, instrs, Version::Two)
+}
+
+/// A handler with limits, or `None` if it is past a limit. Errors: the fault of its blocks, and `NoMemory`.
+fn handler_with(
+    alloc: Global,
+    draft: &Draft,
+    limits: Limits,
+) -> Result<Option<Handler>, Failure<CodeFault>> {
+    let params = params_of(alloc, draft.params.as_slice())?;
+    let Some(signature) = signature_of(params, limits) else {
+        return Ok(None);
+    };
+    let code = code_of(alloc, draft)?;
+    let command = draft.command.copied()?;
+    let texts = texts_of(alloc, draft.texts.as_slice())?;
+    let calls = texts_of(alloc, draft.calls.as_slice())?;
+    Ok(Some(Handler::new(command, signature, texts, calls, code)))
+}
+
+/// The place of a fault of code.
+fn place_of(fault: CodeFault) -> usize {
+    match fault {
+        CodeFault::BadOpcode(place) | CodeFault::BadOperand(place) | CodeFault::BadBlock(place) =>
+            place,
+        _ => 0,
+    }
+}
+
+/// A handler of the largest limits, or `None`, with its fault added.
+fn largest(
+    alloc: Global,
+    draft: &Draft,
+    source: &Source,
+    faults: &mut Faults,
+) -> Result<Option<Handler>, NoMemory> {
+    let limits = Limits {
+        budget: BUDGET,
+        depth: DEPTH,
+    };
+    match handler_with(alloc, draft, limits) {
+        Ok(handler) => Ok(handler),
+        Err(Failure::NoMemory) => Err(AllocError),
+        Err(Failure::Fault(fault)) => {
+            let line = source.line_at(place_of(fault));
+            let kind = fault.kind();
+            faults.add(Found::said(alloc, line, 0, kind, kind.meaning())?)?;
+            Ok(None)
+        }
+    }
+}
+
+/// The indexes of the handlers of the file that a handler calls at places that it may reach. A name of a
+/// native command stands for that one.
+fn callees_of(
+    alloc: Global,
+    handler: &Handler,
+    by_name: &HashMap<String, usize>,
+) -> Result<Seq<usize>, NoMemory> {
+    let mut callees = Seq::new(alloc);
+    let called = handler.callees(alloc)?;
+    for index in called.as_slice() {
+        let name = handler.calls().get(usize::from(*index));
+        if let Some(name) = name {
+            if Native::named(name.as_str()).is_none() {
+                if let Some(callee) = by_name.get(name.as_str()) {
+                    callees.push(*callee)?;
+                }
+            }
+        }
+    }
+    Ok(callees)
+}
+
+/// The index of each handler by its command.
+fn by_name(alloc: Global, drafts: &[Draft]) -> Result<HashMap<String, usize>, NoMemory> {
+    let mut names = HashMap::new(alloc);
+    for (index, draft) in drafts.iter().enumerate() {
+        names.insert(String::from_str(alloc, draft.command.as_str())?, index)?;
+    }
+    Ok(names)
+}
+
+/// For each handler the indexes of those that it calls. The faults of blocks are added.
+fn all_callees(
+    alloc: Global,
+    drafts: &[Draft],
+    sources: &[Source],
+    faults: &mut Faults,
+) -> Result<Vec<Seq<usize>>, NoMemory> {
+    let names = by_name(alloc, drafts)?;
+    let mut callees: Vec<Seq<usize>> = Vec::new(alloc);
+    for (draft, source) in drafts.iter().zip(sources.iter()) {
+        let called = match largest(alloc, draft, source, faults)? {
+            Some(handler) => callees_of(alloc, &handler, &names)?,
+            None => Seq::new(alloc),
+        };
+        callees.push(called)?;
+    }
+    Ok(callees)
+}
+
+/// One more than the largest depth of callees. `None` as long as that of one isn't known, and past the
+/// largest depth.
+fn depth_above(callees: &[usize], depths: &[Option<u32>]) -> Option<u32> {
+    let mut most = 0u32;
+    for callee in callees {
+        match depths.get(*callee) {
+            Some(Some(depth)) => most = most.max(*depth),
+            _ => return None,
+        }
+    }
+    if most < DEPTH {
+        Some(most.saturating_add(1))
+    } else {
+        None
+    }
+}
+
+/// The depth of each handler: the one that it has, or else one more than the largest of those that it calls.
+/// `None` where calls nest without end, or too deep.
+fn depths_of(
+    alloc: Global,
+    drafts: &[Draft],
+    callees: &[Seq<usize>],
+) -> Result<Vec<Option<u32>>, NoMemory> {
+    let mut depths = Vec::new(alloc);
+    for draft in drafts {
+        depths.push(draft.depth)?;
+    }
+    for _ in 0..DEPTH {
+        for (index, called) in callees.iter().enumerate() {
+            let depth = match depths.get(index) {
+                Some(Some(depth)) => Some(*depth),
+                _ => depth_above(called.as_slice(), depths.as_slice()),
+            };
+            if let Some(place) = depths.get_mut(index) {
+                *place = depth;
+            }
+        }
+    }
+    Ok(depths)
+}
+
+/// Adds that a handler without a depth can have none.
+fn add_endless(
+    alloc: Global,
+    sources: &[Source],
+    depths: &[Option<u32>],
+    faults: &mut Faults,
+) -> Result<(), NoMemory> {
+    for (depth, source) in depths.iter().zip(sources.iter()) {
+        if depth.is_none() {
+            faults.add(Found::said(
+                alloc,
+                source.first,
+                1,
+                FaultKind::OverDepth,
+                "no depth would do, since its calls nest without end, or more than 64 deep",
+            )?)?;
+        }
+    }
+    Ok(())
+}
+
+/// The native commands.
+fn natives(alloc: Global) -> Result<Callable, NoMemory> {
+    let mut callable = Callable::new(alloc);
+    for native in &NATIVES {
+        let signature = native.signature(alloc)?;
+        callable.add(alloc, native.name(), &signature)?;
+    }
+    Ok(callable)
+}
+
+/// Adds a handler to those that may be called.
+fn add(
+    alloc: Global,
+    draft: &Draft,
+    limits: Limits,
+    callable: &mut Callable,
+) -> Result<(), NoMemory> {
+    let params = params_of(alloc, draft.params.as_slice())?;
+    match signature_of(params, limits) {
+        Some(signature) => callable.add(alloc, draft.command.as_str(), &signature),
+        None => Ok(()),
+    }
+}
+
+/// Why no budget would do for a handler.
+fn refusal(alloc: Global, source: &Source, fault: &VerifyFault) -> Result<Found, NoMemory> {
+    let kind = fault.kind();
+    let meaning = match kind {
+        FaultKind::UnknownCommand => {
+            "it calls a command that isn't native and that no handler of this text has; if it is of another \
+             extension, give `.budget` and `.depth`"
+        }
+        FaultKind::OverBudget => "a path costs more than 1,000,000,000",
+        kind => kind.meaning(),
+    };
+    let sentence = format!(in alloc; "no budget would do, since {meaning}")?;
+    match fault {
+        VerifyFault::OverBudget(_) => Found::said(alloc, source.first, 1, kind, sentence.as_str()),
+        fault => {
+            let line = source.line_at(fault.place());
+            Found::said(alloc, line, 0, kind, sentence.as_str())
+        }
+    }
+}
+
+/// The smallest budget of a handler with a depth. Where it isn't accepted the reason is added.
+fn budget_of(
+    alloc: Global,
+    draft: &Draft,
+    depth: u32,
+    source: &Source,
+    callable: &Callable,
+    faults: &mut Faults,
+) -> Result<u32, NoMemory> {
+    let limits = Limits {
+        budget: BUDGET,
+        depth,
+    };
+    let handler = match handler_with(alloc, draft, limits) {
+        Ok(Some(handler)) => handler,
+        Err(Failure::NoMemory) => return Err(AllocError),
+        _ => return Ok(BUDGET),
+    };
+    match dearest_cost(alloc, callable, &handler) {
+        Ok(cost) => Ok(u32::try_from(cost).unwrap_or(BUDGET)),
+        Err(Failure::NoMemory) => Err(AllocError),
+        Err(Failure::Fault(fault)) => {
+            faults.add(refusal(alloc, source, &fault)?)?;
+            Ok(BUDGET)
+        }
+    }
+}
+
+/// Adds why handlers without a budget aren't accepted, if each one that they call costs little.
+fn add_refusals(
+    alloc: Global,
+    drafts: &[Draft],
+    sources: &[Source],
+    depths: &[Option<u32>],
+    faults: &mut Faults,
+) -> Result<(), NoMemory> {
+    let mut callable = natives(alloc)?;
+    for (draft, depth) in drafts.iter().zip(depths.iter()) {
+        let limits = Limits {
+            budget: 1,
+            depth: depth.unwrap_or(DEPTH),
+        };
+        add(alloc, draft, limits, &mut callable)?;
+    }
+    for ((draft, source), depth) in drafts.iter().zip(sources.iter()).zip(depths.iter()) {
+        if let (None, Some(depth)) = (draft.budget, *depth) {
+            budget_of(alloc, draft, depth, source, &callable, faults)?;
+        }
+    }
+    Ok(())
+}
+
+/// The limits of the handlers of one depth, which may be called from then on. The reason is added where there
+/// are none.
+fn level(
+    alloc: Global,
+    drafts: &[Draft],
+    sources: &[Source],
+    depth: u32,
+    limits: &mut [Limits],
+    callable: &mut Callable,
+    faults: &mut Faults,
+) -> Result<(), NoMemory> {
+    for (place, (draft, source)) in limits.iter_mut().zip(drafts.iter().zip(sources.iter())) {
+        if place.depth == depth {
+            if draft.budget.is_none() {
+                place.budget = budget_of(alloc, draft, depth, source, callable, faults)?;
+            }
+            add(alloc, draft, *place, callable)?;
+        }
+    }
+    Ok(())
+}
+
+/// The budget and the depth of each handler: those that it has, or else the smallest with which it is
+/// accepted. Where there are none the reason is added. Error: `NoMemory`.
+pub(crate) fn limits_of(
+    alloc: Global,
+    drafts: &[Draft],
+    sources: &[Source],
+    faults: &mut Faults,
+) -> Result<Vec<Limits>, NoMemory> {
+    let callees = all_callees(alloc, drafts, sources, faults)?;
+    let mut limits: Vec<Limits> = Vec::new(alloc);
+    if !faults.is_empty() {
+        return Ok(limits);
+    }
+    let depths = depths_of(alloc, drafts, callees.as_slice())?;
+    add_endless(alloc, sources, depths.as_slice(), faults)?;
+    add_refusals(alloc, drafts, sources, depths.as_slice(), faults)?;
+    if !faults.is_empty() {
+        return Ok(limits);
+    }
+    for (draft, depth) in drafts.iter().zip(depths.iter()) {
+        limits.push(Limits {
+            budget: draft.budget.unwrap_or(BUDGET),
+            depth: depth.unwrap_or(DEPTH),
+        })?;
+    }
+    let mut callable = natives(alloc)?;
+    for depth in 1..=DEPTH {
+        level(
+            alloc,
+            drafts,
+            sources,
+            depth,
+            limits.as_mut_slice(),
+            &mut callable,
+            faults,
+        )?;
+    }
+    Ok(limits)
+}

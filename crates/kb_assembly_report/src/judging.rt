@@ -1,0 +1,136 @@
+//! Whether the text of a `handlers.json` is right: it is read as the handlers that it was written of, and
+//! those whose budget was left out are accepted, and with no smaller one. Each text is tested before it is
+//! given, so that no proof has to follow how it was written.
+ghost use Rattle.std.specs.Prelude.{◌≡◌, IfOk, true};
+ghost use Rattle.kb_assembly_report.specs.Judging.{AreSettled, IsFileOf, IsReadAs, IsSettled, all_like};
+ghost use Rattle.kb_assembly_report.specs.Judging.{kept, like};
+
+use kb_assembly::{Draft, disassemble, handler_draft};
+use kb_base::{Failure, NoMemory, Seq};
+use kb_code::Handler;
+use kb_core::NATIVES;
+use kb_files::read_handlers;
+use kb_verify::{Callable, callable_of, dearest_cost};
+use std::alloc::{AllocError, Global};
+
+/// A number, unless it was left out.
+fn kept(given: Option<u32>, number: u32) -> Option<u32>
+    ensures { result ≡ kept given number }
+{
+    match given {
+        Some(_) => Some(number),
+        None => None,
+    }
+}
+
+/// A handler as a text has it that leaves out what another one leaves out. Error: `NoMemory`.
+fn like(alloc: Global, given: &Draft, handler: &Handler) -> Result<Draft, NoMemory>
+    ensures { IfOk result (λ draft. draft ≡ like given.now handler.now) }
+{
+    let budget = handler.signature().budget();
+    let depth = u32::from(handler.signature().depth());
+    let Draft {
+        command,
+        params,
+        texts,
+        calls,
+        code,
+        ..
+    } = handler_draft(alloc, handler)?;
+    Ok(Draft {
+        command,
+        params,
+        budget: kept(given.budget, budget),
+        depth: kept(given.depth, depth),
+        texts,
+        calls,
+        code,
+    })
+}
+
+/// Handlers as a text has them that leaves out what others leave out. Error: `NoMemory`.
+fn all_like(alloc: Global, given: &[Draft], handlers: &[Handler]) -> Result<Seq<Draft>, NoMemory>
+    ensures { IfOk result (λ drafts. drafts ≡ all_like given.now handlers.now) }
+{
+    let mut drafts = Seq::new(alloc);
+    let (mut left, mut read) = (given, handlers);
+    while let ([one, more @ ..], [handler, others @ ..]) = (left, read) {
+        drafts.push(like(alloc, one, handler)?)?;
+        left = more;
+        read = others;
+    }
+    Ok(drafts)
+}
+
+/// Whether handlers agree with others in all that these don't leave out. Error: `NoMemory`.
+#[tactic(auto, using(crate::proofs::JudgingLemmas::same_text))]
+fn are_read(alloc: Global, drafts: &[Draft], handlers: &[Handler]) -> Result<bool, NoMemory>
+    ensures { IfOk result (λ yes. yes ≡ true → IsReadAs drafts.now handlers.now) }
+{
+    if drafts.len() != handlers.len() {
+        return Ok(false);
+    }
+    let again = all_like(alloc, drafts, handlers)?;
+    let one = disassemble(alloc, drafts)?;
+    let other = disassemble(alloc, again.as_slice())?;
+    Ok(one.as_slice() == other.as_slice())
+}
+
+/// Whether a handler is accepted, and costs its budget, if that was left out. Error: `NoMemory`.
+fn is_settled(
+    alloc: Global,
+    callable: &Callable,
+    given: &Draft,
+    handler: &Handler,
+) -> Result<bool, NoMemory>
+    ensures { IfOk result (λ yes. yes ≡ true → IsSettled callable.now given.now handler.now) }
+{
+    match given.budget {
+        Some(_) => Ok(true),
+        None => match dearest_cost(alloc, callable, handler) {
+            Ok(cost) => Ok(cost == u64::from(handler.signature().budget())),
+            Err(Failure::NoMemory) => Err(AllocError),
+            Err(Failure::Fault(_)) => Ok(false),
+        },
+    }
+}
+
+/// The same of several handlers.
+fn are_settled(
+    alloc: Global,
+    callable: &Callable,
+    given: &[Draft],
+    handlers: &[Handler],
+) -> Result<bool, NoMemory>
+    ensures { IfOk result (λ yes. yes ≡ true → AreSettled callable.now given.now handlers.now) }
+{
+    let (mut left, mut read) = (given, handlers);
+    while let ([one, more @ ..], [handler, others @ ..]) = (left, read) {
+        if !is_settled(alloc, callable, one, handler)? {
+            return Ok(false);
+        }
+        left = more;
+        read = others;
+    }
+    Ok(true)
+}
+
+/// Whether the text of a file is read as these handlers, and those without a budget are accepted with the one
+/// that they have there, and with no smaller one. Error: `NoMemory`.
+#[tactic(auto, using(crate::proofs::JudgingLemmas::judging))]
+pub(crate) fn is_right(alloc: Global, drafts: &[Draft], text: &[u8]) -> Result<bool, NoMemory>
+    ensures { IfOk result (λ yes. yes ≡ true → IsFileOf drafts.now text.now) }
+{
+    match read_handlers(alloc, text) {
+        Ok(handlers) => {
+            let handlers = handlers.as_slice();
+            if !are_read(alloc, drafts, handlers)? {
+                return Ok(false);
+            }
+            let callable = callable_of(alloc, &NATIVES, &[], &[], handlers)?;
+            are_settled(alloc, &callable, drafts, handlers)
+        }
+        Err(Failure::NoMemory) => Err(AllocError),
+        Err(Failure::Fault(_)) => Ok(false),
+    }
+}
