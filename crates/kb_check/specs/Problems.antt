@@ -1,12 +1,12 @@
 -- What the problems of some files say of the load: they refuse exactly what it refuses, for the same fault,
 -- and have each of its warnings once.
-use Rattle.std.specs.Prelude.{◌≡◌, ◌⊎◌, List, [], ◌∷◌, map, Bool, false, IsTrue}
+use Rattle.std.specs.Prelude.{◌≡◌, ◌⊎◌, ℕ, List, [], ◌∷◌, map, Bool, false, IsTrue}
 use Rattle.std.specs.Prelude.{Option, Some, None, Ok, Err}
 use Rattle.std.specs.List.{All, filter_map}
 use Rattle.kb_base.specs.declared.failure.Failure.TheVariants.{Fault}
 use Rattle.kb_base.specs.declared.note.Warning.{Warning}
 use Rattle.kb_files.specs.Inputs.{Files}
-use Rattle.kb_bindings.specs.Sources.{enablement, rules_of}
+use Rattle.kb_bindings.specs.Sources.{Sources, enablement, rules_of}
 use Rattle.kb_bindings.specs.Warning.{warnings_of}
 use Rattle.kb_core.specs.Native.{natives}
 use Rattle.kb_files.specs.declared.fault.LoadFault.{LoadFault}
@@ -52,17 +52,23 @@ pub record TellsRefusal (files : Files) (problems : List Problem) : Type 0 where
   pub refuses : Loads files natives (Err (Fault fault))
   pub only : IsRefusal fault problems
 
--- the load accepts the files, its warnings are among the problems, each once and in their order, and each
--- problem that says that a rule can never start is at a rule that can't
-pub record TellsWarnings (at_rule : Rule → Problem → Type 0) (files : Files) (problems : List Problem)
-    : Type 0 where
+-- the identifiers of the extensions, in load order
+abbrev pub ids_in : Sources → List (List ℕ)
+ids_in s = map (λ e. e.manifest.id) s.extensions
+
+-- the load accepts the files, these are the identifiers of its extensions, its warnings are among the
+-- problems, each once and in their order, and each problem that says that a rule can never start is at a rule
+-- that can't
+pub record TellsWarnings (at_rule : Rule → Problem → Type 0) (files : Files) (ids : List (List ℕ))
+    (problems : List Problem) : Type 0 where
   pub session : Seen
   pub accepts : Loads files natives (Ok session)
+  pub named : ids ≡ ids_in session.state.sources
   pub warnings : filter_map warning_in problems ≡ warnings_of session.state.sources
   pub sound : AreSound at_rule (enablement session.state.sources) (rules_of session.state.sources) problems
 
-abbrev pub Tells : (Rule → Problem → Type 0) → Files → List Problem → Type 0
-Tells at_rule files problems = TellsRefusal files problems ⊎ TellsWarnings at_rule files problems
+abbrev pub Tells : (Rule → Problem → Type 0) → Files → List (List ℕ) → List Problem → Type 0
+Tells at_rule files ids problems = TellsRefusal files problems ⊎ TellsWarnings at_rule files ids problems
 
 -- the lint that a problem is, if it is one
 abbrev pub lint_of : Cause → Option Lint

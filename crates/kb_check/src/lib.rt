@@ -5,6 +5,7 @@
 
 mod context_keys;
 mod hidden_lints;
+mod known_commands;
 mod lints;
 mod list_lints;
 mod loading;
@@ -13,4 +14,4 @@ pub mod problems;
 mod removal_lints;
 mod rule_lints;
 
-pub use problems::find_problems;
+pub use problems::{Findings, find_problems};

@@ -7,9 +7,10 @@ ghost use Rattle.kb_problems.specs.Starts.{never_said};
 
 use crate::context_keys::add_unknown_keys;
 use crate::hidden_lints::add_hidden;
+use crate::known_commands::known_in;
 use crate::pattern_lints::add_unread_patterns;
 use crate::removal_lints::add_idle_removals;
-use crate::rule_lints::{add_unknown_commands, add_wrong_arguments, unknown_sentence};
+use crate::rule_lints::{add_unknown_commands, add_wrong_arguments, said_of_unknown};
 use kb_base::{NoMemory, Origin, Part};
 use kb_bindings::Bindings;
 use kb_context::Scopes;
@@ -30,7 +31,7 @@ pub struct Loaded<'a> {
 }
 
 /// All kinds, in the order in which they are looked for. Rules that can never start are found together,
-/// whichever file the lower rule is in.
+/// whichever file the lower rule is in, and unknown commands, next to a known one or not.
 const KINDS: [Lint; 10] = [
     Lint::UnknownCommand,
     Lint::WrongArguments,
@@ -57,8 +58,8 @@ pub(crate) fn linted_in(
         (enablement accepted.entry.bindings.now) (rules_of accepted.entry.bindings.now) problems.items) }
 {
     let mut problems = Vec::new(alloc);
-    let mut known = KnownCommands::new(alloc, files.sources.extensions)?;
-    known.contribute(alloc, accepted.bindings.extensions())?;
+    let extensions = files.sources.extensions;
+    let mut known = known_in(alloc, extensions, accepted.bindings, choices.commands)?;
     add_kinds(
         alloc,
         KINDS.as_slice(),
@@ -71,9 +72,11 @@ pub(crate) fn linted_in(
     Ok(problems)
 }
 
-/// Whether a kind is looked for.
+/// Whether a kind is looked for, or one that is found together with it.
 fn is_wanted(kind: Lint, choices: &Choices<'_>) -> bool {
-    choices.wants(kind) || (kind == Lint::NeverStarts && choices.wants(Lint::Overridden))
+    choices.wants(kind)
+        || (kind == Lint::NeverStarts && choices.wants(Lint::Overridden))
+        || (kind == Lint::UnknownCommand && choices.wants(Lint::MisspelledCommand))
 }
 
 /// Adds those of these kinds that are looked for.
@@ -230,11 +233,8 @@ fn add_item(
         return Ok(());
     }
     let span = opened.member(alloc, Part::Palette, item.place, "command")?;
-    let sentence = unknown_sentence(alloc, command, known)?;
-    push_other(
-        linted(opened.file, Lint::UnknownCommand, span, sentence),
-        problems,
-    )?;
+    let (lint, sentence) = said_of_unknown(alloc, command, known)?;
+    push_other(linted(opened.file, lint, span, sentence), problems)?;
     Ok(())
 }
 

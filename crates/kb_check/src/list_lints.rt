@@ -2,7 +2,7 @@
 ghost use Rattle.std.specs.Prelude.{◌≡◌, OnOk};
 ghost use Rattle.kb_problems.specs.Starts.{never_said};
 
-use crate::rule_lints::{arguments_sentence, unknown_sentence};
+use crate::rule_lints::{arguments_sentence, said_of_unknown};
 use kb_base::NoMemory;
 use kb_problems::{
     KnownCommands, LIST_COMMAND, Lint, OpenedFiles, Problem, push_other, rule_problem,
@@ -15,7 +15,7 @@ use std::alloc::Global;
 const LIMIT: usize = 32;
 
 /// The elements of the list that a rule gives, if it gives one and it isn't too long.
-fn elements_of(rule: &Rule) -> Option<&[Value]> {
+pub(crate) fn elements_of(rule: &Rule) -> Option<&[Value]> {
     let Some(args) = &rule.args else {
         return None;
     };
@@ -27,7 +27,7 @@ fn elements_of(rule: &Rule) -> Option<&[Value]> {
 }
 
 /// The command of an element, if it names one that may be in a list.
-fn command_in(element: &Value) -> Option<&str> {
+pub(crate) fn command_in(element: &Value) -> Option<&str> {
     let command = match element {
         Value::String(command) => command.as_str(),
         Value::Object(_) => element.get("command")?.as_str()?,
@@ -90,8 +90,8 @@ fn add_unknown_element(
     if known.has(command) {
         return Ok(());
     }
-    let sentence = unknown_sentence(alloc, command, known)?;
-    let problem = rule_problem(alloc, files, rule, Lint::UnknownCommand, "args", sentence)?;
+    let (lint, sentence) = said_of_unknown(alloc, command, known)?;
+    let problem = rule_problem(alloc, files, rule, lint, "args", sentence)?;
     push_other(problem, problems)?;
     Ok(())
 }

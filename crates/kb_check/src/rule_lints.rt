@@ -1,6 +1,6 @@
 //! Lints on the rules in force: commands that nobody has, and arguments that their commands don't take.
-ghost use Rattle.std.specs.Prelude.{◌≡◌, OnOk};
-ghost use Rattle.kb_problems.specs.Starts.{never_said};
+ghost use Rattle.std.specs.Prelude.{◌≡◌, IfOk, OnOk, false};
+ghost use Rattle.kb_problems.specs.Starts.{is_never, never_said};
 
 use crate::list_lints::{add_unknown_elements, add_wrong_list};
 use kb_base::NoMemory;
@@ -47,32 +47,34 @@ fn add_unknown_command(
     if command.is_empty() || known.has(command) {
         return Ok(());
     }
-    let sentence = unknown_sentence(alloc, command, known)?;
-    let problem = rule_problem(
-        alloc,
-        files,
-        rule,
-        Lint::UnknownCommand,
-        "command",
-        sentence,
-    )?;
+    let (lint, sentence) = said_of_unknown(alloc, command, known)?;
+    let problem = rule_problem(alloc, files, rule, lint, "command", sentence)?;
     push_other(problem, problems)?;
     Ok(())
 }
 
-/// The sentence on a command that nobody has.
-pub(crate) fn unknown_sentence(
+/// What is said of a command that is not known: the lint, and a sentence.
+pub(crate) fn said_of_unknown(
     alloc: Global,
     command: &str,
     known: &mut KnownCommands,
-) -> Result<String, NoMemory> {
+) -> Result<(Lint, String), NoMemory>
+    ensures { IfOk result (λ said. is_never said.0 ≡ false) }
+{
     match known.near(command) {
-        Some(near) => format!(in alloc;
-            "no extension contributes the command `{command}`, and it is no native one; is `{near}` meant?"
-        ),
-        None => format!(in alloc;
-            "no extension contributes the command `{command}`, and it is no native one"
-        ),
+        Some(near) => {
+            let sentence = format!(in alloc;
+                "there is no command `{command}`; is `{near}` meant?"
+            )?;
+            Ok((Lint::MisspelledCommand, sentence))
+        }
+        None => {
+            let sentence = format!(in alloc;
+                "no extension contributes the command `{command}`, no default rule starts it, and it is no \
+                    native one"
+            )?;
+            Ok((Lint::UnknownCommand, sentence))
+        }
     }
 }
 

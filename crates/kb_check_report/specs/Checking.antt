@@ -1,5 +1,6 @@
 -- What a check answers, and the page that problems are written from.
-use Rattle.std.specs.Prelude.{◌≡◌, ◌↔◌, ℕ, List, [], Bool, IsTrue, Option, length, min, option_map}
+use Rattle.std.specs.Prelude.{◌≡◌, ℕ, List, [], Bool, not, Option, length, map, min, option_map}
+use Rattle.std.specs.List.{list_any}
 use Rattle.std.specs.Option.{option_map_or}
 use Rattle.kb_check.specs.Problems.{AreWanted, Tells, files_in}
 use Rattle.kb_files.specs.Inputs.{Files}
@@ -13,16 +14,18 @@ use Rattle.kb_problems.specs.declared.choices.Choices.{Choices}
 use Rattle.kb_problems.specs.declared.problem.Problem.{Problem}
 use Rattle.kb_source_files.specs.SourceFiles.{file_of}
 use Rattle.kb_source_files.specs.declared.source_files.SourceFiles.{SourceFiles}
+use Rattle.kb_check_report.specs.Marks.{is_shown, mark_of}
 use Rattle.kb_check_report.specs.declared.checking.Page.{Page}
 
--- whether some files have no problem
+-- no problem of some files is shown
 pub record Checks (files : Files) (choices : Choices) (clean : Bool) : Type 0 where
   pub problems : List Problem
   pub sources : SourceFiles
   pub are_files : files_in sources ≡ files
-  pub tells : Tells (IsAtRule sources) files problems
+  pub ids : List (List ℕ)
+  pub tells : Tells (IsAtRule sources) files ids problems
   pub wanted : AreWanted choices problems
-  pub none : IsTrue clean ↔ (problems ≡ [])
+  pub none : clean ≡ not (list_any is_shown (map (mark_of sources ids choices) problems))
 
 -- ---- the page
 

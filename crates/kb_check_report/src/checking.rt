@@ -1,14 +1,18 @@
 //! The check of some files, from their bytes to what is written.
-ghost use Rattle.std.specs.Prelude.{◌≡◌, [], IfOk, is_none, option_map, slice_get};
+ghost use Rattle.std.specs.Prelude.{◌≡◌, [], IfOk, map, option_map};
 ghost use Rattle.std.specs.Option.{option_map_or};
 ghost use Rattle.kb_check.specs.Problems.{files_in};
 ghost use Rattle.kb_check_report.specs.Checking.{Checks, IsPage, position_in, position_of_part};
+ghost use Rattle.kb_check_report.specs.Marks.{mark_of};
 ghost use Rattle.kb_jsonc.specs.Reader.{without_mark as text_behind_mark};
 
 use crate::json_lines::write_object;
+use crate::last_line::{write_last_line, write_last_object};
+use crate::marks::{Counts, Mark, counts_of, is_any_shown, is_refusal, marks_of};
 use crate::text_lines::write_problem;
+use crate::whose::unknown_names;
 use kb_base::NoMemory;
-use kb_check::find_problems;
+use kb_check::{Findings, find_problems};
 use kb_files::LoadFile;
 use kb_places::{Position, Span, Walker, without_mark};
 use kb_problems::{Choices, Problem};
@@ -127,17 +131,29 @@ fn write_one<'a>(
     }
 }
 
-/// Writes problems in order.
-fn write_all<W: Write>(
+/// Whether the problem at a place is shown.
+fn is_shown_at(marks: &[Mark], place: usize) -> bool {
+    match marks.get(place) {
+        Some(mark) => mark.is_shown(),
+        None => false,
+    }
+}
+
+/// Writes those problems that are shown, in order.
+fn write_shown<W: Write>(
     alloc: Global,
     files: &SourceFiles<'_>,
     problems: &[Problem],
+    marks: &[Mark],
     form: Form,
     out: &mut W,
 ) -> Result<(), Stop> {
     let mut page = page_of(files, LoadFile::Natives);
     let mut text = String::new(alloc);
-    for problem in problems {
+    for (place, problem) in problems.iter().enumerate() {
+        if !is_shown_at(marks, place) {
+            continue;
+        }
         text.clear();
         write_one(alloc, files, problem, &mut page, form, &mut text)?;
         say(text.as_str(), out)?;
@@ -145,18 +161,67 @@ fn write_all<W: Write>(
     Ok(())
 }
 
-/// Whether there is no problem.
-fn are_none(problems: &[Problem]) -> bool
-    ensures { result ≡ is_none (slice_get problems.now 0) }
-{
-    match problems.first() {
-        Some(_) => false,
-        None => true,
+/// The names that were given for files, but that no file has. Of a refused load nothing is known of
+/// extensions, and no name is said to be unknown.
+fn unknown_in<'c>(
+    alloc: Global,
+    files: &SourceFiles<'_>,
+    found: &Findings,
+    choices: &Choices<'c>,
+) -> Result<Vec<&'c str>, NoMemory> {
+    match found.problems.first() {
+        Some(problem) if is_refusal(problem.cause) => Ok(Vec::new(alloc)),
+        _ => unknown_names(alloc, files, found.ids.as_slice(), choices.only),
     }
 }
 
-/// Checks some files, writes their problems in a form, flushes the buffer, and returns whether there is none:
-/// then the load accepts the files without a warning. What is written is tested, and in no clause.
+/// Writes how many problems are shown, and how many aren't.
+fn write_counts<W: Write>(
+    alloc: Global,
+    counts: &Counts,
+    unknown: &[&str],
+    form: Form,
+    out: &mut W,
+) -> Result<(), Stop> {
+    let mut text = String::new(alloc);
+    match form {
+        Form::Text => write_last_line(alloc, counts, unknown, &mut text)?,
+        Form::Json => write_last_object(alloc, counts, unknown, &mut text)?,
+    }
+    say(text.as_str(), out)
+}
+
+/// Writes the problems that are shown, and how many there are.
+fn write_all<W: Write>(
+    alloc: Global,
+    files: &SourceFiles<'_>,
+    found: &Findings,
+    marks: &[Mark],
+    choices: &Choices<'_>,
+    form: Form,
+    out: &mut W,
+) -> Result<(), Stop> {
+    write_shown(alloc, files, found.problems.as_slice(), marks, form, out)?;
+    let unknown = unknown_in(alloc, files, found, choices)?;
+    write_counts(alloc, &counts_of(marks), unknown.as_slice(), form, out)
+}
+
+/// The mark of each problem that was found in files.
+fn marks_in(
+    alloc: Global,
+    files: &SourceFiles<'_>,
+    found: &Findings,
+    choices: &Choices<'_>,
+) -> Result<Vec<Mark>, NoMemory>
+    ensures { IfOk result (λ marks.
+        marks.items ≡ map (mark_of files.now found.now.ids.items choices.now) found.now.problems.items) }
+{
+    let (ids, problems) = (found.ids.as_slice(), found.problems.as_slice());
+    marks_of(alloc, files, ids, choices, problems)
+}
+
+/// Checks some files, writes in a form the problems that are asked for and how many there are, flushes the
+/// buffer, and returns whether none is shown. What is written is tested, and in no clause.
 ///
 /// Errors: `NotWritten` where a write failed, or `NoMemory`; what was written stays.
 pub fn check<W: Write + Drop>(
@@ -168,10 +233,11 @@ pub fn check<W: Write + Drop>(
 ) -> Result<bool, Stop>
     ensures { IfOk result (Checks (files_in files.now) choices.now) }
 {
-    let problems = find_problems(alloc, files, choices)?;
-    write_all(alloc, files, problems.as_slice(), form, out)?;
+    let found = find_problems(alloc, files, choices)?;
+    let marks = marks_in(alloc, files, &found, choices)?;
+    write_all(alloc, files, &found, marks.as_slice(), choices, form, out)?;
     match out.flush() {
-        Ok(()) => Ok(are_none(problems.as_slice())),
+        Ok(()) => Ok(!is_any_shown(marks.as_slice())),
         Err(_) => Err(Stop::NotWritten),
     }
 }

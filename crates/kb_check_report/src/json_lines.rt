@@ -25,6 +25,8 @@ fn object_of(
     }
     add_text(alloc, "name", problem.cause.name(), &mut members)?;
     add_text(alloc, "message", problem.sentence.as_str(), &mut members)?;
+    let severity = problem.cause.severity();
+    add_text(alloc, "severity", severity.name(), &mut members)?;
     Ok(Value::Object(members))
 }
 

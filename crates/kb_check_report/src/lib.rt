@@ -3,6 +3,9 @@
 
 pub mod checking;
 mod json_lines;
+mod last_line;
+mod marks;
 mod text_lines;
+mod whose;
 
 pub use checking::check;

@@ -22,7 +22,8 @@ pub(crate) fn write_headline(
     if let Some(Position { line, column }) = position {
         write!(text, ":{line}:{column}")?;
     }
-    text.push_str(": ")?;
+    let severity = problem.cause.severity().name();
+    write!(text, ": {severity}: ")?;
     if let Some(fault) = problem.cause.fault() {
         let number = fault.number();
         write!(text, "{number} ")?;

@@ -15,7 +15,7 @@ use Rattle.kb_run.specs.declared.outcome.Stop.TheVariants as run
 use Rattle.kb_handler_report.specs.Check as handlers
 use Rattle.kb_handler_report.specs.Stop as handlers_stop
 use Rattle.kb_handler_report.specs.declared.stop.Stop as handlers_end
-use Rattle.kb_keycheck.specs.CommandLine.{IsAsked, IsGiven, path_in, subcommand_named}
+use Rattle.kb_keycheck.specs.CommandLine.{AreWishes, IsAsked, IsGiven, path_in, subcommand_named}
 use Rattle.kb_keycheck.specs.Ends.{Answers, AnswersBy, AreChecked, AreLoaded, Checks, ChecksBy, Does, Handles}
 use Rattle.kb_keycheck.specs.Ends.{HandlersBy, Obeys, StopsAnswering, StopsChecking, answer_status, check_status}
 use Rattle.kb_keycheck.specs.Ends.{Translates, TranslatesGiven, translation_status}
@@ -26,23 +26,18 @@ use Rattle.kb_keycheck.specs.declared.request.Direction.{Direction}
 use Rattle.kb_keycheck.specs.declared.request.Given.{Given}
 use Rattle.kb_keycheck.specs.declared.request.Question.{Question}
 use Rattle.kb_keycheck.specs.declared.request.Topic.{Topic}
+use Rattle.kb_keycheck.specs.declared.request.Wishes.{Wishes}
 
 -- ---- how a command ends
 
-pub checks_given : (held : List ℕ → Held) (rows : List Row) (given : Given) (allowed asked : List Text)
-    (end : Result Bool Stop) → IsGiven rows given → allowed ≡ unwrap_or (all_of (codes "allow") rows) []
-    → asked ≡ unwrap_or (all_of (codes "warn") rows) []
-    → IfOk end (AreChecked held given.options allowed asked) → IfErr end (StopsChecking held given.options)
+pub checks_given : (held : List ℕ → Held) (rows : List Row) (given : Given) (wishes : Wishes)
+    (end : Result Bool Stop) → IsGiven rows given → AreWishes rows wishes
+    → IfOk end (AreChecked held given.options wishes) → IfErr end (StopsChecking held given.options wishes)
     → ChecksBy held rows end
-checks_given held rows given allowed asked (Ok clean) is silenced wanted checked stopped =
-    inr (record {
-      given = given;
-      is_given = is;
-      ends = subst (λ (xs : List Text). AreChecked held given.options xs (unwrap_or (all_of (codes "warn") rows) []) clean) silenced
-          (subst (λ (ys : List Text). AreChecked held given.options allowed ys clean) wanted checked);
-    })
-checks_given held rows given allowed asked (Err stop) is silenced wanted checked stopped =
-    inr (record { given = given; is_given = is; ends = stopped })
+checks_given held rows given wishes (Ok clean) is are checked stopped =
+    inr (record { given = given; is_given = is; wishes = wishes; are_wishes = are; ends = checked })
+checks_given held rows given wishes (Err stop) is are checked stopped =
+    inr (record { given = given; is_given = is; wishes = wishes; are_wishes = are; ends = stopped })
 
 pub no_check : (held : List ℕ → Held) (rows : List Row) (end : Result Bool Stop) (stop : Stop)
     → end ≡ Err stop → stop ≡ Run run.NoMemory → ChecksBy held rows end

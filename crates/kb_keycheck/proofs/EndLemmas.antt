@@ -1,6 +1,8 @@
 -- Why runs stop.
-use Rattle.std.proofs.Common.{◌≡◌, ℕ, Bool, true, List, inl, inr, map, refl, sym, subst}
+use Rattle.std.proofs.Common.{◌≡◌, ℕ, Bool, true, List, inl, inr, ap, sym, subst}
 use Rattle.std.specs.Borrow.{Bor}
+use Rattle.std.specs.IoError.{error_kind}
+use Rattle.std.specs.declared.io.Error.{Error}
 use Rattle.std.specs.Prelude.{Option, Some, None, Result, Ok, Err, IfErr, IfOk}
 use Rattle.kb_base.specs.declared.failure.Failure.{Failure}
 use Rattle.kb_base.specs.declared.failure.Failure.TheVariants as failure
@@ -8,14 +10,15 @@ use Rattle.kb_files.specs.Inputs.{Files}
 use Rattle.kb_check_report.specs.Checking as checking
 use Rattle.kb_problems.specs.declared.choices.Choices.{Choices}
 use Rattle.kb_core.specs.Native.{natives}
-use Rattle.kb_disk.specs.Files.{Held, NamesFile}
+use Rattle.kb_disk.specs.Files.{FailsOpening, FailsReading, HasRead, Held, NamesFile, Opens, failure_of, holds}
+use Rattle.kb_disk.specs.Files.{refuses, unknown}
 use Rattle.kb_disk.specs.declared.cannot_read.CannotRead.{CannotRead}
 use Rattle.kb_run.specs.ExitStatus.{load_stop, read_stop, script_stop}
 use Rattle.kb_run.specs.declared.outcome.Stop as outcome
 use Rattle.kb_run.specs.declared.outcome.Stop.TheVariants as run
 use Rattle.kb_files.specs.declared.fault.LoadFault.{LoadFault}
 use Rattle.kb_disk.specs.declared.options.Options.{Options}
-use Rattle.kb_disk.specs.LoadFiles.{FailsReadingFiles, HasFiles}
+use Rattle.kb_disk.specs.LoadFiles.{FailsAt, FailsReadingFiles, HasFiles, HasRules}
 use Rattle.kb_report.specs.declared.output.Stop as report
 use Rattle.kb_report.specs.declared.output.Stop.TheVariants as report_stops
 use Rattle.kb_run.specs.Run.{FailsAtScript, FailsOpeningScript}
@@ -27,6 +30,7 @@ use Rattle.kb_keycheck.specs.Ends.{StopsOver, report_stop}
 use Rattle.kb_keycheck.specs.declared.ending.Stop.{Stop}
 use Rattle.kb_keycheck.specs.declared.ending.Stop.TheVariants.{Keys, Run, NotWritten}
 use Rattle.kb_keycheck.specs.declared.request.Question.{Question}
+use Rattle.kb_keycheck.specs.declared.request.Wishes.{Wishes}
 
 -- ---- behind a load
 
@@ -121,29 +125,61 @@ pub ruleset answering = (reading_stops, opening_stops, stops_answering, loaded)
 
 -- ---- a check
 
-pub reading_checks : (held : List ℕ → Held) (given : Options) (failed : Failure CannotRead) (made : Stop)
-    → FailsReadingFiles held given failed → made ≡ Run (read_stop failed) → StopsChecking held given made
-reading_checks held given failure.NoMemory made fails is = subst (StopsChecking held given) (sym is) tt
-reading_checks held given (failure.Fault file) made fails is =
-    subst (StopsChecking held given) (sym is) fails
+-- the file of commands does not open
+open_fails : (at : Held) (error : Error) → Opens {F = Unit {0}} (λ file. None) at (Err error)
+    → HasRead {B = List ℕ} at (λ bytes. bytes) (Err (failure_of (error_kind error)))
+open_fails unknown error opens = tt
+open_fails (refuses kind) error opens = ap failure_of opens
+open_fails (holds bytes) error opens = absurd opens
 
-pub check_stops : (held : List ℕ → Held) (given : Options) (files : Files) (stop : report.Stop) (made : Stop)
-    → HasFiles held given files → made ≡ report_stop stop → StopsChecking held given made
-check_stops held given files report_stops.NoMemory made had is = subst (StopsChecking held given) (sym is) tt
-check_stops held given files report_stops.NotWritten made had is =
-    subst (StopsChecking held given) (sym is) (record { files = files; had = had })
+pub commands_unopened : (at : Held) (path : Bor (List ℕ)) (failed : Failure CannotRead) → FailsOpening at path failed
+    → FailsReading at path failed
+commands_unopened at path failed fails = record {
+  failed = failure_of (error_kind fails.error);
+  reading = open_fails at fails.error fails.opening;
+  failure_is = fails.failure_is;
+}
 
-pub all_checked : (held : List ℕ → Held) (given : Options) (files seen : Files) (choices : Choices) (clean : Bool)
-    → HasFiles held given files → seen ≡ files → checking.Checks seen choices clean
-    → AreChecked held given (map (λ (name : Bor (List ℕ)). name.now) choices.allowed.now)
-    (map (λ (name : Bor (List ℕ)). name.now) choices.asked.now) clean
-all_checked held given files seen choices clean had are checks = record {
+pub ruleset reading_commands = (commands_unopened)
+
+pub reading_checks : (held : List ℕ → Held) (given : Options) (wishes : Wishes) (failed : Failure CannotRead)
+    (made : Stop) → FailsReadingFiles held given failed → made ≡ Run (read_stop failed)
+    → StopsChecking held given wishes made
+reading_checks held given wishes failure.NoMemory made fails is =
+    subst (StopsChecking held given wishes) (sym is) tt
+reading_checks held given wishes (failure.Fault file) made fails is =
+    subst (StopsChecking held given wishes) (sym is) (inl fails)
+
+pub commands_checks : (held : List ℕ → Held) (given : Options) (wishes : Wishes) (failed : Failure CannotRead)
+    (made : Stop) → FailsAt held wishes.commands failed → made ≡ Run (read_stop failed)
+    → StopsChecking held given wishes made
+commands_checks held given wishes failure.NoMemory made fails is =
+    subst (StopsChecking held given wishes) (sym is) tt
+commands_checks held given wishes (failure.Fault file) made fails is =
+    subst (StopsChecking held given wishes) (sym is) (inr fails)
+
+pub check_stops : (held : List ℕ → Held) (given : Options) (wishes : Wishes) (files : Files) (stop : report.Stop)
+    (made : Stop) → HasFiles held given files → made ≡ report_stop stop → StopsChecking held given wishes made
+check_stops held given wishes files report_stops.NoMemory made had is =
+    subst (StopsChecking held given wishes) (sym is) tt
+check_stops held given wishes files report_stops.NotWritten made had is =
+    subst (StopsChecking held given wishes) (sym is) (record { files = files; had = had })
+
+pub all_checked : (held : List ℕ → Held) (given : Options) (wishes : Wishes) (files seen : Files)
+    (choices : Choices) (clean : Bool) → HasFiles held given files → choices.allowed.now ≡ wishes.allowed.items
+    → choices.asked.now ≡ wishes.asked.items → choices.only.now ≡ wishes.only.items → choices.level ≡ wishes.level
+    → HasRules held wishes.commands choices.commands.now → seen ≡ files → checking.Checks seen choices clean
+    → AreChecked held given wishes clean
+all_checked held given wishes files seen choices clean had allowed asked only level commands are checks = record {
   files = files;
   had = had;
   choices = choices;
-  allowed_are = refl;
-  asked_are = refl;
+  allowed = allowed;
+  asked = asked;
+  only = only;
+  level = level;
+  commands = commands;
   checks = subst (λ (fs : Files). checking.Checks fs choices clean) are checks;
 }
 
-pub ruleset checks = (reading_checks, check_stops, all_checked)
+pub ruleset checks = (reading_checks, commands_checks, check_stops, all_checked)

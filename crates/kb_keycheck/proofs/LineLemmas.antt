@@ -11,29 +11,29 @@ use Rattle.clap.specs.declared.parser.matches.ArgMatches.{ArgMatches}
 use Rattle.kb_keycheck.specs.CommandLine.{Matched, keycheck_app}
 
 -- the command is one whose words clap gives a meaning
-app_is_simple : (platforms lints : Bor (List (Bor Text))) → is_simple (keycheck_app platforms lints) ≡ true
+app_is_simple : (platforms lints levels : Bor (List (Bor Text))) → is_simple (keycheck_app platforms lints levels) ≡ true
 unfolding clap_on_literals
-app_is_simple platforms lints = refl
+app_is_simple platforms lints levels = refl
 
-app_is_free : (platforms lints : Bor (List (Bor Text)))
-    → is_simple_and_free (keycheck_app platforms lints) ≡ true
+app_is_free : (platforms lints levels : Bor (List (Bor Text)))
+    → is_simple_and_free (keycheck_app platforms lints levels) ≡ true
 unfolding clap_on_literals
-app_is_free platforms lints = refl
+app_is_free platforms lints levels = refl
 
 -- what clap answers of a command that is the program's
-pub matched_by : (platforms lints : Bor (List (Bor Text))) (made : App) → made ≡ keycheck_app platforms lints
+pub matched_by : (platforms lints levels : Bor (List (Bor Text))) (made : App) → made ≡ keycheck_app platforms lints levels
     → (words : List Text) (r : Result ArgMatches Error)
     → IfOk r (λ m. HasMatchesOf made words m)
     → (is_simple_and_free made ≡ true → FailsBy (fault_of made words) r)
     → IfErr r (λ e. takes made words ≡ true → kind_of e ≡ OutOfMemory)
-    → Matched (keycheck_app platforms lints) words r
-matched_by platforms lints made is words (Ok m) has kinds passes = (
+    → Matched (keycheck_app platforms lints levels) words r
+matched_by platforms lints levels made is words (Ok m) has kinds passes = (
   subst (λ (a : App). is_simple_and_free a ≡ true → fault_of a words ≡ []) is kinds
-      (app_is_free platforms lints),
-  (subst (λ (a : App). HasMatchesOf a words m) is has (app_is_simple platforms lints)).1,
+      (app_is_free platforms lints levels),
+  (subst (λ (a : App). HasMatchesOf a words m) is has (app_is_simple platforms lints levels)).1,
 )
-matched_by platforms lints made is words (Err e) has kinds passes = (
+matched_by platforms lints levels made is words (Err e) has kinds passes = (
   subst (λ (a : App). is_simple_and_free a ≡ true → HasKind (fault_of a words) e) is kinds
-      (app_is_free platforms lints),
+      (app_is_free platforms lints levels),
   subst (λ (a : App). takes a words ≡ true → kind_of e ≡ OutOfMemory) is passes,
 )

@@ -1,6 +1,7 @@
 -- The command line in clap's definitions, and what its words mean.
 use Rattle.std.specs.Prelude.{◌≡◌, ℕ, true, false, List, [], ◌∷◌, Option, Some, None, Result, Err}
-use Rattle.std.specs.Prelude.{MatchResult, codes, map, option_map, unwrap_or, find, bytes_eq}
+use Rattle.std.specs.Prelude.{MatchResult, codes, map, option_map, option_and_then}
+use Rattle.std.specs.Prelude.{unwrap_or, find, bytes_eq}
 use Rattle.std.specs.Borrow.{Bor}
 use Rattle.clap.specs.Words.{App, Rule, Row, Shape, Text, all_of, first_of, fault_of, kind_of}
 use Rattle.clap.specs.Words.{takes, HasKind, one_of}
@@ -14,6 +15,9 @@ use Rattle.clap.specs.declared.error.kind.ErrorKind.TheVariants.{OutOfMemory}
 use Rattle.clap.specs.declared.parser.matches.ArgMatches.{ArgMatches}
 use Rattle.clap.specs.Simple.{app_of}
 use Rattle.kb_cli.specs.CommandLine.{Gives, NamesPlatforms, dirs_rule, platform_rule, valued_rule}
+use Rattle.kb_problems.specs.Severity.{severity_named}
+use Rattle.kb_problems.specs.declared.severity.Severity.{Severity}
+use Rattle.kb_problems.specs.declared.severity.Severity.TheVariants.{Warning}
 use Rattle.kb_report.specs.declared.output.Form.{Form}
 use Rattle.kb_report.specs.declared.output.Form.TheVariants as form
 use Rattle.kb_keycheck.specs.declared.request.Direction.TheVariants as direction
@@ -24,6 +28,7 @@ use Rattle.kb_keycheck.specs.declared.request.Subcommand.{Subcommand}
 use Rattle.kb_keycheck.specs.declared.request.Subcommand.TheVariants as command
 use Rattle.kb_keycheck.specs.declared.request.Topic.{Topic}
 use Rattle.kb_keycheck.specs.declared.request.Topic.TheVariants as topic
+use Rattle.kb_keycheck.specs.declared.request.Wishes.{Wishes}
 
 -- ---- arguments
 
@@ -34,13 +39,22 @@ json_rule = record (new_rule (codes "json")) { long = Some (codes "json"); actio
 -- these are the names of the lints
 abbrev pub NamesLints : Bor (List (Bor Text)) → Type 0
 NamesLints names = map (λ name. name.now) names.now
-    ≡ codes "unknown-command" ∷ codes "wrong-arguments" ∷ codes "idle-removal" ∷ codes "never-starts"
-    ∷ codes "overridden" ∷ codes "chord-never-opens" ∷ codes "chord-hides-rule" ∷ codes "unread-pattern"
-    ∷ codes "misspelled-member" ∷ codes "double-quotes" ∷ codes "unknown-context-key" ∷ []
+    ≡ codes "unknown-command" ∷ codes "misspelled-command" ∷ codes "wrong-arguments" ∷ codes "idle-removal"
+    ∷ codes "never-starts" ∷ codes "overridden" ∷ codes "chord-never-opens" ∷ codes "chord-hides-rule"
+    ∷ codes "unread-pattern" ∷ codes "misspelled-member" ∷ codes "double-quotes"
+    ∷ codes "unknown-context-key" ∷ []
 
 -- `--NAME LINT`, any number of times, where LINT is one of these names
 abbrev pub lints_rule : Text → Bor (List (Bor Text)) → Rule
 lints_rule name lints = record (valued_rule name) { parser = Some (Names lints); action = Some Append }
+
+-- these are the names of the severities
+abbrev pub NamesLevels : Bor (List (Bor Text)) → Type 0
+NamesLevels names = map (λ name. name.now) names.now ≡ codes "error" ∷ codes "warning" ∷ codes "note" ∷ []
+
+-- `--level LEVEL`, where LEVEL is one of these names
+abbrev pub level_rule : Bor (List (Bor Text)) → Rule
+level_rule levels = record (valued_rule (codes "level")) { parser = Some (Names levels) }
 
 -- a word that must be there
 abbrev pub word_rule : Text → Rule
@@ -62,10 +76,15 @@ with_files a platforms = with_rule (with_rule (with_rule (with_rule (with_rule (
 abbrev pub with_script : App → Bor (List (Bor Text)) → App
 with_script a platforms = with_files (with_rule a (valued_rule (codes "script"))) platforms
 
--- `check [--allow NAME]... [--warn NAME]... FILES`
-abbrev pub check_app : Bor (List (Bor Text)) → Bor (List (Bor Text)) → App
-check_app platforms lints = with_files (with_rule (with_rule (new_app (codes "check"))
-    (lints_rule (codes "allow") lints)) (lints_rule (codes "warn") lints)) platforms
+-- `--only NAME`, any number of times
+abbrev pub only_rule : Rule
+only_rule = record (valued_rule (codes "only")) { action = Some Append }
+
+-- `check [--only NAME]... [--level LEVEL] [--allow NAME]... [--warn NAME]... [--commands F] FILES`
+abbrev pub check_app : Bor (List (Bor Text)) → Bor (List (Bor Text)) → Bor (List (Bor Text)) → App
+check_app platforms lints levels = with_files (with_rule (with_rule (with_rule (with_rule (with_rule
+    (new_app (codes "check")) only_rule) (level_rule levels)) (lints_rule (codes "allow") lints))
+    (lints_rule (codes "warn") lints)) (valued_rule (codes "commands"))) platforms
 
 -- `explain KEY FILES [--script F]`
 abbrev pub explain_app : Bor (List (Bor Text)) → App
@@ -103,10 +122,10 @@ bare_app = record (new_app (codes "keycheck")) {
   top = record (new_app (codes "keycheck")).top { has_version = true; subcommand_required = true };
 }
 
-abbrev pub keycheck_app : Bor (List (Bor Text)) → Bor (List (Bor Text)) → App
-keycheck_app platforms lints = with_subcommand (with_subcommand (with_subcommand (with_subcommand
+abbrev pub keycheck_app : Bor (List (Bor Text)) → Bor (List (Bor Text)) → Bor (List (Bor Text)) → App
+keycheck_app platforms lints levels = with_subcommand (with_subcommand (with_subcommand (with_subcommand
     (with_subcommand (with_subcommand (with_subcommand (with_subcommand bare_app
-    (check_app platforms lints).top) (explain_app platforms).top) (list_app platforms).top)
+    (check_app platforms lints levels).top) (explain_app platforms).top) (list_app platforms).top)
     (context_app platforms).top) (palette_app platforms).top) handlers_app.top) assemble_app.top)
     disassemble_app.top
 
@@ -120,13 +139,16 @@ Matched app words r = MatchResult r
     (λ m. (fault_of app words ≡ []) × (subcommand_rows_of m ≡ subcommand_of app words))
     (λ e. HasKind (fault_of app words) e × (takes app words ≡ true → kind_of e ≡ OutOfMemory))
 
--- the same of the program's command, wherever the names of the platforms and of the lints stand
+-- the same of the program's command, wherever the names of the platforms, of the lints and of the severities
+-- stand
 pub record IsMatched (words : List Text) (r : Result ArgMatches Error) : Type 0 where
   pub platforms : Bor (List (Bor Text))
   pub are_platforms : NamesPlatforms platforms
   pub lints : Bor (List (Bor Text))
   pub are_lints : NamesLints lints
-  pub by_clap : Matched (keycheck_app platforms lints) words r
+  pub levels : Bor (List (Bor Text))
+  pub are_levels : NamesLevels levels
+  pub by_clap : Matched (keycheck_app platforms lints levels) words r
 
 -- the names of the commands
 abbrev pub subcommand_name : Subcommand → Text
@@ -156,6 +178,18 @@ pub record IsForm (rows : List Row) (written : Form) : Type 0 where
 pub record IsGiven (rows : List Row) (given : Given) : Type 0 where
   pub options : Gives rows given.options
   pub written : IsForm rows given.form
+
+-- the level of the name that the option gives, or warnings if it is not given
+abbrev pub level_given : Option Text → Severity
+level_given name = unwrap_or (option_and_then severity_named name) Warning
+
+-- what the arguments of `check` look for, and what they show
+pub record AreWishes (rows : List Row) (wishes : Wishes) : Type 0 where
+  pub allowed : map (λ name. name.now) wishes.allowed.items ≡ unwrap_or (all_of (codes "allow") rows) []
+  pub asked : map (λ name. name.now) wishes.asked.items ≡ unwrap_or (all_of (codes "warn") rows) []
+  pub only : map (λ name. name.now) wishes.only.items ≡ unwrap_or (all_of (codes "only") rows) []
+  pub level : wishes.level ≡ level_given (first_of (codes "level") rows)
+  pub commands : option_map (λ s. s.now) wishes.commands ≡ first_of (codes "commands") rows
 
 -- the path of the file to translate
 abbrev pub path_in : List Row → Text

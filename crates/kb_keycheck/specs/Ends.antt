@@ -25,13 +25,13 @@ use Rattle.kb_handler_report.specs.declared.stop.Stop as handlers_end
 use Rattle.kb_handler_report.specs.declared.stop.Stop.TheVariants as handlers_variants
 use Rattle.kb_keys.specs.Chord.{Strokes, chord_of}
 use Rattle.kb_disk.specs.declared.options.Options.{Options}
-use Rattle.kb_disk.specs.LoadFiles.{FailsReadingFiles, HasFiles}
+use Rattle.kb_disk.specs.LoadFiles.{FailsAt, FailsReadingFiles, HasFiles, HasRules}
 use Rattle.kb_report.specs.declared.output.Stop as report
 use Rattle.kb_report.specs.declared.output.Stop.TheVariants as report_stops
 use Rattle.kb_run.specs.Run.{FailsOpeningScript, HasLoadFault}
 use Rattle.kb_run.specs.declared.setup.Verification.TheVariants.{Verified}
 use Rattle.kb_session.specs.Session.{IsOf, Seen}
-use Rattle.kb_keycheck.specs.CommandLine.{IsAsked, IsGiven, IsMatched, path_in, subcommand_named}
+use Rattle.kb_keycheck.specs.CommandLine.{AreWishes, IsAsked, IsGiven, IsMatched, path_in, subcommand_named}
 use Rattle.kb_keycheck.specs.Translating.{EndsTranslating}
 use Rattle.kb_keycheck.specs.declared.ending.Stop.{Stop}
 use Rattle.kb_keycheck.specs.declared.ending.Stop.TheVariants.{Keys, Run, NotWritten}
@@ -42,6 +42,7 @@ use Rattle.kb_keycheck.specs.declared.request.Question.TheVariants as question
 use Rattle.kb_keycheck.specs.declared.request.Subcommand.{Subcommand}
 use Rattle.kb_keycheck.specs.declared.request.Subcommand.TheVariants as command
 use Rattle.kb_keycheck.specs.declared.request.Topic.{Topic}
+use Rattle.kb_keycheck.specs.declared.request.Wishes.{Wishes}
 
 -- ---- statuses
 
@@ -53,7 +54,7 @@ stop_status (Run (run.Script fault)) = 4
 stop_status (Run run.NoMemory) = 4
 stop_status NotWritten = 4
 
--- the status of a check, by whether it found no problem
+-- the status of a check, by whether it showed no problem
 abbrev pub check_status : Result Bool Stop → ℕ
 check_status (Ok true) = 0
 check_status (Ok false) = 1
@@ -82,28 +83,31 @@ pub record AreRead (held : List ℕ → Held) (given : Options) : Type 0 where
   pub had : HasFiles held given files
 
 -- why a check stopped: a load that is refused is no reason
-abbrev pub StopsChecking : (List ℕ → Held) → Options → Stop → Type 0
-StopsChecking held given (Keys fault) = ⊥
-StopsChecking held given (Run (run.Unread file)) = FailsReadingFiles held given (Fault file)
-StopsChecking held given (Run (run.Load fault)) = ⊥
-StopsChecking held given (Run (run.Script fault)) = ⊥
-StopsChecking held given (Run run.NoMemory) = ⊤
-StopsChecking held given NotWritten = AreRead held given
+abbrev pub StopsChecking : (List ℕ → Held) → Options → Wishes → Stop → Type 0
+StopsChecking held given wishes (Keys fault) = ⊥
+StopsChecking held given wishes (Run (run.Unread file)) =
+    FailsReadingFiles held given (Fault file) ⊎ FailsAt held wishes.commands (Fault file)
+StopsChecking held given wishes (Run (run.Load fault)) = ⊥
+StopsChecking held given wishes (Run (run.Script fault)) = ⊥
+StopsChecking held given wishes (Run run.NoMemory) = ⊤
+StopsChecking held given wishes NotWritten = AreRead held given
 
 -- all files were read, and the load's own answer for them, with each lint that isn't silenced or is asked
--- for, has no problem exactly if the check says so
-pub record AreChecked (held : List ℕ → Held) (given : Options) (allowed asked : List Text) (clean : Bool)
-    : Type 0 where
+-- for, has no problem that is shown exactly if the check says so
+pub record AreChecked (held : List ℕ → Held) (given : Options) (wishes : Wishes) (clean : Bool) : Type 0 where
   pub files : Files
   pub had : HasFiles held given files
   pub choices : Choices
-  pub allowed_are : map (λ name. name.now) choices.allowed.now ≡ allowed
-  pub asked_are : map (λ name. name.now) choices.asked.now ≡ asked
+  pub allowed : choices.allowed.now ≡ wishes.allowed.items
+  pub asked : choices.asked.now ≡ wishes.asked.items
+  pub only : choices.only.now ≡ wishes.only.items
+  pub level : choices.level ≡ wishes.level
+  pub commands : HasRules held wishes.commands choices.commands.now
   pub checks : checking.Checks files choices clean
 
-abbrev pub EndsChecking : (List ℕ → Held) → Options → List Text → List Text → Result Bool Stop → Type 0
-EndsChecking held given allowed asked (Ok clean) = AreChecked held given allowed asked clean
-EndsChecking held given allowed asked (Err stop) = StopsChecking held given stop
+abbrev pub EndsChecking : (List ℕ → Held) → Options → Wishes → Result Bool Stop → Type 0
+EndsChecking held given wishes (Ok clean) = AreChecked held given wishes clean
+EndsChecking held given wishes (Err stop) = StopsChecking held given wishes stop
 
 -- ---- an answer
 
@@ -152,12 +156,13 @@ EndsAnswering held given asked (Err stop) = StopsAnswering held given asked stop
 
 -- ---- a command
 
--- the files that the arguments name are checked
+-- the files that the arguments name are checked for what they ask for
 pub record ChecksGiven (held : List ℕ → Held) (rows : List Row) (end : Result Bool Stop) : Type 0 where
   pub given : Given
   pub is_given : IsGiven rows given
-  pub ends : EndsChecking held given.options (unwrap_or (all_of (codes "allow") rows) [])
-      (unwrap_or (all_of (codes "warn") rows) []) end
+  pub wishes : Wishes
+  pub are_wishes : AreWishes rows wishes
+  pub ends : EndsChecking held given.options wishes end
 
 -- the same, or memory was refused before
 abbrev pub ChecksBy : (List ℕ → Held) → List Row → Result Bool Stop → Type 0

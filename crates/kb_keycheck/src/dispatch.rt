@@ -12,9 +12,9 @@ use crate::mistakes::Mistakes;
 use crate::reason::unread_reason;
 use crate::request::{
     Direction, Subcommand, Topic, form_asked, given_in, path_asked, question_in, subcommand_named,
+    wishes_in,
 };
-use crate::translating::{translate, translation_status};
-use clap::ArgMatches;
+use crate::translating::{translate, translation_statususe clap::ArgMatches;
 use kb_base::Text;
 use kb_cli::all_texts;
 use kb_disk::{FileSource, SystemFiles};
@@ -36,10 +36,8 @@ fn check<'a, F: FileSource, W: Write + Drop>(
     ensures { ChecksBy (F.held files.now) (rows_of (found_of matches.now)) result }
 {
     let given = given_in(alloc, matches)?;
-    let allowed = all_texts(alloc, matches, "allow")?;
-    let asked = all_texts(alloc, matches, "warn")?;
-    let (allowed, asked) = (allowed.as_slice(), asked.as_slice());
-    check_files(alloc, &given, allowed, asked, files, out)
+    let wishes = wishes_in(alloc, matches)?;
+    check_files(alloc, &given, &wishes, files, out)
 }
 
 /// Answers a question, and returns how that ended.

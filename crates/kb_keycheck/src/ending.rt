@@ -114,7 +114,7 @@ pub(crate) fn stop_status(stop: &Stop<'_>) -> u8
     }
 }
 
-/// The exit status of a check (our decision): 0 if it found no problem, 1 if it found one, and that of the
+/// The exit status of a check (our decision): 0 if it showed no problem, 1 if it showed one, and that of the
 /// stop if it stopped.
 pub(crate) fn check_status(end: &Result<bool, Stop<'_>>) -> u8
     ensures { result ≡ ends.check_status end.now }

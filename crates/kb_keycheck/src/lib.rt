@@ -3,6 +3,7 @@
 #![tactic(auto)]
 
 pub mod checking;
+pub mod commands_file;
 pub mod dispatch;
 pub mod ending;
 pub mod explaining;

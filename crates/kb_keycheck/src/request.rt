@@ -1,12 +1,14 @@
 //! What a command line asks for.
-ghost use Rattle.std.specs.Prelude.{◌≡◌, [], IfOk, unwrap_or};
+ghost use Rattle.std.specs.Prelude.{◌≡◌, [], IfOk, option_map, unwrap_or};
 ghost use Rattle.clap.specs.Words.{first_of, found_of, rows_of};
-ghost use Rattle.kb_keycheck.specs.CommandLine.{IsAsked, IsForm, IsGiven, path_in, subcommand_named};
+ghost use Rattle.kb_keycheck.specs.CommandLine.{AreWishes, IsAsked, IsForm, IsGiven, level_given};
+ghost use Rattle.kb_keycheck.specs.CommandLine.{path_in, subcommand_named};
 
 use clap::ArgMatches;
 use kb_base::NoMemory;
-use kb_cli::{options_in, text_given};
+use kb_cli::{all_texts, options_in, text_given};
 use kb_disk::Options;
+use kb_problems::Severity;
 use kb_report::Form;
 use std::alloc::Global;
 
@@ -67,6 +69,21 @@ pub struct Given<'m> {
     pub form: Form,
 }
 
+/// What `check` looks for, and what it shows.
+#[derive(Drop)]
+pub struct Wishes<'m> {
+    /// The names of lints that are silenced.
+    pub allowed: Vec<&'m str>,
+    /// The names of lints that are asked for, though they are off by default.
+    pub asked: Vec<&'m str>,
+    /// Names of the files whose problems are shown.
+    pub only: Vec<&'m str>,
+    /// Problems of this severity and of worse ones are shown.
+    pub level: Severity,
+    /// The file that lists commands that are known besides.
+    pub commands: Option<&'m str>,
+}
+
 /// The command of this name.
 pub(crate) fn subcommand_named(name: &str) -> Option<Subcommand>
     ensures { result ≡ subcommand_named name.now }
@@ -118,6 +135,31 @@ pub(crate) fn given_in<'a>(alloc: Global, matches: &ArgMatches<'a>) -> Result<Gi
     Ok(Given {
         options: options_in(alloc, matches)?,
         form: form_asked(matches),
+    })
+}
+
+/// The level of this name, or warnings. `clap` refuses every other name.
+fn level_of(name: Option<&str>) -> Severity
+    ensures { result ≡ level_given (option_map (λ s. s.now) name.entry) }
+{
+    match name {
+        Some(name) => Severity::named(name).unwrap_or(Severity::Warning),
+        None => Severity::Warning,
+    }
+}
+
+/// What the matches of `check` look for, and what they show.
+///
+/// Errors: `NoMemory` from the lists of names.
+pub(crate) fn wishes_in<'a>(alloc: Global, matches: &ArgMatches<'a>) -> Result<Wishes<'a>, NoMemory>
+    ensures { IfOk result (AreWishes (rows_of (found_of matches.now))) }
+{
+    Ok(Wishes {
+        allowed: all_texts(alloc, matches, "allow")?,
+        asked: all_texts(alloc, matches, "warn")?,
+        only: all_texts(alloc, matches, "only")?,
+        level: level_of(text_given(matches, "level")),
+        commands: text_given(matches, "commands"),
     })
 }
 

@@ -2,10 +2,11 @@
 ghost use Rattle.std.specs.Prelude.{◌≡◌, false, IfOk, codes, map};
 ghost use Rattle.clap.specs.Words.{App, Rule, kind_of, new_app, rule_of, with_rule, with_subcommand};
 ghost use Rattle.kb_cli.specs.CommandLine.{NamesPlatforms};
-ghost use Rattle.kb_keycheck.specs.CommandLine.{IsCommand, IsMatched, Matched, NamesLints};
+ghost use Rattle.kb_keycheck.specs.CommandLine.{IsCommand, IsMatched, Matched, NamesLevels, NamesLints};
 ghost use Rattle.kb_keycheck.specs.CommandLine.{assemble_app, bare_app, check_app, context_app};
 ghost use Rattle.kb_keycheck.specs.CommandLine.{disassemble_app};
 ghost use Rattle.kb_keycheck.specs.CommandLine.{explain_app, handlers_app, json_rule, keycheck_app};
+ghost use Rattle.kb_keycheck.specs.CommandLine.{level_rule, only_rule};
 ghost use Rattle.kb_keycheck.specs.CommandLine.{lints_rule, list_app, palette_app, some_dirs_rule};
 ghost use Rattle.kb_keycheck.specs.CommandLine.{with_files, with_script, word_rule};
 
@@ -13,7 +14,7 @@ use clap::error::ErrorKind;
 use clap::{Arg, ArgAction, ArgMatches, Command, Error};
 use kb_base::NoMemory;
 use kb_cli::{VERSION, dirs_argument, file_option, platform_names, platform_option, valued_option};
-use kb_problems::LINT_NAMES;
+use kb_problems::{LINT_NAMES, SEVERITY_NAMES};
 use std::alloc::Global;
 
 /// The names of the lints.
@@ -21,6 +22,13 @@ fn lint_names<'a>() -> &'a [&'a str]
     ensures { NamesLints result }
 {
     LINT_NAMES.as_slice()
+}
+
+/// The names of the severities.
+fn level_names<'a>() -> &'a [&'a str]
+    ensures { NamesLevels result }
+{
+    SEVERITY_NAMES.as_slice()
 }
 
 /// The option `--json`.
@@ -42,6 +50,28 @@ fn lints_option<'a>(alloc: Global, name: &'a str, lints: &'a [&'a str], help: &'
     valued_option(alloc, name, "NAME", help)
         .value_parser(lints)
         .action(ArgAction::Append)
+}
+
+/// The option `--only NAME`, any number of times.
+fn only_option<'a>(alloc: Global) -> Arg<'a>
+    ensures rule { rule_of result ≡ only_rule }
+    ensures local { result.global ≡ false }
+{
+    let help =
+        "Only problems of this: user, defaults, layout, extensions, all, an extension, or a path";
+    valued_option(alloc, "only", "NAME", help).action(ArgAction::Append)
+}
+
+/// The option `--level LEVEL`, where LEVEL is one of these names.
+fn level_option<'a>(alloc: Global, levels: &'a [&'a str]) -> Arg<'a>
+    ensures rule { rule_of result ≡ level_rule levels.entry }
+    ensures local { result.global ≡ false }
+{
+    Arg::new(alloc, "level")
+        .long("level")
+        .value_name("LEVEL")
+        .value_parser(levels)
+        .help("Show problems that are this bad or worse [default: warning]")
 }
 
 /// A word that must be there.
@@ -135,8 +165,10 @@ fn check<'a>(
     alloc: Global,
     platforms: &'a [&'a str],
     lints: &'a [&'a str],
+    levels: &'a [&'a str],
 ) -> Result<Command<'a>, NoMemory>
-    ensures { IfOk result (λ made. IsCommand (check_app platforms.entry lints.entry) made) }
+    ensures { IfOk result (λ made.
+        IsCommand (check_app platforms.entry lints.entry levels.entry) made) }
 {
     let command = command(
         alloc,
@@ -150,7 +182,13 @@ fn check<'a>(
         lints,
         "Look for this lint too, though it is off by default",
     );
-    with_files(alloc, with(with(command, allow)?, warn)?, platforms)
+    let commands = file_option(alloc, "commands", "Commands that are known, one a line");
+    let command = with(
+        with(command, only_option(alloc))?,
+        level_option(alloc, levels),
+    )?;
+    let command = with(with(command, allow)?, warn)?;
+    with_files(alloc, with(command, commands)?, platforms)
 }
 
 /// `explain`.
@@ -287,15 +325,17 @@ fn with_subcommand<'a>(
     command.subcommand(subcommand)
 }
 
-/// The command of the program, with the names of the platforms and of the lints.
+/// The command of the program, with the names of the platforms, of the lints and of the severities.
 fn command_of<'a>(
     alloc: Global,
     platforms: &'a [&'a str],
     lints: &'a [&'a str],
+    levels: &'a [&'a str],
 ) -> Result<Command<'a>, NoMemory>
-    ensures { IfOk result (λ made. IsCommand (keycheck_app platforms.entry lints.entry) made) }
+    ensures { IfOk result (λ made.
+        IsCommand (keycheck_app platforms.entry lints.entry levels.entry) made) }
 {
-    let command = with_subcommand(bare(alloc)?, check(alloc, platforms, lints)?)?;
+    let command = with_subcommand(bare(alloc)?, check(alloc, platforms, lints, levels)?)?;
     let command = with_subcommand(command, explain(alloc, platforms)?)?;
     let command = with_subcommand(command, list(alloc, platforms)?)?;
     let command = with_subcommand(command, context(alloc, platforms)?)?;
@@ -311,11 +351,13 @@ fn matched_by<'a>(
     alloc: Global,
     platforms: &'a [&'a str],
     lints: &'a [&'a str],
+    levels: &'a [&'a str],
     words: &'a [&'a str],
 ) -> Result<ArgMatches<'a>, Error>
-    ensures { Matched (keycheck_app platforms.entry lints.entry) (map (λ w. w.now) words.now) result }
+    ensures { Matched (keycheck_app platforms.entry lints.entry levels.entry)
+        (map (λ w. w.now) words.now) result }
 {
-    command_of(alloc, platforms, lints)?.try_get_matches_from(words)
+    command_of(alloc, platforms, lints, levels)?.try_get_matches_from(words)
 }
 
 /// Matches the words of a command line, of which the first is the program's name. The contract gives them the
@@ -323,14 +365,14 @@ fn matched_by<'a>(
 pub(crate) fn matched<'a>(alloc: Global, words: &'a [&'a str]) -> Result<ArgMatches<'a>, Error>
     ensures { IsMatched (map (λ w. w.now) words.now) result }
 {
-    matched_by(alloc, platform_names(), lint_names(), words)
+    matched_by(alloc, platform_names(), lint_names(), level_names(), words)
 }
 
 /// The error of a command line with a word that is no UTF-8 text.
 pub(crate) fn not_text<'a>(alloc: Global) -> Result<Error, NoMemory>
     ensures { IfOk result (λ made. kind_of made ≡ ErrorKind.InvalidValue) }
 {
-    command_of(alloc, platform_names(), lint_names())?.error(
+    command_of(alloc, platform_names(), lint_names(), level_names())?.error(
         ErrorKind::InvalidValue,
         "a word of the command line is no UTF-8 text",
     )

@@ -8,6 +8,7 @@ use Rattle.kb_problems.specs.declared.choices.Choices.{Choices}
 
 abbrev pub lint_name : Lint → List ℕ
 lint_name lint.UnknownCommand = codes "unknown-command"
+lint_name lint.MisspelledCommand = codes "misspelled-command"
 lint_name lint.WrongArguments = codes "wrong-arguments"
 lint_name lint.IdleRemoval = codes "idle-removal"
 lint_name lint.NeverStarts = codes "never-starts"

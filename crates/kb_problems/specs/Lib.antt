@@ -1,5 +1,6 @@
 pub mod Choices
 pub mod Cause
+pub mod Severity
 pub mod Faulty
 pub mod Near
 pub mod Starts

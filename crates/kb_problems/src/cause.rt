@@ -2,15 +2,19 @@
 ghost use Rattle.std.specs.Prelude.{◌≡◌};
 ghost use Rattle.kb_problems.specs.Cause.{cause_name, kind_of, fault_of};
 ghost use Rattle.kb_problems.specs.Choices.{is_off, lint_name};
+ghost use Rattle.kb_problems.specs.Severity.{severity_of, severity_of_lint};
 
+use crate::severity::{Severity, severity_in};
 use kb_base::{FaultKind, Warning};
 use kb_files::LoadFile;
 
 /// A mistake that a load passes in silence.
 #[derive(Clone, Copy, Debug, PartialEq, Eq)]
 pub enum Lint {
-    /// A command that no extension contributes, and that is no native command.
+    /// A command that is not known, and next to no known one.
     UnknownCommand,
+    /// A command that is not known, next to a known one.
+    MisspelledCommand,
     /// Arguments that the command's parameters don't take.
     WrongArguments,
     /// A removal that takes no rule.
@@ -34,8 +38,9 @@ pub enum Lint {
 }
 
 /// The names of all lints.
-pub const LINT_NAMES: [&str; 11] = [
+pub const LINT_NAMES: [&str; 12] = [
     "unknown-command",
+    "misspelled-command",
     "wrong-arguments",
     "idle-removal",
     "never-starts",
@@ -55,6 +60,7 @@ impl Lint {
     {
         match self {
             Lint::UnknownCommand => "unknown-command",
+            Lint::MisspelledCommand => "misspelled-command",
             Lint::WrongArguments => "wrong-arguments",
             Lint::IdleRemoval => "idle-removal",
             Lint::NeverStarts => "never-starts",
@@ -73,6 +79,16 @@ impl Lint {
         ensures { result ≡ is_off self }
     {
         matches!(self, Lint::UnknownContextKey)
+    }
+
+    /// How bad a problem of the lint is.
+    pub fn severity(self) -> Severity
+        ensures { result ≡ severity_of_lint self }
+    {
+        match self {
+            Lint::UnknownCommand | Lint::Overridden => Severity::Note,
+            _ => Severity::Warning,
+        }
     }
 }
 
@@ -118,6 +134,17 @@ impl Cause {
             Cause::Refused(_, _) => "refused",
             Cause::Warned(_) => "warning",
             Cause::Linted(_) => "lint",
+        }
+    }
+
+    /// How bad a problem of this cause is.
+    pub fn severity(self) -> Severity
+        ensures { result ≡ severity_of self }
+    {
+        match self {
+            Cause::Refused(_, _) => Severity::Error,
+            Cause::Warned(warning) => severity_in(warning.part, warning.kind),
+            Cause::Linted(lint) => lint.severity(),
         }
     }
 }

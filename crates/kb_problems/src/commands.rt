@@ -16,13 +16,13 @@ use std::collections::HashMap;
 /// The command that runs a list of commands.
 pub const LIST_COMMAND: &str = "runCommands";
 
-/// The most unknown commands for which a name next to theirs is looked for.
-const GUESS_LIMIT: u32 = 100;
+/// The most names that are compared to find one next to an unknown command.
+const GUESS_LIMIT: usize = 2_000_000;
 
 /// What a name is that is taken.
 #[derive(Clone, Copy, Debug, PartialEq, Eq)]
 enum Known {
-    /// A native command, or one that an extension contributes.
+    /// A native command, one that an extension contributes, or one that is said to be known.
     Command,
     /// The handler at a place in the list of an extension.
     Handler(usize, usize),
@@ -31,12 +31,13 @@ enum Known {
 /// The names that are taken.
 type TakenNames = HashMap<String, Known>;
 
-/// The native commands, the handlers and the commands that extensions contribute.
+/// The native commands, the handlers, the commands that extensions contribute, and those that are said to be
+/// known.
 #[derive(Drop)]
 pub struct KnownCommands {
     names: TakenNames,
     handlers: Vec<Seq<Handler>>,
-    guesses: u32,
+    compared: usize,
 }
 
 /// The handlers of a file that a load accepts, or none where there is no file.
@@ -103,7 +104,15 @@ fn native_names(alloc: Global) -> Result<TakenNames, NoMemory> {
     Ok(names)
 }
 
-/// Adds the commands that an extension contributes, unless handlers have their names.
+/// Adds a command, unless a handler has its name.
+fn add_name(alloc: Global, name: &str, names: &mut TakenNames) -> Result<(), NoMemory> {
+    names
+        .entry(String::from_str(alloc, name)?)?
+        .or_insert(Known::Command);
+    Ok(())
+}
+
+/// Adds the commands that an extension contributes.
 fn add_contributed(
     alloc: Global,
     extension: &Extension,
@@ -112,9 +121,7 @@ fn add_contributed(
     let commands = &extension.manifest.commands;
     for number in 0..commands.len() {
         if let Some((name, _)) = commands.at(number) {
-            names
-                .entry(String::from_str(alloc, name)?)?
-                .or_insert(Known::Command);
+            add_name(alloc, name, names)?;
         }
     }
     Ok(())
@@ -139,7 +146,7 @@ impl KnownCommands {
         Ok(KnownCommands {
             names,
             handlers,
-            guesses: 0,
+            compared: 0,
         })
     }
 
@@ -149,6 +156,11 @@ impl KnownCommands {
             add_contributed(alloc, extension, &mut self.names)?;
         }
         Ok(())
+    }
+
+    /// Adds a command that is said to be known. A handler stays what it is. Error: `NoMemory`.
+    pub fn know(&mut self, alloc: Global, command: &str) -> Result<(), NoMemory> {
+        add_name(alloc, command, &mut self.names)
     }
 
     /// Whether a command takes these arguments. A command that nobody has takes any. Error: `NoMemory`.
@@ -183,21 +195,27 @@ impl KnownCommands {
         self.names.contains_key(command)
     }
 
-    /// A known command one edit from an unknown one.
+    /// A known command next to an unknown one: one edit from it, or the same but for the case of letters.
+    /// None is looked for once so many names have been compared that a check would take too long.
     pub fn near(&mut self, command: &str) -> Option<&str> {
-        if self.guesses >= GUESS_LIMIT {
+        if self.compared >= GUESS_LIMIT {
             return None;
         }
-        self.guesses += 1;
+        self.compared = self.compared.saturating_add(self.names.len());
         near_in(&self.names, command)
     }
 }
 
-/// The first of the names, in the order of their bytes, that is one edit from another one.
+/// Whether a name is one edit from another one, or the same but for the case of ASCII letters.
+fn is_meant(name: &str, command: &str) -> bool {
+    is_near(command, name) || name.eq_ignore_ascii_case(command)
+}
+
+/// The first of the names, in the order of their bytes, that is next to another one.
 fn near_in<'n>(names: &'n TakenNames, command: &str) -> Option<&'n str> {
     let mut found: Option<&str> = None;
     for (name, _) in names {
-        if is_near(command, name.as_str()) && is_before(name.as_str(), found) {
+        if is_meant(name.as_str(), command) && is_before(name.as_str(), found) {
             found = Some(name.as_str());
         }
     }

@@ -22,6 +22,7 @@ pub mod near;
 pub mod opened;
 pub mod problem;
 pub mod refusal;
+pub mod severity;
 pub mod warnings;
 
 pub use cause::{Cause, LINT_NAMES, Lint};
@@ -33,4 +34,5 @@ pub use near::is_near;
 pub use opened::{Opened, OpenedFiles, open_all};
 pub use problem::{Problem, linted, push_other};
 pub use refusal::refused;
+pub use severity::{SEVERITY_NAMES, Severity};
 pub use warnings::warned;

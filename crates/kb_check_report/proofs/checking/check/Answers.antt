@@ -1,5 +1,4 @@
-use Rattle.std.proofs.Common.{rules, ◌≡◌, refl}
-use Rattle.std.specs.Prelude.{is_none, slice_get}
+use Rattle.std.proofs.Common.{refl}
 use Rattle.kb_check.specs.Problems.{files_in}
 use Rattle.kb_check_report.proofs.CheckingLemmas.{checked}
 use Rattle.kb_check_report.proofs.checking.check.Goals as goal
@@ -7,7 +6,7 @@ use Rattle.kb_check_report.proofs.checking.check.Goals as goal
 pub returns-in-Ok : goal.returns-in-Ok
 returns-in-Ok g c =
     let sources = c.args.files.now in
-    let problems = c.in_ok-problems.problems.items in
-    let clean : c.are_none.result ≡ is_none (slice_get problems 0) = search rules in
-    checked sources (files_in sources) c.args.choices.now problems c.are_none.result refl
-    c.in_ok-problems.ensures.tells c.in_ok-problems.ensures.wanted clean
+    let found = c.in_ok-found.found in
+    checked sources (files_in sources) c.args.choices.now found.ids.items found.problems.items
+    c.in_ok-marks.marks.items c.is_any_shown.result refl c.in_ok-found.ensures.tells c.in_ok-found.ensures.wanted
+    c.in_ok-marks.ensures c.is_any_shown.ensures
