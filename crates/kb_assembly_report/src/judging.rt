@@ -96,6 +96,7 @@ fn is_settled(
 }
 
 /// The same of several handlers.
+#[tactic(auto, using(crate::proofs::JudgingLemmas::none_settled))]
 fn are_settled(
     alloc: Global,
     callable: &Callable,

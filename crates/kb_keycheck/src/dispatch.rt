@@ -14,7 +14,8 @@ use crate::request::{
     Direction, Subcommand, Topic, form_asked, given_in, path_asked, question_in, subcommand_named,
     wishes_in,
 };
-use crate::translating::{translate, translation_statususe clap::ArgMatches;
+use crate::translating::{translate, translation_status};
+use clap::ArgMatches;
 use kb_base::Text;
 use kb_cli::all_texts;
 use kb_disk::{FileSource, SystemFiles};
