@@ -1,2 +1,6 @@
+pub mod DepthLemmas
+pub mod JsonLemmas
 pub mod JudgingLemmas
+pub mod LowerLemmas
+pub mod RaisingLemmas
 pub mod TranslatingLemmas

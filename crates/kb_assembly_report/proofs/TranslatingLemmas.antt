@@ -1,5 +1,6 @@
 -- What is given is what the text or the file says.
-use Rattle.std.proofs.Common.{◌≡◌, ◌≤◌, ◌∙◌, ℕ, Bool, true, List, inl, inr, length, map, sym, ap}
+use Rattle.std.proofs.Common.{◌≡◌, ◌≤◌, ◌<◌, ◌∙◌, ℕ, suc, Bool, true, false, List, [], ◌∷◌, ◌++◌, length, map, refl, sym}
+use Rattle.std.proofs.Common.{ap, subst, append-nil, arith}
 use Rattle.std.specs.Prelude.{Result, Ok, Err}
 use Rattle.kb_assembly.specs.declared.draft.Draft.{Draft}
 use Rattle.kb_assembly.specs.declared.file.FileFault.{FileFault}
@@ -11,22 +12,26 @@ use Rattle.kb_files.specs.HandlerFile.{handlers_in}
 use Rattle.kb_jsonc.specs.Reader.{without_mark}
 use Rattle.kb_assembly_report.specs.Judging.{IsFileOf}
 use Rattle.kb_assembly_report.specs.Json.{file_json}
-use Rattle.kb_assembly_report.specs.Translating.{Assembles, Disassembles, IsRefused, are_faults}
+use Rattle.kb_core.specs.Declaration.{Declaration}
+use Rattle.kb_verify.specs.Callable.{Commands}
+use Rattle.kb_assembly_report.specs.Choice.{EachNext, IsSmallest, NoChoice, commands_of, handlers_with}
+use Rattle.kb_assembly_report.specs.Translating.{AreEntries, Assembles, Disassembles, IsRefused, are_faults}
+use Rattle.kb_assembly_report.specs.Translating.{mistaken, unsuited, unwritten}
 use Rattle.kb_assembly_report.specs.declared.assembling.Translation.{Translation}
 use Rattle.kb_assembly_report.specs.declared.assembling.Translation.TheVariants.{File, Faults}
 use Rattle.kb_assembly_report.specs.declared.entry.Entry.{Entry}
 
 -- ---- assembling
 
-pub file_written : (bytes file : List ℕ) (drafts : List Draft) (entries : List Entry) (yes : Bool)
-    → assemble (without_mark bytes) ≡ Ok drafts → file ≡ file_json entries → length file ≤ 16777216
-    → (yes ≡ true → IsFileOf drafts file) → yes ≡ true → Assembles bytes (File file)
-file_written bytes file drafts entries yes read form small right is = record {
+pub file_written : (bytes file : List ℕ) (drafts : List Draft) (declared : List Declaration)
+    (entries : List Entry) → assemble (without_mark bytes) ≡ Ok drafts → IsSmallest drafts declared
+    → AreEntries drafts declared entries → file ≡ file_json entries → length file ≤ 16777216
+    → IsFileOf drafts file → Assembles bytes (File file)
+file_written bytes file drafts declared entries read smallest filled form small right = record {
   drafts = drafts;
   read = read;
-  file = right is;
-  entries = entries;
-  form = form;
+  form = record { declared = declared; smallest = smallest; entries = entries; filled = filled; form = form };
+  file = right;
   small = small;
 }
 
@@ -34,21 +39,53 @@ refused : (bytes : List ℕ) (made : Translation) → IsRefused bytes → are_fa
 refused bytes (File file) is are = absurd are
 refused bytes (Faults faults) is are = is
 
-pub none_written : (bytes : List ℕ) (drafts : List Draft) (made : Translation)
-    → assemble (without_mark bytes) ≡ Ok drafts → are_faults made → Assembles bytes made
-none_written bytes drafts made read are = refused bytes made (inr (drafts, read)) are
+pub none_written : (bytes file : List ℕ) (drafts : List Draft) (declared : List Declaration)
+    (entries : List Entry) (test : Bool) (made : Translation) → assemble (without_mark bytes) ≡ Ok drafts
+    → IsSmallest drafts declared → AreEntries drafts declared entries → file ≡ file_json entries
+    → (length file ≤ 16777216 → IsFileOf drafts file → test ≡ true) → test ≡ false → are_faults made
+    → Assembles bytes made
+none_written bytes file drafts declared entries test made read smallest filled form all fails are =
+    refused bytes made (unwritten drafts read (record {
+      text = file;
+      form = record { declared = declared; smallest = smallest; entries = entries; filled = filled; form = form };
+      never = λ small right. let passes = all small right in cc;
+    })) are
+
+pub none_suits : (bytes : List ℕ) (drafts : List Draft) (made : Translation)
+    → assemble (without_mark bytes) ≡ Ok drafts → NoChoice drafts → are_faults made → Assembles bytes made
+none_suits bytes drafts made read none are = refused bytes made (unsuited drafts read none) are
 
 pub not_read : (bytes : List ℕ) (fault : FileFault) (made : Translation)
     → assemble (without_mark bytes) ≡ Err fault → are_faults made → Assembles bytes made
-not_read bytes fault made fails are = refused bytes made (inl (fault, fails)) are
+not_read bytes fault made fails are = refused bytes made (mistaken fault fails) are
 
-pub ruleset assembling = (file_written, none_written, not_read)
+-- ---- the handlers of a file
+
+same_count : (commands : Commands) (drafts : List Draft) (ds : List Declaration) → EachNext commands drafts ds
+    → length drafts ≡ length ds
+same_count commands [] [] each = refl
+same_count commands [] (d ∷ ds) each = absurd each
+same_count commands (g ∷ drafts) [] each = absurd each
+same_count commands (g ∷ drafts) (d ∷ ds) each = ap (λ n. suc n) (same_count commands drafts ds each.1)
+
+pub smallest_count : (drafts : List Draft) (ds : List Declaration) → IsSmallest drafts ds
+    → length drafts ≡ length ds
+smallest_count drafts ds smallest = same_count (commands_of (handlers_with drafts ds)) drafts ds smallest
+
+pub ruleset assembling = (file_written, none_written, none_suits, not_read, smallest_count)
+
+pub all_filled : (drafts left : List Draft) (ds others : List Declaration) (made : List Entry)
+    → ((es : List Entry) → AreEntries left others es → AreEntries drafts ds (made ++ es))
+    → length left ≡ length others → length left < 1 → AreEntries drafts ds made
+all_filled drafts [] ds [] made fills same short = subst (AreEntries drafts ds) (append-nil made) (fills [] tt)
+all_filled drafts [] ds (d ∷ others) made fills same short = absurd (omega arith)
+all_filled drafts (g ∷ left) ds others made fills same short = absurd (omega arith)
 
 -- ---- disassembling
 
-pub own_form : (text form own : List ℕ) (yes : Bool) → assemble own ≡ assemble text
-    → (yes ≡ true → own ≡ form) → yes ≡ true → assemble form ≡ assemble text
-own_form text form own yes same equal is = ap assemble (sym (equal is)) ∙ same
+pub own_form : (text form own : List ℕ) (test : Bool) → assemble own ≡ assemble text
+    → (test ≡ true → own ≡ form) → test ≡ true → assemble form ≡ assemble text
+own_form text form own test same equal is = ap assemble (sym (equal is)) ∙ same
 
 pub text_given : (bytes text : List ℕ) (hs : List HandlerData) → handlers_in bytes ≡ Ok hs
     → assemble text ≡ Ok (map handler_draft hs) → Disassembles bytes (File text)

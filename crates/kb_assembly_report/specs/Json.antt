@@ -25,7 +25,7 @@ abbrev pub joined : {A : Type 0} → (A → List ℕ) → List A → List ℕ
 joined text [] = []
 joined text (x ∷ xs) = text x ++ (comma xs ++ joined text xs)
 
-abbrev pub param_json : Param → List ℕ
+unfoldable pub param_json : Param → List ℕ
 param_json param = codes "{ \"name\": " ++ (json_string param.name ++ (codes ", \"kind\": "
     ++ (json_string (kind_name param.kind) ++ codes " }")))
 
@@ -34,34 +34,37 @@ abbrev pub member : List ℕ → List ℕ → List ℕ
 member name value = codes "            \"" ++ (name ++ (codes "\": " ++ value))
 
 -- a member with a list, which is left out if it is empty
-abbrev pub list_member : {A : Type 0} → List ℕ → (A → List ℕ) → List A → List ℕ
+unfoldable pub list_member : {A : Type 0} → List ℕ → (A → List ℕ) → List A → List ℕ
 list_member name text [] = []
 list_member name text (x ∷ xs) = member name (codes "[" ++ (joined text (x ∷ xs) ++ codes "],\n"))
 
-abbrev pub command_member : List ℕ → List ℕ
+unfoldable pub command_member : List ℕ → List ℕ
 command_member command = member (codes "command") (json_string command ++ codes ",\n")
 
-abbrev pub number_member : List ℕ → ℕ → List ℕ
+unfoldable pub number_member : List ℕ → ℕ → List ℕ
 number_member name number = member name (decimal number ++ codes ",\n")
 
-abbrev pub code_member : List Instr → List ℕ
+unfoldable pub code_member : List Instr → List ℕ
 code_member code =
     member (codes "code") (codes "\"" ++ (encode_lower (flat_map bytes_of code) ++ codes "\",\n"))
 
-abbrev pub lines_member : List ℕ → List ℕ
+unfoldable pub lines_member : List ℕ → List ℕ
 lines_member lines = member (codes "lines") (codes "[" ++ (joined decimal lines ++ codes "]\n"))
 
--- a handler: its budget, its depth and the lines of its instructions stand beside what the text has of it
-abbrev pub handler_json : Entry → List ℕ
-handler_json e = codes "        {\n"
-    ++ (command_member e.draft.now.command
+-- what a handler declares: its budget and its depth stand beside what the text has of it
+unfoldable pub declared_json : Entry → List ℕ
+declared_json e = command_member e.draft.now.command
     ++ (list_member (codes "params") param_json e.draft.now.params
-    ++ (number_member (codes "budget") e.budget
-    ++ (number_member (codes "depth") e.depth
-    ++ (list_member (codes "texts") json_string e.draft.now.texts
+    ++ (number_member (codes "budget") e.budget ++ number_member (codes "depth") e.depth))
+
+-- its tables, its code and the lines of its instructions
+unfoldable pub written_json : Entry → List ℕ
+written_json e = list_member (codes "texts") json_string e.draft.now.texts
     ++ (list_member (codes "calls") json_string e.draft.now.calls
-    ++ (code_member e.draft.now.code
-    ++ (lines_member e.lines ++ codes "        }"))))))))
+    ++ (code_member e.draft.now.code ++ lines_member e.lines))
+
+unfoldable pub handler_json : Entry → List ℕ
+handler_json e = codes "        {\n" ++ (declared_json e ++ (written_json e ++ codes "        }"))
 
 -- the end of a line before further handlers
 abbrev pub gap : List Entry → List ℕ
@@ -93,6 +96,11 @@ abbrev pub closing : List Entry → List ℕ
 closing [] = []
 closing (e ∷ es) = codes "\n    "
 
+unfoldable pub head_json : List Entry → List ℕ
+head_json es = codes "{\n    \"version\": " ++ (decimal (version_of es) ++ codes ",\n    \"handlers\": [")
+
+unfoldable pub list_json : List Entry → List ℕ
+list_json es = opening es ++ (handlers_json es ++ (closing es ++ codes "]\n}\n"))
+
 abbrev pub file_json : List Entry → List ℕ
-file_json es = codes "{\n    \"version\": " ++ (decimal (version_of es) ++ (codes ",\n    \"handlers\": ["
-    ++ (opening es ++ (handlers_json es ++ (closing es ++ codes "]\n}\n")))))
+file_json es = head_json es ++ list_json es

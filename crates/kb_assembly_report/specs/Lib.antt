@@ -1,3 +1,4 @@
+pub mod Choice
 pub mod Json
 pub mod Judging
 pub mod Translating

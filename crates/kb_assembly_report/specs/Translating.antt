@@ -1,32 +1,61 @@
 -- What a file is translated to.
-use Rattle.std.specs.Prelude.{◌≡◌, ◌≤◌, ◌⊎◌, ℕ, List, Ok, Err, length, map}
+use Rattle.std.specs.Prelude.{◌≡◌, ◌≤◌, ℕ, List, [], ◌∷◌, Ok, Err, length, map}
 use Rattle.kb_assembly.specs.declared.draft.Draft.{Draft}
 use Rattle.kb_assembly.specs.declared.file.FileFault.{FileFault}
 use Rattle.kb_assembly.specs.Draft.{handler_draft}
 use Rattle.kb_assembly.specs.File.{assemble}
 use Rattle.kb_base.specs.declared.refusal.Refusal.{Refusal}
 use Rattle.kb_code.specs.Handler.{HandlerData}
+use Rattle.kb_core.specs.Declaration.{Declaration}
 use Rattle.kb_files.specs.HandlerFile.{handlers_in}
 use Rattle.kb_jsonc.specs.Reader.{without_mark}
+use Rattle.kb_assembly_report.specs.Choice.{IsSmallest, NoChoice}
 use Rattle.kb_assembly_report.specs.Judging.{IsFileOf}
 use Rattle.kb_assembly_report.specs.Json.{file_json}
 use Rattle.kb_assembly_report.specs.declared.assembling.Translation.{Translation}
 use Rattle.kb_assembly_report.specs.declared.assembling.Translation.TheVariants.{File, Faults}
 use Rattle.kb_assembly_report.specs.declared.entry.Entry.{Entry}
 
+-- a handler of a file has what the text has of it, with what it declares
+pub record IsEntry (given : Draft) (d : Declaration) (e : Entry) : Type 0 where
+  pub draft : e.draft.now ≡ given
+  pub budget : e.budget ≡ d.budget
+  pub depth : e.depth ≡ d.depth
+
+abbrev pub AreEntries : List Draft → List Declaration → List Entry → Type 0
+AreEntries [] [] [] = Unit {0}
+AreEntries (given ∷ drafts) (d ∷ ds) (e ∷ es) = IsEntry given d e × AreEntries drafts ds es
+AreEntries _ _ _ = ⊥
+
+-- The file of handlers: the budgets and depths that the text leaves out are as small as may be.
+pub record IsForm (drafts : List Draft) (text : List ℕ) : Type 0 where
+  pub declared : List Declaration
+  pub smallest : IsSmallest drafts declared
+  pub entries : List Entry
+  pub filled : AreEntries drafts declared entries
+  pub form : text ≡ file_json entries
+
 -- a text is assembled: it has handlers, and the file that is written is one of these, and has its form
 pub record IsAssembled (bytes text : List ℕ) : Type 0 where
   pub drafts : List Draft
   pub read : assemble (without_mark bytes) ≡ Ok drafts
+  pub form : IsForm drafts text
   pub file : IsFileOf drafts text
-  pub entries : List Entry
-  pub form : text ≡ file_json entries
   pub small : length text ≤ 16777216
 
--- a text is refused: it is none of the language, or its handlers are looked at further
-abbrev pub IsRefused : List ℕ → Type 0
-IsRefused bytes = ((fault : FileFault) × (assemble (without_mark bytes) ≡ Err fault))
-    ⊎ ((drafts : List Draft) × (assemble (without_mark bytes) ≡ Ok drafts))
+-- the file of handlers is too large, or isn't read as these handlers
+pub record IsUnwritten (drafts : List Draft) : Type 0 where
+  pub text : List ℕ
+  pub form : IsForm drafts text
+  pub never : length text ≤ 16777216 → IsFileOf drafts text → ⊥
+
+-- a text is refused: it is none of the language, or no budgets and depths that it leaves out would do for its
+-- handlers, or no file can have these
+pub data IsRefused (bytes : List ℕ) : Type 0 where
+  mistaken : (fault : FileFault) → assemble (without_mark bytes) ≡ Err fault → IsRefused bytes
+  unsuited : (drafts : List Draft) → assemble (without_mark bytes) ≡ Ok drafts → NoChoice drafts → IsRefused bytes
+  unwritten : (drafts : List Draft) → assemble (without_mark bytes) ≡ Ok drafts → IsUnwritten drafts →
+      IsRefused bytes
 
 abbrev pub Assembles : List ℕ → Translation → Type 0
 Assembles bytes (File text) = IsAssembled bytes text

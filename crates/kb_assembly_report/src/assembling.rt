@@ -1,11 +1,14 @@
 //! `keycheck assemble`: the `handlers.json` of a text, or all of its faults.
-ghost use Rattle.std.specs.Prelude.{◌≡◌, IfOk, Ok};
+ghost use Rattle.std.specs.Prelude.{◌≡◌, ◌≤◌, IfOk, Ok, length, true};
 ghost use Rattle.kb_assembly.specs.File.{assemble};
 ghost use Rattle.kb_jsonc.specs.Reader.{without_mark};
-ghost use Rattle.kb_assembly_report.specs.Translating.{Assembles, are_faults};
+ghost use Rattle.kb_assembly_report.specs.Choice.{IsSmallest};
+ghost use Rattle.kb_assembly_report.specs.Judging.{IsFileOf};
+ghost use Rattle.kb_assembly_report.specs.Translating.{AreEntries, Assembles, are_faults};
 
 use crate::carets::write_all;
-use crate::declaring::{Limits, limits_of};
+use crate::choosing::smallest;
+use crate::declaring::add_reasons;
 use crate::entry::Entry;
 use crate::file_limits::limit_faults;
 use crate::found::{Faults, Found};
@@ -15,6 +18,7 @@ use crate::mistakes::mistakes;
 use crate::sources::{Source, sources_of};
 use kb_assembly::{Draft, FileFault, assemble, lines_in, sections_of};
 use kb_base::{Failure, NoMemory, Seq, Text};
+use kb_core::Signature;
 use kb_places::without_mark;
 use std::alloc::{AllocError, Global};
 
@@ -59,75 +63,111 @@ fn numbers_of(alloc: Global, lines: &[usize]) -> Result<Seq<usize>, NoMemory> {
     Ok(numbers)
 }
 
-/// The handlers with these limits.
+/// The numbers of the lines of the instructions of a handler of a text.
+fn lines_at(alloc: Global, sources: &[Source], index: usize) -> Result<Seq<usize>, NoMemory> {
+    match sources.get(index) {
+        Some(source) => numbers_of(alloc, source.lines.as_slice()),
+        None => Ok(Seq::new(alloc)),
+    }
+}
+
+/// The handlers with what they declare.
 fn entries_of<'d>(
     alloc: Global,
     drafts: &'d [Draft],
     sources: &[Source],
-    limits: &[Limits],
-) -> Result<Vec<Entry<'d>>, NoMemory> {
+    declared: &[Signature],
+) -> Result<Vec<Entry<'d>>, NoMemory>
+    requires { length drafts.now ≡ length declared.now }
+    ensures { IfOk result (λ entries. AreEntries drafts.now declared.now entries.items) }
+{
     let mut entries = Vec::new(alloc);
-    for (draft, (source, limits)) in drafts.iter().zip(sources.iter().zip(limits.iter())) {
+    let (mut left, mut others) = (drafts, declared);
+    while let ([draft, more @ ..], [signature, rest @ ..]) = (left, others) {
+        let lines = lines_at(alloc, sources, entries.len())?;
         entries.push(Entry {
             draft,
-            budget: limits.budget,
-            depth: limits.depth,
-            lines: numbers_of(alloc, source.lines.as_slice())?,
+            budget: signature.budget(),
+            depth: u32::from(signature.depth()),
+            lines,
         })?;
+        left = more;
+        others = rest;
     }
     Ok(entries)
 }
 
-/// The limits of handlers, or the faults for which there are none.
-fn limits_or_faults(
-    alloc: Global,
-    drafts: &[Draft],
-    sources: &[Source],
-) -> Result<Result<Vec<Limits>, Faults>, NoMemory> {
-    let faults = limit_faults(alloc, drafts, sources)?;
-    if !faults.is_empty() {
-        return Ok(Err(faults));
-    }
-    let mut faults = Faults::none(alloc);
-    let limits = limits_of(alloc, drafts, sources, &mut faults)?;
+/// Why no budgets and depths would do for handlers of a text.
+fn reasons(alloc: Global, drafts: &[Draft], sources: &[Source]) -> Result<Faults, NoMemory> {
+    let mut faults = limit_faults(alloc, drafts, sources)?;
     if faults.is_empty() {
-        return Ok(Ok(limits));
+        add_reasons(alloc, drafts, sources, &mut faults)?;
     }
-    faults.sort()?;
-    Ok(Err(faults))
+    Ok(faults)
 }
 
-/// That a file isn't written, since it can't be loaded.
-fn wrong(alloc: Global, path: &str, file: &[u8]) -> Result<Translation, NoMemory>
+/// That a file isn't written, with the faults for which it can't be, if there are any.
+fn unwritten(
+    alloc: Global,
+    path: &str,
+    text: &[u8],
+    faults: &Faults,
+    why: &str,
+) -> Result<Translation, NoMemory>
     ensures { IfOk result are_faults }
 {
-    let why = if file.len() > FILE_LIMIT {
-        "44 TooLarge: its handlers.json would have more than 16,777,216 bytes"
-    } else {
-        "its handlers.json would not be read as its handlers, which is a mistake of this program"
-    };
+    if !faults.is_empty() {
+        return said(alloc, path, text, faults);
+    }
     let text = format!(in alloc; "{path}: {why}\n")?;
     Ok(Translation::Faults(Text::from_string(text)))
 }
 
-/// The file of handlers with limits.
+/// Why a file that was made isn't written.
+fn why_unwritten(length: usize) -> &'static str {
+    if length > FILE_LIMIT {
+        "44 TooLarge: its handlers.json would have more than 16,777,216 bytes"
+    } else {
+        "its handlers.json would not be read as its handlers, which is a mistake of this program"
+    }
+}
+
+/// Whether the file of handlers can be written.
+fn can_be_written(alloc: Global, drafts: &[Draft], file: &[u8]) -> Result<bool, NoMemory>
+    ensures small { IfOk result (λ yes. yes ≡ true → length file.now ≤ 16777216) }
+    ensures right { IfOk result (λ yes. yes ≡ true → IsFileOf drafts.now file.now) }
+    ensures all { IfOk result
+        (λ yes. length file.now ≤ 16777216 → IsFileOf drafts.now file.now → yes ≡ true) }
+{
+    if file.len() > FILE_LIMIT {
+        return Ok(false);
+    }
+    is_right(alloc, drafts, file)
+}
+
+/// The file of handlers with what they declare.
 #[tactic(auto, using(crate::proofs::TranslatingLemmas::assembling))]
 fn written(
     alloc: Global,
     path: &str,
     bytes: &[u8],
     drafts: &[Draft],
-    entries: &[Entry<'_>],
+    sources: &[Source],
+    declared: &[Signature],
 ) -> Result<Translation, NoMemory>
-    requires { assemble (without_mark bytes.now) ≡ Ok drafts.now }
+    requires read { assemble (without_mark bytes.now) ≡ Ok drafts.now }
+    requires smallest { IsSmallest drafts.now declared.now }
     ensures { IfOk result (Assembles bytes.now) }
 {
-    let _bytes = bytes;
-    let file = file_text(alloc, entries)?;
-    if file.len() <= FILE_LIMIT && is_right(alloc, drafts, file.as_slice())? {
+    let entries = entries_of(alloc, drafts, sources, declared)?;
+    let file = file_text(alloc, entries.as_slice())?;
+    if can_be_written(alloc, drafts, file.as_slice())? {
         return Ok(Translation::File(file));
     }
-    wrong(alloc, path, file.as_slice())
+    let faults = limit_faults(alloc, drafts, sources)?;
+    let why = why_unwritten(file.len());
+    let said = unwritten(alloc, path, without_mark(bytes), &faults, why)?;
+    Ok(said)
 }
 
 /// The file of the handlers of a text, or its faults.
@@ -143,13 +183,18 @@ fn file_of(
 {
     let text = without_mark(bytes);
     let sources = sources_in(alloc, text)?;
-    let sources = sources.as_slice();
-    match limits_or_faults(alloc, drafts, sources)? {
-        Ok(limits) => {
-            let entries = entries_of(alloc, drafts, sources, limits.as_slice())?;
-            written(alloc, path, bytes, drafts, entries.as_slice())
+    match smallest(alloc, drafts)? {
+        Some(declared) => {
+            let sources = sources.as_slice();
+            let made = written(alloc, path, bytes, drafts, sources, declared.as_slice())?;
+            Ok(made)
         }
-        Err(faults) => said(alloc, path, text, &faults),
+        None => {
+            let faults = reasons(alloc, drafts, sources.as_slice())?;
+            let why = "no budgets and depths would do for its handlers";
+            let said = unwritten(alloc, path, text, &faults, why)?;
+            Ok(said)
+        }
     }
 }
 
@@ -176,11 +221,15 @@ pub fn assemble_file(alloc: Global, path: &str, bytes: &[u8]) -> Result<Translat
 {
     let text = without_mark(bytes);
     match assemble(alloc, text) {
-        Ok(drafts) => file_of(alloc, path, bytes, drafts.as_slice()),
+        Ok(drafts) => {
+            let made = file_of(alloc, path, bytes, drafts.as_slice())?;
+            Ok(made)
+        }
         Err(Failure::NoMemory) => Err(AllocError),
         Err(Failure::Fault(first)) => {
             let faults = all_mistakes(alloc, text, first)?;
-            said(alloc, path, text, &faults)
+            let said = said(alloc, path, text, &faults)?;
+            Ok(said)
         }
     }
 }

@@ -1,100 +1,15 @@
-//! The budgets and the depths of handlers: those that a text gives, and the smallest ones of the others.
-ghost use Rattle.std.specs.Prelude.{◌≤◌, IfSome};
-
+//! Why no budgets and depths would do for the handlers of a text, as sentences with their places. Whether some
+//! would do is decided elsewhere (`choosing`).
 use crate::found::{Faults, Found};
+use crate::holding::{BUDGET, DEPTH, Limits, handler_with, signature_of};
 use crate::sources::Source;
 use kb_assembly::Draft;
-use kb_base::{Failure, FaultKind, NoMemory, Seq, Text};
-use kb_code::{Code, CodeFault, Handler, Version};
-use kb_core::{NATIVES, Native, Param, Signature};
+use kb_base::{Failure, FaultKind, NoMemory, Seq};
+use kb_code::{CodeFault, Handler};
+use kb_core::{NATIVES, Native};
 use kb_verify::{Callable, VerifyFault, dearest_cost};
 use std::alloc::{AllocError, Global};
 use std::collections::HashMap;
-
-/// The largest budget and the largest depth.
-const BUDGET: u32 = 1_000_000_000;
-
-const DEPTH: u32 = 64;
-
-/// The most parameters.
-const PARAMS: usize = 8;
-
-/// The budget and the depth of a handler.
-#[derive(Clone, Copy, Debug)]
-pub(crate) struct Limits {
-    pub(crate) budget: u32,
-    pub(crate) depth: u32,
-}
-
-/// A number, if it is from 1 to a limit.
-fn within(limit: u32, number: u32) -> Option<u32>
-    ensures some { IfSome result (λ number. 1 ≤ number) }
-    ensures limit { IfSome result (λ number. number ≤ limit) }
-{
-    if number < 1 || limit < number {
-        return None;
-    }
-    Some(number)
-}
-
-/// A signature, if it is within the limits.
-fn signature_of(params: Seq<Param>, limits: Limits) -> Option<Signature>
-    ensures { IfSome result (λ signature. 1 ≤ signature.depth) }
-{
-    if params.len() > PARAMS {
-        return None;
-    }
-    let budget = within(BUDGET, limits.budget)?;
-    let depth = within(DEPTH, limits.depth)?;
-    Some(Signature::new(params, budget, depth as u8))
-}
-
-/// Copies parameters.
-fn params_of(alloc: Global, params: &[Param]) -> Result<Seq<Param>, NoMemory> {
-    let mut made = Seq::new(alloc);
-    for param in params {
-        made.push(Param {
-            name: param.name.copied()?,
-            kind: param.kind,
-        })?;
-    }
-    Ok(made)
-}
-
-/// Copies texts.
-fn texts_of(alloc: Global, texts: &[Text]) -> Result<Seq<Text>, NoMemory> {
-    let mut made = Seq::new(alloc);
-    for text in texts {
-        made.push(text.copied()?)?;
-    }
-    Ok(made)
-}
-
-/// The code of a handler. Errors: the fault of its blocks, and `NoMemory`.
-fn code_of(alloc: Global, draft: &Draft) -> Result<Code, Failure<CodeFault>> {
-    let mut instrs = Seq::new(alloc);
-    for instr in draft.code.as_slice() {
-        instrs.push(*instr)?;
-    }
-    Code::new(alloc, instrs, Version::Two)
-}
-
-/// A handler with limits, or `None` if it is past a limit. Errors: the fault of its blocks, and `NoMemory`.
-fn handler_with(
-    alloc: Global,
-    draft: &Draft,
-    limits: Limits,
-) -> Result<Option<Handler>, Failure<CodeFault>> {
-    let params = params_of(alloc, draft.params.as_slice())?;
-    let Some(signature) = signature_of(params, limits) else {
-        return Ok(None);
-    };
-    let code = code_of(alloc, draft)?;
-    let command = draft.command.copied()?;
-    let texts = texts_of(alloc, draft.texts.as_slice())?;
-    let calls = texts_of(alloc, draft.calls.as_slice())?;
-    Ok(Some(Handler::new(command, signature, texts, calls, code)))
-}
 
 /// The place of a fault of code.
 fn place_of(fault: CodeFault) -> usize {
@@ -258,8 +173,7 @@ fn add(
     limits: Limits,
     callable: &mut Callable,
 ) -> Result<(), NoMemory> {
-    let params = params_of(alloc, draft.params.as_slice())?;
-    match signature_of(params, limits) {
+    match signature_of(alloc, draft, limits)? {
         Some(signature) => callable.add(alloc, draft.command.as_str(), &signature),
         None => Ok(()),
     }
@@ -360,25 +274,34 @@ fn level(
     Ok(())
 }
 
-/// The budget and the depth of each handler: those that it has, or else the smallest with which it is
-/// accepted. Where there are none the reason is added. Error: `NoMemory`.
-pub(crate) fn limits_of(
+/// Adds why no budgets and depths would do for handlers, by their lines. Error: `NoMemory`.
+pub(crate) fn add_reasons(
     alloc: Global,
     drafts: &[Draft],
     sources: &[Source],
     faults: &mut Faults,
-) -> Result<Vec<Limits>, NoMemory> {
+) -> Result<(), NoMemory> {
     let callees = all_callees(alloc, drafts, sources, faults)?;
+    if faults.is_empty() {
+        let depths = depths_of(alloc, drafts, callees.as_slice())?;
+        add_endless(alloc, sources, depths.as_slice(), faults)?;
+        add_refusals(alloc, drafts, sources, depths.as_slice(), faults)?;
+        if faults.is_empty() {
+            add_costly(alloc, drafts, sources, depths.as_slice(), faults)?;
+        }
+    }
+    faults.sort()
+}
+
+/// Adds why handlers cost too much, each over those that it calls.
+fn add_costly(
+    alloc: Global,
+    drafts: &[Draft],
+    sources: &[Source],
+    depths: &[Option<u32>],
+    faults: &mut Faults,
+) -> Result<(), NoMemory> {
     let mut limits: Vec<Limits> = Vec::new(alloc);
-    if !faults.is_empty() {
-        return Ok(limits);
-    }
-    let depths = depths_of(alloc, drafts, callees.as_slice())?;
-    add_endless(alloc, sources, depths.as_slice(), faults)?;
-    add_refusals(alloc, drafts, sources, depths.as_slice(), faults)?;
-    if !faults.is_empty() {
-        return Ok(limits);
-    }
     for (draft, depth) in drafts.iter().zip(depths.iter()) {
         limits.push(Limits {
             budget: draft.budget.unwrap_or(BUDGET),
@@ -397,5 +320,5 @@ pub(crate) fn limits_of(
             faults,
         )?;
     }
-    Ok(limits)
+    Ok(())
 }

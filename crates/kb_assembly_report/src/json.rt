@@ -1,10 +1,11 @@
 //! A `handlers.json` for people and programs: one handler a block, one member a line.
 ghost use Rattle.std.specs.Prelude.{◌≡◌, ◌++◌, OnOk, IfOk, codes, decimal, string_bytes};
 ghost use Rattle.std.specs.List.{list_any};
-ghost use Rattle.kb_assembly_report.specs.Json.{closing, code_member, comma, command_member, file_json};
-ghost use Rattle.kb_assembly_report.specs.Json.{gap, handler_json, handlers_json, has_blocks, is_of_block};
-ghost use Rattle.kb_assembly_report.specs.Json.{joined, json_string, lines_member, list_member, member};
-ghost use Rattle.kb_assembly_report.specs.Json.{number_member, opening, param_json, version_of};
+ghost use Rattle.kb_assembly_report.specs.Json.{closing, code_member, comma, command_member, declared_json};
+ghost use Rattle.kb_assembly_report.specs.Json.{file_json, gap, handler_json, handlers_json, has_blocks};
+ghost use Rattle.kb_assembly_report.specs.Json.{head_json, is_of_block, joined, json_string, lines_member};
+ghost use Rattle.kb_assembly_report.specs.Json.{list_json, list_member, number_member, opening, param_json};
+ghost use Rattle.kb_assembly_report.specs.Json.{version_of, written_json};
 
 use crate::entry::Entry;
 use kb_assembly::kind_name;
@@ -66,6 +67,7 @@ fn push_param_comma(rest: &[Param], text: &mut String) -> Result<(), NoMemory>
 }
 
 /// Adds a parameter as JSON.
+#[tactic(auto, unfolding(crate::specs::Json::param_json))]
 fn push_param(alloc: Global, param: &Param, text: &mut String) -> Result<(), NoMemory>
     ensures { OnOk result (string_bytes text.new ≡ string_bytes text.old ++ param_json param.now) }
 {
@@ -73,7 +75,8 @@ fn push_param(alloc: Global, param: &Param, text: &mut String) -> Result<(), NoM
     push_text(alloc, param.name.as_str(), text)?;
     text.push_str(", \"kind\": ")?;
     push_text(alloc, kind_name(param.kind), text)?;
-    text.push_str(" }")
+    text.push_str(" }")?;
+    Ok(())
 }
 
 /// Adds parameters as JSON.
@@ -125,6 +128,7 @@ fn push_name(name: &str, text: &mut String) -> Result<(), NoMemory>
 }
 
 /// Adds the command.
+#[tactic(auto, unfolding(crate::specs::Json::command_member))]
 fn push_command(alloc: Global, command: &str, text: &mut String) -> Result<(), NoMemory>
     ensures { OnOk result (string_bytes text.new ≡ string_bytes text.old ++ command_member command.now) }
 {
@@ -134,6 +138,7 @@ fn push_command(alloc: Global, command: &str, text: &mut String) -> Result<(), N
 }
 
 /// Adds a member with a number.
+#[tactic(auto, unfolding(crate::specs::Json::number_member))]
 fn push_limit(alloc: Global, name: &str, number: u32, text: &mut String) -> Result<(), NoMemory>
     ensures { OnOk result
         (string_bytes text.new ≡ string_bytes text.old ++ number_member name.now number) }
@@ -144,6 +149,7 @@ fn push_limit(alloc: Global, name: &str, number: u32, text: &mut String) -> Resu
 }
 
 /// Adds the parameters, if there are any.
+#[tactic(auto, unfolding(crate::specs::Json::list_member))]
 fn push_params_member(alloc: Global, params: &[Param], text: &mut String) -> Result<(), NoMemory>
     ensures { OnOk result (string_bytes text.new
         ≡ string_bytes text.old ++ list_member (codes "params") param_json params.now) }
@@ -160,6 +166,7 @@ fn push_params_member(alloc: Global, params: &[Param], text: &mut String) -> Res
 }
 
 /// Adds a table of texts, if it isn't empty.
+#[tactic(auto, unfolding(crate::specs::Json::list_member))]
 fn push_table(alloc: Global, name: &str, texts: &[Text], text: &mut String) -> Result<(), NoMemory>
     ensures { OnOk result (string_bytes text.new
         ≡ string_bytes text.old ++ list_member name.now json_string texts.now) }
@@ -176,6 +183,7 @@ fn push_table(alloc: Global, name: &str, texts: &[Text], text: &mut String) -> R
 }
 
 /// Adds the code in hexadecimal digits.
+#[tactic(auto, unfolding(crate::specs::Json::code_member))]
 fn push_code(alloc: Global, code: &[Instr], text: &mut String) -> Result<(), NoMemory>
     ensures { OnOk result (string_bytes text.new ≡ string_bytes text.old ++ code_member code.now) }
 {
@@ -188,6 +196,7 @@ fn push_code(alloc: Global, code: &[Instr], text: &mut String) -> Result<(), NoM
 }
 
 /// Adds the member with the lines of the instructions.
+#[tactic(auto, unfolding(crate::specs::Json::lines_member))]
 fn push_lines_member(alloc: Global, lines: &[usize], text: &mut String) -> Result<(), NoMemory>
     ensures { OnOk result (string_bytes text.new ≡ string_bytes text.old ++ lines_member lines.now) }
 {
@@ -197,20 +206,40 @@ fn push_lines_member(alloc: Global, lines: &[usize], text: &mut String) -> Resul
     text.push_str("]\n")
 }
 
-/// Adds a handler.
-fn push_handler(alloc: Global, entry: &Entry<'_>, text: &mut String) -> Result<(), NoMemory>
-    ensures { OnOk result (string_bytes text.new ≡ string_bytes text.old ++ handler_json entry.now) }
+/// Adds the first members of a handler: what it declares.
+#[tactic(auto, unfolding(crate::specs::Json::declared_json))]
+fn push_declared(alloc: Global, entry: &Entry<'_>, text: &mut String) -> Result<(), NoMemory>
+    ensures { OnOk result (string_bytes text.new ≡ string_bytes text.old ++ declared_json entry.now) }
 {
-    text.push_str("        {\n")?;
     push_command(alloc, entry.draft.command.as_str(), text)?;
     push_params_member(alloc, entry.draft.params.as_slice(), text)?;
     push_limit(alloc, "budget", entry.budget, text)?;
     push_limit(alloc, "depth", entry.depth, text)?;
+    Ok(())
+}
+
+/// Adds the other members of a handler.
+#[tactic(auto, unfolding(crate::specs::Json::written_json))]
+fn push_written(alloc: Global, entry: &Entry<'_>, text: &mut String) -> Result<(), NoMemory>
+    ensures { OnOk result (string_bytes text.new ≡ string_bytes text.old ++ written_json entry.now) }
+{
     push_table(alloc, "texts", entry.draft.texts.as_slice(), text)?;
     push_table(alloc, "calls", entry.draft.calls.as_slice(), text)?;
     push_code(alloc, entry.draft.code.as_slice(), text)?;
     push_lines_member(alloc, entry.lines.as_slice(), text)?;
-    text.push_str("        }")
+    Ok(())
+}
+
+/// Adds a handler.
+#[tactic(auto, unfolding(crate::specs::Json::handler_json))]
+fn push_handler(alloc: Global, entry: &Entry<'_>, text: &mut String) -> Result<(), NoMemory>
+    ensures { OnOk result (string_bytes text.new ≡ string_bytes text.old ++ handler_json entry.now) }
+{
+    text.push_str("        {\n")?;
+    push_declared(alloc, entry, text)?;
+    push_written(alloc, entry, text)?;
+    text.push_str("        }")?;
+    Ok(())
 }
 
 /// Adds the end of a line before further handlers.
@@ -289,17 +318,36 @@ fn push_closing(entries: &[Entry<'_>], text: &mut String) -> Result<(), NoMemory
     }
 }
 
-/// Adds the file of handlers to a text.
-fn push_file(alloc: Global, entries: &[Entry<'_>], text: &mut String) -> Result<(), NoMemory>
-    ensures { OnOk result (string_bytes text.new ≡ string_bytes text.old ++ file_json entries.now) }
+/// Adds the version of a file, and what stands before its handlers.
+#[tactic(auto, unfolding(crate::specs::Json::head_json))]
+fn push_head(alloc: Global, entries: &[Entry<'_>], text: &mut String) -> Result<(), NoMemory>
+    ensures { OnOk result (string_bytes text.new ≡ string_bytes text.old ++ head_json entries.now) }
 {
     text.push_str("{\n    \"version\": ")?;
     push_number(alloc, version_of(entries), text)?;
     text.push_str(",\n    \"handlers\": [")?;
+    Ok(())
+}
+
+/// Adds the list of handlers, and what stands behind it.
+#[tactic(auto, unfolding(crate::specs::Json::list_json))]
+fn push_list(alloc: Global, entries: &[Entry<'_>], text: &mut String) -> Result<(), NoMemory>
+    ensures { OnOk result (string_bytes text.new ≡ string_bytes text.old ++ list_json entries.now) }
+{
     push_opening(entries, text)?;
     push_handlers(alloc, entries, text)?;
     push_closing(entries, text)?;
-    text.push_str("]\n}\n")
+    text.push_str("]\n}\n")?;
+    Ok(())
+}
+
+/// Adds the file of handlers to a text.
+fn push_file(alloc: Global, entries: &[Entry<'_>], text: &mut String) -> Result<(), NoMemory>
+    ensures { OnOk result (string_bytes text.new ≡ string_bytes text.old ++ file_json entries.now) }
+{
+    push_head(alloc, entries, text)?;
+    push_list(alloc, entries, text)?;
+    Ok(())
 }
 
 /// The text of a `handlers.json` of handlers. Error: `NoMemory`.

@@ -1,10 +1,12 @@
-//! Whether the text of a `handlers.json` is right: it is read as the handlers that it was written of, and
-//! those whose budget was left out are accepted, and with no smaller one. Each text is tested before it is
-//! given, so that no proof has to follow how it was written.
+//! Whether the text of a `handlers.json` is right: it is read as the handlers that it was written of, and what
+//! was left out of them is as small as may be. Each text is tested before it is given, so that no proof has to
+//! follow how it was written.
 ghost use Rattle.std.specs.Prelude.{◌≡◌, IfOk, true};
-ghost use Rattle.kb_assembly_report.specs.Judging.{AreSettled, IsFileOf, IsReadAs, IsSettled, all_like};
-ghost use Rattle.kb_assembly_report.specs.Judging.{kept, like};
+ghost use Rattle.kb_assembly_report.specs.Choice.{IsSettled};
+ghost use Rattle.kb_assembly_report.specs.Judging.{AreRight, AreSettled, IsCheapest, IsFileOf, IsReadAs};
+ghost use Rattle.kb_assembly_report.specs.Judging.{IsShallowest, all_like, kept, like};
 
+use crate::choosing::depth_above;
 use kb_assembly::{Draft, disassemble, handler_draft};
 use kb_base::{Failure, NoMemory, Seq};
 use kb_code::Handler;
@@ -63,9 +65,10 @@ fn all_like(alloc: Global, given: &[Draft], handlers: &[Handler]) -> Result<Seq<
 }
 
 /// Whether handlers agree with others in all that these don't leave out. Error: `NoMemory`.
-#[tactic(auto, using(crate::proofs::JudgingLemmas::same_text))]
+#[tactic(auto, using(crate::proofs::JudgingLemmas::reading))]
 fn are_read(alloc: Global, drafts: &[Draft], handlers: &[Handler]) -> Result<bool, NoMemory>
-    ensures { IfOk result (λ yes. yes ≡ true → IsReadAs drafts.now handlers.now) }
+    ensures right { IfOk result (λ yes. yes ≡ true → IsReadAs drafts.now handlers.now) }
+    ensures all { IfOk result (λ yes. IsReadAs drafts.now handlers.now → yes ≡ true) }
 {
     if drafts.len() != handlers.len() {
         return Ok(false);
@@ -77,13 +80,15 @@ fn are_read(alloc: Global, drafts: &[Draft], handlers: &[Handler]) -> Result<boo
 }
 
 /// Whether a handler is accepted, and costs its budget, if that was left out. Error: `NoMemory`.
-fn is_settled(
+#[tactic(auto, using(crate::proofs::JudgingLemmas::one_dearest))]
+fn is_cheapest(
     alloc: Global,
     callable: &Callable,
     given: &Draft,
     handler: &Handler,
 ) -> Result<bool, NoMemory>
-    ensures { IfOk result (λ yes. yes ≡ true → IsSettled callable.now given.now handler.now) }
+    ensures right { IfOk result (λ yes. yes ≡ true → IsCheapest callable.now given.now handler.now) }
+    ensures all { IfOk result (λ yes. IsCheapest callable.now given.now handler.now → yes ≡ true) }
 {
     match given.budget {
         Some(_) => Ok(true),
@@ -95,6 +100,44 @@ fn is_settled(
     }
 }
 
+/// Whether a handler has the smallest depth, if that was left out. Error: `NoMemory`.
+#[tactic(auto, using(crate::proofs::JudgingLemmas::one_depth))]
+fn is_shallowest(
+    alloc: Global,
+    callable: &Callable,
+    given: &Draft,
+    handler: &Handler,
+) -> Result<bool, NoMemory>
+    ensures right { IfOk result (λ yes. yes ≡ true → IsShallowest callable.now given.now handler.now) }
+    ensures all { IfOk result (λ yes. IsShallowest callable.now given.now handler.now → yes ≡ true) }
+{
+    match given.depth {
+        Some(_) => Ok(true),
+        None => {
+            let depth = depth_above(alloc, callable, handler)?;
+            Ok(depth == u32::from(handler.signature().depth()))
+        }
+    }
+}
+
+/// Whether what was left out of a handler is as small as may be. Error: `NoMemory`.
+#[tactic(auto, using(crate::proofs::JudgingLemmas::settling))]
+fn is_settled(
+    alloc: Global,
+    callable: &Callable,
+    given: &Draft,
+    handler: &Handler,
+) -> Result<bool, NoMemory>
+    ensures right { IfOk result (λ yes. yes ≡ true → IsSettled callable.now given.now handler.now) }
+    ensures all { IfOk result (λ yes. IsSettled callable.now given.now handler.now → yes ≡ true) }
+{
+    if is_cheapest(alloc, callable, given, handler)? {
+        let is_shallowest = is_shallowest(alloc, callable, given, handler)?;
+        return Ok(is_shallowest);
+    }
+    Ok(false)
+}
+
 /// The same of several handlers.
 #[tactic(auto, using(crate::proofs::JudgingLemmas::none_settled))]
 fn are_settled(
@@ -103,7 +146,8 @@ fn are_settled(
     given: &[Draft],
     handlers: &[Handler],
 ) -> Result<bool, NoMemory>
-    ensures { IfOk result (λ yes. yes ≡ true → AreSettled callable.now given.now handlers.now) }
+    ensures right { IfOk result (λ yes. yes ≡ true → AreSettled callable.now given.now handlers.now) }
+    ensures all { IfOk result (λ yes. AreSettled callable.now given.now handlers.now → yes ≡ true) }
 {
     let (mut left, mut read) = (given, handlers);
     while let ([one, more @ ..], [handler, others @ ..]) = (left, read) {
@@ -116,20 +160,31 @@ fn are_settled(
     Ok(true)
 }
 
-/// Whether the text of a file is read as these handlers, and those without a budget are accepted with the one
-/// that they have there, and with no smaller one. Error: `NoMemory`.
+/// Whether handlers are those of a text, and what it leaves out is as small as may be. Error: `NoMemory`.
 #[tactic(auto, using(crate::proofs::JudgingLemmas::judging))]
+fn are_right(alloc: Global, drafts: &[Draft], handlers: &[Handler]) -> Result<bool, NoMemory>
+    ensures right { IfOk result (λ yes. yes ≡ true → AreRight drafts.now handlers.now) }
+    ensures all { IfOk result (λ yes. AreRight drafts.now handlers.now → yes ≡ true) }
+{
+    if are_read(alloc, drafts, handlers)? {
+        let callable = callable_of(alloc, &NATIVES, &[], &[], handlers)?;
+        let are_settled = are_settled(alloc, &callable, drafts, handlers)?;
+        return Ok(are_settled);
+    }
+    Ok(false)
+}
+
+/// Whether the text of a file is read as these handlers, and what they leave out is as small as may be.
+/// Error: `NoMemory`.
+#[tactic(auto, using(crate::proofs::JudgingLemmas::filing))]
 pub(crate) fn is_right(alloc: Global, drafts: &[Draft], text: &[u8]) -> Result<bool, NoMemory>
-    ensures { IfOk result (λ yes. yes ≡ true → IsFileOf drafts.now text.now) }
+    ensures right { IfOk result (λ yes. yes ≡ true → IsFileOf drafts.now text.now) }
+    ensures all { IfOk result (λ yes. IsFileOf drafts.now text.now → yes ≡ true) }
 {
     match read_handlers(alloc, text) {
         Ok(handlers) => {
-            let handlers = handlers.as_slice();
-            if !are_read(alloc, drafts, handlers)? {
-                return Ok(false);
-            }
-            let callable = callable_of(alloc, &NATIVES, &[], &[], handlers)?;
-            are_settled(alloc, &callable, drafts, handlers)
+            let is_right = are_right(alloc, drafts, handlers.as_slice())?;
+            Ok(is_right)
         }
         Err(Failure::NoMemory) => Err(AllocError),
         Err(Failure::Fault(_)) => Ok(false),

@@ -5,11 +5,13 @@
 
 pub mod assembling;
 mod carets;
+mod choosing;
 mod declaring;
 pub mod disassembling;
 pub mod entry;
 mod file_limits;
 mod found;
+mod holding;
 mod json;
 mod judging;
 mod line_words;
