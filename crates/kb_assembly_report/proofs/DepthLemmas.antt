@@ -1,17 +1,15 @@
 -- The smallest depth that is larger than that of each callee.
-use Rattle.std.proofs.Common.{◌≡◌, ◌≤◌, ◌<◌, ◌+◌, ◌∙◌, ℕ, suc, List, [], ◌∷◌, ◌++◌, Option, Some, None, refl, sym, ap}
+use Rattle.std.proofs.Common.{◌≡◌, ◌≤◌, ◌<◌, ◌∙◌, ℕ, List, [], ◌∷◌, ◌++◌, Option, Some, None, refl, ap}
 use Rattle.std.proofs.Common.{max, length, subst, ⊎_elim, arith}
 use Rattle.std.proofs.lemmas.Bool.{cases_lt}
 use Rattle.std.proofs.lemmas.Option.{slice_get_within}
-use Rattle.std.specs.FinMap as map
-use Rattle.std.specs.Prelude.{option_and_then, slice_get}
+use Rattle.std.specs.Prelude.{slice_get}
 use Rattle.kb_assembly.specs.declared.draft.Draft.{Draft}
 use Rattle.kb_code.specs.Callees.{callees_of}
 use Rattle.kb_code.specs.declared.instr.Instr.TheVariants.{Call}
 use Rattle.kb_code.specs.Handler.{HandlerData}
 use Rattle.kb_code.specs.Reachable.{Calls, CalleesBelow, none, called, passed}
 use Rattle.kb_core.specs.Declaration.{Declaration}
-use Rattle.kb_verify.specs.Accepted.{IsCallee}
 use Rattle.kb_verify.specs.Callable.{Commands, declaration_at}
 use Rattle.kb_verify.proofs.Calls.{one_index}
 use Rattle.kb_assembly_report.specs.Choice.{IsDeep, IsLeastDepth, handler_with, need, top}
@@ -54,17 +52,17 @@ module _ (commands : Commands) (h : HandlerData) where
       ⊎_elim
       (λ before. let k = each_below r ms below q n before calls in omega (arith, e, k))
       (λ behind.
-          let same : q ≡ r = omega arith in
-          let at : slice_get h.code q ≡ Some (Call m) = ap (slice_get h.code) same ∙ c.at in
-          let k = ap need_at (one_index h q n m calls at) in
-          omega (arith, e, k))
+      let same : q ≡ r = omega arith in
+      let at : slice_get h.code q ≡ Some (Call m) = ap (slice_get h.code) same ∙ c.at in
+      let k = ap need_at (one_index h q n m calls at) in
+      omega (arith, e, k))
       (cases_lt q r)
   each_below p ns (passed {p = r} {ns = ms} below never) q n lt calls =
       ⊎_elim
       (λ before. each_below r ms below q n before calls)
       (λ behind.
-          let same : q ≡ r = omega arith in
-          absurd (never n (subst (λ k. Calls h k n) same calls)))
+      let same : q ≡ r = omega arith in
+      absurd (never n (subst (λ k. Calls h k n) same calls)))
       (cases_lt q r)
 
   least_top : (p : ℕ) (ns : List ℕ) → CalleesBelow h p ns → (x : ℕ) → 1 ≤ x →

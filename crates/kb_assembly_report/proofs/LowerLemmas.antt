@@ -13,13 +13,12 @@ use Rattle.kb_code.specs.declared.instr.Instr.TheVariants as i
 use Rattle.kb_code.specs.Handler.{HandlerData}
 use Rattle.kb_core.specs.declared.arg.Kind.{Kind}
 use Rattle.kb_core.specs.Declaration.{Declaration}
-use Rattle.kb_core.specs.declared.native.Native.{Native}
 use Rattle.kb_core.specs.Native.{natives}
 use Rattle.kb_verify.specs.declared.fault.Defect.TheVariants as defect
 use Rattle.kb_verify.specs.Accepted.{IsAccepted, IsCallee}
 use Rattle.kb_verify.specs.Callable.{Commands, declaration_at, with_first}
 use Rattle.kb_verify.specs.Check.{check, leads, without_args}
-use Rattle.kb_verify.specs.Paths.{IsDearestCost, cost, budget_in, Steps, Nothing, Choice, Turns, Path}
+use Rattle.kb_verify.specs.Paths.{IsDearestCost, cost, budget_in, Steps, Path}
 use Rattle.kb_verify.specs.Paths.{returns, ends, goes_on, falls, jumps, repeats}
 use Rattle.kb_verify.specs.Provider.{with_handlers, with_natives}
 use Rattle.kb_verify.specs.Shapes.{HasShapes}
@@ -214,9 +213,11 @@ module _ (commands others : Commands) (below : IsBelow commands others) (given :
       let g = higher (suc e) rest b path in
       let k = costs instr in
       let one : a + 1 ≤ h.0 + 1 = omega (arith, h.1) in
-      let m : n * (a + 1) ≤ n * (h.0 + 1) = mul-le-mul_left n one in
-      (cost others high instr + (n * (h.0 + 1) + g.0), omega (arith, m, g.1, k),
-      repeats instr at is lt closes h.2 g.2)
+      let m : n * (a + 1) ≤ n * (h.0 + 1) = mul-le-mul_left n one in (
+        cost others high instr + (n * (h.0 + 1) + g.0),
+        omega (arith, m, g.1, k),
+        repeats instr at is lt closes h.2 g.2,
+      )
 
   -- what the handler calls declares no more
   callee_too : (place index : ℕ) (c : Declaration) → IsCallee commands low place index c →

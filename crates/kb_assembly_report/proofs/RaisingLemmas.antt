@@ -1,26 +1,23 @@
 -- No round of the search for the smallest budgets and depths passes a choice that will do.
-use Rattle.std.proofs.Common.{◌≡◌, ◌≤◌, ◌<◌, ◌+◌, ◌-◌, ◌∙◌, ◌==◌, ◌&&◌, ℕ, suc, Bool, true, false, List, [], ◌∷◌, ◌++◌}
+use Rattle.std.proofs.Common.{◌≡◌, ◌≤◌, ◌<◌, ◌∙◌, ◌==◌, ◌&&◌, ℕ, Bool, true, false, List, [], ◌∷◌, ◌++◌}
 use Rattle.std.proofs.Common.{Option, Some, None, refl, sym, ap, subst, length, append-nil, get_or, arith}
 use Rattle.std.proofs.lemmas.Bool.Decides.{nat_tests}
-use Rattle.std.specs.Prelude.{slice_get, MatchOption}
+use Rattle.std.specs.Prelude.{slice_get}
 use Rattle.kb_assembly.specs.declared.draft.Draft.{Draft}
 use Rattle.kb_code.specs.Blocks.{IsFormed, bad_block}
-use Rattle.kb_code.specs.Code.{code_fault}
 use Rattle.kb_code.specs.declared.exits.Exits.TheVariants.{Close}
 use Rattle.kb_code.specs.declared.instr.Instr.{Instr}
 use Rattle.kb_code.specs.declared.instr.Instr.TheVariants as i
-use Rattle.kb_code.specs.declared.version.Version.TheVariants.{Two}
 use Rattle.kb_code.specs.Exits.{exits_of}
 use Rattle.kb_code.specs.Handler.{HandlerData}
-use Rattle.kb_core.specs.Declaration.{AreWithinLimits, Declaration}
+use Rattle.kb_core.specs.Declaration.{Declaration}
 use Rattle.kb_verify.specs.Accepted.{IsAccepted}
 use Rattle.kb_verify.specs.Callable.{Commands}
 use Rattle.kb_verify.specs.Paths.{IsDearestCost, cost, Steps, Path, returns, ends, goes_on, falls, jumps, repeats}
-use Rattle.kb_assembly_report.specs.declared.holding.Limits.{Limits}
 use Rattle.kb_assembly_report.specs.Choice.{AllLess, AreLowest, AreNext, Does, EachDoes, EachNext, Fills}
-use Rattle.kb_assembly_report.specs.Choice.{IsAcceptable, IsBelow, IsBudgetAt, IsBudgetFor, IsChoice, IsDeep}
+use Rattle.kb_assembly_report.specs.Choice.{IsAcceptable, IsBelow, IsBudgetAt, IsBudgetFor, IsDeep}
 use Rattle.kb_assembly_report.specs.Choice.{IsDepthFor, IsHoldable, IsLeastDepth, IsLess, IsLow, IsLowest, IsNext}
-use Rattle.kb_assembly_report.specs.Choice.{IsSettled, IsWithin, Keeps, NoChoice, NoneDo, NoneDoes, NotAcceptable}
+use Rattle.kb_assembly_report.specs.Choice.{IsWithin, Keeps, NoChoice, NoneDo, NoneDoes, NotAcceptable}
 use Rattle.kb_assembly_report.specs.Choice.{commands_of, declared_by, handler_with, handlers_with, limits_of}
 use Rattle.kb_assembly_report.specs.Choice.{room, same_limits}
 use Rattle.kb_verify.specs.Provider.{with_handlers}
@@ -144,10 +141,10 @@ budget_found commands given depth c h is accepted dearest =
         let most = dearest.dearest dearest.path back.0 back.2 in
         let same : path.0 ≡ c = omega (arith, path.1, back.1, most) in
         let none_more : (steps : Steps) (a : ℕ) → Path commands (handler_with given (small given depth c)) 0 steps a → a ≤ c =
-            λ steps a is.
-            let more = higher commands commands below given (small given depth c) (large given depth) refl 0 steps a is in
-            let k = dearest.dearest steps more.0 more.2 in
-            omega (arith, more.1, k) in
+        λ steps a is.
+        let more = higher commands commands below given (small given depth c) (large given depth) refl 0 steps a is in
+        let k = dearest.dearest steps more.0 more.2 in
+        omega (arith, more.1, k) in
         record {
           accepted = record {
             formed = accepted.formed;
@@ -204,10 +201,11 @@ module _ (commands : Commands) (given : Draft) (depth : ℕ) (for : IsDepthFor c
 
   kept_depth : (o : Option ℕ) → given.depth ≡ o → Keeps o depth → Keeps o e.depth → (1 ≤ depth) × (depth ≤ e.depth)
   kept_depth None is one other =
-      let least = for.least is (with_depth 1) in
-      (least.some,
-      least_less commands others below given (with_depth 1) e params_same depth e.depth least does.some_depth
-      (does.deep is))
+      let least = for.least is (with_depth 1) in (
+        least.some,
+        least_less commands others below given (with_depth 1) e params_same depth e.depth least does.some_depth
+            (does.deep is),
+      )
   kept_depth (Some k) is one other =
       let some = does.some_depth in
       (omega arith, omega arith)
@@ -238,9 +236,10 @@ module _ (commands : Commands) (given : Draft) (depth : ℕ) (for : IsDepthFor c
   kept_budget : (budget : ℕ) (o : Option ℕ) → given.budget ≡ o → IsBudgetFor commands given depth budget →
       Keeps o budget → Keeps o e.budget → (1 ≤ budget) × (budget ≤ e.budget)
   kept_budget budget None is chosen one other =
-      let at = chosen.least is in
-      (some_dearest commands (handler_with given (with_depth budget)) budget at.accepted at.dearest,
-      dearest_less commands others below given (with_depth budget) e params_same budget at.dearest (does.accepted is))
+      let at = chosen.least is in (
+        some_dearest commands (handler_with given (with_depth budget)) budget at.accepted at.dearest,
+        dearest_less commands others below given (with_depth budget) e params_same budget at.dearest (does.accepted is),
+      )
   kept_budget budget (Some k) is chosen one other =
       let some = does.limits.some_budget in
       (omega arith, omega arith)
@@ -310,9 +309,10 @@ each_less commands others below [] [] (e ∷ es) next covers = absurd covers
 each_less commands others below [] (d ∷ ds) es next covers = absurd next
 each_less commands others below (g ∷ drafts) [] es next covers = absurd next
 each_less commands others below (g ∷ drafts) (d ∷ ds) [] next covers = absurd covers
-each_less commands others below (g ∷ drafts) (d ∷ ds) (e ∷ es) next covers =
-    (next_less commands others below g d e next.0 covers.0,
-    each_less commands others below drafts ds es next.1 covers.1)
+each_less commands others below (g ∷ drafts) (d ∷ ds) (e ∷ es) next covers = (
+  next_less commands others below g d e next.0 covers.0,
+  each_less commands others below drafts ds es next.1 covers.1,
+)
 
 -- the commands that handlers with declarations may call
 abbrev called : List Draft → List Declaration → Commands
@@ -396,9 +396,10 @@ lowest_does commands [] [] (e ∷ es) lowest each = absurd each
 lowest_does commands [] (d ∷ ds) es lowest each = absurd lowest
 lowest_does commands (g ∷ drafts) [] es lowest each = absurd lowest
 lowest_does commands (g ∷ drafts) (d ∷ ds) [] lowest each = absurd each
-lowest_does commands (g ∷ drafts) (d ∷ ds) (e ∷ es) lowest each =
-    (lowest_less g d e lowest.0 each.0.fills each.0.limits.some_budget each.0.some_depth,
-    lowest_does commands drafts ds es lowest.1 each.1)
+lowest_does commands (g ∷ drafts) (d ∷ ds) (e ∷ es) lowest each = (
+  lowest_less g d e lowest.0 each.0.fills each.0.limits.some_budget each.0.some_depth,
+  lowest_does commands drafts ds es lowest.1 each.1,
+)
 
 lowest_next : (commands : Commands) (drafts : List Draft) (ds es : List Declaration) → AreLowest drafts ds →
     EachNext commands drafts es → AllLess ds es
@@ -407,9 +408,10 @@ lowest_next commands [] [] (e ∷ es) lowest each = absurd each
 lowest_next commands [] (d ∷ ds) es lowest each = absurd lowest
 lowest_next commands (g ∷ drafts) [] es lowest each = absurd lowest
 lowest_next commands (g ∷ drafts) (d ∷ ds) [] lowest each = absurd each
-lowest_next commands (g ∷ drafts) (d ∷ ds) (e ∷ es) lowest each =
-    (lowest_less g d e lowest.0 each.0.fills each.0.limits.some_budget each.0.some_depth,
-    lowest_next commands drafts ds es lowest.1 each.1)
+lowest_next commands (g ∷ drafts) (d ∷ ds) (e ∷ es) lowest each = (
+  lowest_less g d e lowest.0 each.0.fills each.0.limits.some_budget each.0.some_depth,
+  lowest_next commands drafts ds es lowest.1 each.1,
+)
 
 pub lowest_low : (drafts : List Draft) (ds : List Declaration) → AreLowest drafts ds → IsLow drafts ds
 lowest_low drafts ds lowest = record {
@@ -461,9 +463,11 @@ less_room commands (g ∷ drafts) (d ∷ ds) (e ∷ es) less each =
     let b = less.0.budget in
     let k = less.0.depth in
     let cheap = each.0.limits.cheap in
-    let shallow = each.0.limits.shallow in
-    (omega (arith, rest.0), λ differs.
-    by (d.budget == e.budget) (d.depth == e.depth) (same_limits ds es) refl refl refl differs rest)
+    let shallow = each.0.limits.shallow in (
+      omega (arith, rest.0),
+      λ differs.
+          by (d.budget == e.budget) (d.depth == e.depth) (same_limits ds es) refl refl refl differs rest,
+    )
   where
     by : (one other more : Bool) → d.budget == e.budget ≡ one → d.depth == e.depth ≡ other →
         same_limits ds es ≡ more → (one && other) && more ≡ false →

@@ -1,7 +1,7 @@
 -- What is given is what the text or the file says.
 use Rattle.std.proofs.Common.{◌≡◌, ◌≤◌, ◌<◌, ◌∙◌, ℕ, suc, Bool, true, false, List, [], ◌∷◌, ◌++◌, length, map, refl, sym}
 use Rattle.std.proofs.Common.{ap, subst, append-nil, arith}
-use Rattle.std.specs.Prelude.{Result, Ok, Err}
+use Rattle.std.specs.Prelude.{Ok, Err}
 use Rattle.kb_assembly.specs.declared.draft.Draft.{Draft}
 use Rattle.kb_assembly.specs.declared.file.FileFault.{FileFault}
 use Rattle.kb_assembly.specs.Draft.{handler_draft}

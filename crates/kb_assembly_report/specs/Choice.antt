@@ -166,7 +166,8 @@ pub record IsAcceptable (commands : Commands) (given : Draft) (depth : ℕ) : Ty
 -- a handler with a depth is accepted with this budget, and with no smaller one
 pub record IsBudgetAt (commands : Commands) (given : Draft) (depth budget : ℕ) : Type 0 where
   pub accepted : IsAccepted commands (handler_with given (declared_by given (limits_of budget depth)))
-  pub dearest : IsDearestCost commands (handler_with given (declared_by given (limits_of budget depth))) budget
+  pub dearest : IsDearestCost commands (handler_with given (declared_by given (limits_of budget depth)))
+      budget
 
 -- the depth that a text gives, or else the smallest
 pub record IsDepthFor (commands : Commands) (given : Draft) (depth : ℕ) : Type 0 where

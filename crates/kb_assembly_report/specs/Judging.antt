@@ -37,8 +37,9 @@ AreSettled commands [] hs = Unit {0}
 AreSettled commands (given ∷ ds) [] = Unit {0}
 AreSettled commands (given ∷ ds) (h ∷ hs) = IsSettled commands given h × AreSettled commands ds hs
 
--- Handlers are those of a text. Those whose budget was left out are accepted by a load of an extension without
--- dependencies, and with no smaller budget; no smaller depth would do for those whose depth was left out.
+-- Handlers are those of a text. Those whose budget was left out are accepted by a load of an extension
+-- without dependencies, and with no smaller budget; no smaller depth would do for those whose depth was left
+-- out.
 pub record AreRight (drafts : List Draft) (hs : List HandlerData) : Type 0 where
   pub same : IsReadAs drafts hs
   pub settled : AreSettled (commands_of hs) drafts hs

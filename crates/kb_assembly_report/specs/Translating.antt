@@ -53,7 +53,8 @@ pub record IsUnwritten (drafts : List Draft) : Type 0 where
 -- handlers, or no file can have these
 pub data IsRefused (bytes : List ℕ) : Type 0 where
   mistaken : (fault : FileFault) → assemble (without_mark bytes) ≡ Err fault → IsRefused bytes
-  unsuited : (drafts : List Draft) → assemble (without_mark bytes) ≡ Ok drafts → NoChoice drafts → IsRefused bytes
+  unsuited : (drafts : List Draft) → assemble (without_mark bytes) ≡ Ok drafts → NoChoice drafts →
+      IsRefused bytes
   unwritten : (drafts : List Draft) → assemble (without_mark bytes) ≡ Ok drafts → IsUnwritten drafts →
       IsRefused bytes
 

@@ -1,15 +1,16 @@
 //! The smallest budgets and depths for the handlers of a text that leaves some out.
 //!
-//! The first numbers are the smallest of all. Each round gives every handler what it needs over the handlers as
-//! the round before left them. So no number is ever larger than in a choice that will do. Where a round changes
-//! nothing the numbers are the smallest; where nothing will do for a handler then, no choice does.
+//! The first numbers are the smallest of all. Each round gives every handler what it needs over the handlers
+//! as the round before left them. So no number is ever larger than in a choice that will do. Where a round
+//! changes nothing the numbers are the smallest; where nothing will do for a handler then, no choice does.
 ghost use Rattle.std.specs.Prelude.{◌≡◌, IfOk, MatchOption, option_and_then, slice_get};
 ghost use Rattle.std.specs.FinMap as map;
 ghost use Rattle.kb_core.specs.Declaration.{Declaration};
 ghost use Rattle.kb_assembly_report.specs.Choice.{AreLowest, EachNext, IsAcceptable, IsBudgetAt, IsBudgetFor};
-ghost use Rattle.kb_assembly_report.specs.Choice.{IsDepthFor, IsHoldable, IsLeastDepth, IsLow, IsNext, IsSmallest};
-ghost use Rattle.kb_assembly_report.specs.Choice.{NoChoice, NoneDo, NoneDoes, NotAcceptable, commands_of};
-ghost use Rattle.kb_assembly_report.specs.Choice.{handler_with, handlers_with, limits_of, need, same_limits, top};
+ghost use Rattle.kb_assembly_report.specs.Choice.{IsDepthFor, IsHoldable, IsLeastDepth, IsLow, IsNext};
+ghost use Rattle.kb_assembly_report.specs.Choice.{IsSmallest, NoChoice, NoneDo, NoneDoes, NotAcceptable};
+ghost use Rattle.kb_assembly_report.specs.Choice.{commands_of, handler_with, handlers_with, limits_of, need};
+ghost use Rattle.kb_assembly_report.specs.Choice.{same_limits, top};
 
 use crate::holding::{BUDGET, DEPTH, Limits, handler_held, signature_of};
 use kb_assembly::Draft;
@@ -145,11 +146,7 @@ fn budget_for(
 }
 
 /// What a handler declares that needs as little as it can. `None` if nothing will do. Error: `NoMemory`.
-fn next_of(
-    alloc: Global,
-    callable: &Callable,
-    draft: &Draft,
-) -> Result<Option<Signature>, NoMemory>
+fn next_of(alloc: Global, callable: &Callable, draft: &Draft) -> Result<Option<Signature>, NoMemory>
     ensures { IfOk result (λ made. MatchOption made (NoneDoes callable.now draft.now)
         (IsNext callable.now draft.now)) }
 {
@@ -269,13 +266,10 @@ fn raised(
     }
 }
 
-/// The smallest budgets and depths for the handlers of a text, but for those that it gives. `None` if no choice
-/// will do. Error: `NoMemory`.
+/// The smallest budgets and depths for the handlers of a text, but for those that it gives. `None` if no
+/// choice will do. Error: `NoMemory`.
 #[tactic(auto, using(crate::proofs::RaisingLemmas::lowest_low))]
-pub(crate) fn smallest(
-    alloc: Global,
-    drafts: &[Draft],
-) -> Result<Option<Seq<Signature>>, NoMemory>
+pub(crate) fn smallest(alloc: Global, drafts: &[Draft]) -> Result<Option<Seq<Signature>>, NoMemory>
     ensures { IfOk result (λ made. MatchOption made (NoChoice drafts.now)
         (IsSmallest drafts.now)) }
 {

@@ -1,5 +1,5 @@
-//! Why no budgets and depths would do for the handlers of a text, as sentences with their places. Whether some
-//! would do is decided elsewhere (`choosing`).
+//! Why no budgets and depths would do for the handlers of a text, as sentences with their places. Whether
+//! some would do is decided elsewhere (`choosing`).
 use crate::found::{Faults, Found};
 use crate::holding::{BUDGET, DEPTH, Limits, handler_with, signature_of};
 use crate::sources::Source;

@@ -1,6 +1,6 @@
-//! Whether the text of a `handlers.json` is right: it is read as the handlers that it was written of, and what
-//! was left out of them is as small as may be. Each text is tested before it is given, so that no proof has to
-//! follow how it was written.
+//! Whether the text of a `handlers.json` is right: it is read as the handlers that it was written of, and
+//! what was left out of them is as small as may be. Each text is tested before it is given, so that no proof
+//! has to follow how it was written.
 ghost use Rattle.std.specs.Prelude.{◌≡◌, IfOk, true};
 ghost use Rattle.kb_assembly_report.specs.Choice.{IsSettled};
 ghost use Rattle.kb_assembly_report.specs.Judging.{AreRight, AreSettled, IsCheapest, IsFileOf, IsReadAs};

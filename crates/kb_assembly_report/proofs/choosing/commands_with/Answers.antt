@@ -9,5 +9,5 @@ returns c =
     elim c.if-left-lt1.branch [
       | in_default w ↦ sym (no_drafts l.callable l.left.now l.others.now (omega arith)) ∙ l.invariant
       | in_default-2 w ↦
-        sym (no_declared l.callable l.left.now l.others.now (grind (arith, w.in_default))) ∙ l.invariant
+          sym (no_declared l.callable l.left.now l.others.now (grind (arith, w.in_default))) ∙ l.invariant
     ]
