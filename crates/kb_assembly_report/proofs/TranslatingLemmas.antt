@@ -5,7 +5,8 @@ use Rattle.std.specs.Prelude.{Ok, Err}
 use Rattle.kb_assembly.specs.declared.draft.Draft.{Draft}
 use Rattle.kb_assembly.specs.declared.file.FileFault.{FileFault}
 use Rattle.kb_assembly.specs.Draft.{handler_draft}
-use Rattle.kb_assembly.specs.File.{assemble}
+use Rattle.kb_assembly.specs.declared.sections.Section.{Section}
+use Rattle.kb_assembly.specs.File.{assemble, sections_in}
 use Rattle.kb_base.specs.declared.refusal.Refusal.{Refusal}
 use Rattle.kb_code.specs.Handler.{HandlerData}
 use Rattle.kb_files.specs.HandlerFile.{handlers_in}
@@ -23,14 +24,23 @@ use Rattle.kb_assembly_report.specs.declared.entry.Entry.{Entry}
 
 -- ---- assembling
 
-pub file_written : (bytes file : List ℕ) (drafts : List Draft) (declared : List Declaration)
-    (entries : List Entry) → assemble (without_mark bytes) ≡ Ok drafts → IsSmallest drafts declared
-    → AreEntries drafts declared entries → file ≡ file_json entries → length file ≤ 16777216
+pub file_written : (bytes file : List ℕ) (sections : List Section) (drafts : List Draft)
+    (declared : List Declaration) (entries : List Entry) → sections_in (without_mark bytes) ≡ Ok sections
+    → assemble (without_mark bytes) ≡ Ok drafts → IsSmallest drafts declared
+    → AreEntries sections 0 drafts declared entries → file ≡ file_json entries → length file ≤ 16777216
     → IsFileOf drafts file → Assembles bytes (File file)
-file_written bytes file drafts declared entries read smallest filled form small right = record {
+file_written bytes file sections drafts declared entries cut read smallest filled form small right = record {
   drafts = drafts;
   read = read;
-  form = record { declared = declared; smallest = smallest; entries = entries; filled = filled; form = form };
+  form = record {
+    sections = sections;
+    cut = cut;
+    declared = declared;
+    smallest = smallest;
+    entries = entries;
+    filled = filled;
+    form = form;
+  };
   file = right;
   small = small;
 }
@@ -39,15 +49,24 @@ refused : (bytes : List ℕ) (made : Translation) → IsRefused bytes → are_fa
 refused bytes (File file) is are = absurd are
 refused bytes (Faults faults) is are = is
 
-pub none_written : (bytes file : List ℕ) (drafts : List Draft) (declared : List Declaration)
-    (entries : List Entry) (test : Bool) (made : Translation) → assemble (without_mark bytes) ≡ Ok drafts
-    → IsSmallest drafts declared → AreEntries drafts declared entries → file ≡ file_json entries
+pub none_written : (bytes file : List ℕ) (sections : List Section) (drafts : List Draft)
+    (declared : List Declaration) (entries : List Entry) (test : Bool) (made : Translation)
+    → sections_in (without_mark bytes) ≡ Ok sections → assemble (without_mark bytes) ≡ Ok drafts
+    → IsSmallest drafts declared → AreEntries sections 0 drafts declared entries → file ≡ file_json entries
     → (length file ≤ 16777216 → IsFileOf drafts file → test ≡ true) → test ≡ false → are_faults made
     → Assembles bytes made
-none_written bytes file drafts declared entries test made read smallest filled form all fails are =
+none_written bytes file sections drafts declared entries test made cut read smallest filled form all fails are =
     refused bytes made (unwritten drafts read (record {
       text = file;
-      form = record { declared = declared; smallest = smallest; entries = entries; filled = filled; form = form };
+      form = record {
+        sections = sections;
+        cut = cut;
+        declared = declared;
+        smallest = smallest;
+        entries = entries;
+        filled = filled;
+        form = form;
+      };
       never = λ small right. let passes = all small right in cc;
     })) are
 
@@ -74,12 +93,14 @@ smallest_count drafts ds smallest = same_count (commands_of (handlers_with draft
 
 pub ruleset assembling = (file_written, none_written, none_suits, not_read, smallest_count)
 
-pub all_filled : (drafts left : List Draft) (ds others : List Declaration) (made : List Entry)
-    → ((es : List Entry) → AreEntries left others es → AreEntries drafts ds (made ++ es))
-    → length left ≡ length others → length left < 1 → AreEntries drafts ds made
-all_filled drafts [] ds [] made fills same short = subst (AreEntries drafts ds) (append-nil made) (fills [] tt)
-all_filled drafts [] ds (d ∷ others) made fills same short = absurd (omega arith)
-all_filled drafts (g ∷ left) ds others made fills same short = absurd (omega arith)
+pub all_filled : (sections : List Section) (index : ℕ) (drafts left : List Draft)
+    (ds others : List Declaration) (made : List Entry)
+    → ((es : List Entry) → AreEntries sections index left others es → AreEntries sections 0 drafts ds (made ++ es))
+    → length left ≡ length others → length left < 1 → AreEntries sections 0 drafts ds made
+all_filled sections index drafts [] ds [] made fills same short =
+    subst (AreEntries sections 0 drafts ds) (append-nil made) (fills [] tt)
+all_filled sections index drafts [] ds (d ∷ others) made fills same short = absurd (omega arith)
+all_filled sections index drafts (g ∷ left) ds others made fills same short = absurd (omega arith)
 
 -- ---- disassembling
 

@@ -1,4 +1,5 @@
 pub mod Choice
 pub mod Json
 pub mod Judging
+pub mod Numbers
 pub mod Translating

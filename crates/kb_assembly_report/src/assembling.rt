@@ -1,6 +1,6 @@
 //! `keycheck assemble`: the `handlers.json` of a text, or all of its faults.
 ghost use Rattle.std.specs.Prelude.{◌≡◌, ◌≤◌, IfOk, Ok, length, true};
-ghost use Rattle.kb_assembly.specs.File.{assemble};
+ghost use Rattle.kb_assembly.specs.File.{assemble, sections_in};
 ghost use Rattle.kb_jsonc.specs.Reader.{without_mark};
 ghost use Rattle.kb_assembly_report.specs.Choice.{IsSmallest};
 ghost use Rattle.kb_assembly_report.specs.Judging.{IsFileOf};
@@ -15,8 +15,9 @@ use crate::found::{Faults, Found};
 use crate::json::file_text;
 use crate::judging::is_right;
 use crate::mistakes::mistakes;
+use crate::numbers::{numbers_at, sections_in};
 use crate::sources::{Source, sources_of};
-use kb_assembly::{Draft, FileFault, assemble, lines_in, sections_of};
+use kb_assembly::{Draft, FileFault, Section, assemble};
 use kb_base::{Failure, NoMemory, Seq, Text};
 use kb_core::Signature;
 use kb_places::without_mark;
@@ -43,48 +44,21 @@ fn said(alloc: Global, path: &str, bytes: &[u8], faults: &Faults) -> Result<Tran
     Ok(Translation::Faults(Text::from_string(text)))
 }
 
-/// The lines of the handlers of a text without mistakes.
-fn sources_in(alloc: Global, bytes: &[u8]) -> Result<Vec<Source>, NoMemory> {
-    match lines_in(alloc, bytes) {
-        Ok(lines) => match sections_of(alloc, lines) {
-            Ok(sections) => sources_of(alloc, sections.as_slice()),
-            Err(_) => Err(AllocError),
-        },
-        Err(_) => Err(AllocError),
-    }
-}
-
-/// The numbers of lines, from 1, by their indexes.
-fn numbers_of(alloc: Global, lines: &[usize]) -> Result<Seq<usize>, NoMemory> {
-    let mut numbers = Seq::new(alloc);
-    for line in lines {
-        numbers.push(line.saturating_add(1))?;
-    }
-    Ok(numbers)
-}
-
-/// The numbers of the lines of the instructions of a handler of a text.
-fn lines_at(alloc: Global, sources: &[Source], index: usize) -> Result<Seq<usize>, NoMemory> {
-    match sources.get(index) {
-        Some(source) => numbers_of(alloc, source.lines.as_slice()),
-        None => Ok(Seq::new(alloc)),
-    }
-}
-
 /// The handlers with what they declare.
 fn entries_of<'d>(
     alloc: Global,
+    sections: &[Section],
     drafts: &'d [Draft],
-    sources: &[Source],
     declared: &[Signature],
 ) -> Result<Vec<Entry<'d>>, NoMemory>
     requires { length drafts.now ≡ length declared.now }
-    ensures { IfOk result (λ entries. AreEntries drafts.now declared.now entries.items) }
+    ensures { IfOk result
+        (λ entries. AreEntries sections.now 0 drafts.now declared.now entries.items) }
 {
     let mut entries = Vec::new(alloc);
     let (mut left, mut others) = (drafts, declared);
     while let ([draft, more @ ..], [signature, rest @ ..]) = (left, others) {
-        let lines = lines_at(alloc, sources, entries.len())?;
+        let lines = numbers_at(alloc, sections, entries.as_slice().len())?;
         entries.push(Entry {
             draft,
             budget: signature.budget(),
@@ -145,26 +119,28 @@ fn can_be_written(alloc: Global, drafts: &[Draft], file: &[u8]) -> Result<bool, 
     is_right(alloc, drafts, file)
 }
 
-/// The file of handlers with what they declare.
+/// The file of handlers of a text with what they declare.
 #[tactic(auto, using(crate::proofs::TranslatingLemmas::assembling))]
 fn written(
     alloc: Global,
     path: &str,
     bytes: &[u8],
+    sections: &[Section],
     drafts: &[Draft],
-    sources: &[Source],
     declared: &[Signature],
 ) -> Result<Translation, NoMemory>
+    requires cut { sections_in (without_mark bytes.now) ≡ Ok sections.now }
     requires read { assemble (without_mark bytes.now) ≡ Ok drafts.now }
     requires smallest { IsSmallest drafts.now declared.now }
     ensures { IfOk result (Assembles bytes.now) }
 {
-    let entries = entries_of(alloc, drafts, sources, declared)?;
+    let entries = entries_of(alloc, sections, drafts, declared)?;
     let file = file_text(alloc, entries.as_slice())?;
     if can_be_written(alloc, drafts, file.as_slice())? {
         return Ok(Translation::File(file));
     }
-    let faults = limit_faults(alloc, drafts, sources)?;
+    let sources = sources_of(alloc, sections)?;
+    let faults = limit_faults(alloc, drafts, sources.as_slice())?;
     let why = why_unwritten(file.len());
     let said = unwritten(alloc, path, without_mark(bytes), &faults, why)?;
     Ok(said)
@@ -182,14 +158,15 @@ fn file_of(
     ensures { IfOk result (Assembles bytes.now) }
 {
     let text = without_mark(bytes);
-    let sources = sources_in(alloc, text)?;
+    let sections = sections_in(alloc, text)?;
+    let sections = sections.as_slice();
     match smallest(alloc, drafts)? {
         Some(declared) => {
-            let sources = sources.as_slice();
-            let made = written(alloc, path, bytes, drafts, sources, declared.as_slice())?;
+            let made = written(alloc, path, bytes, sections, drafts, declared.as_slice())?;
             Ok(made)
         }
         None => {
+            let sources = sources_of(alloc, sections)?;
             let faults = reasons(alloc, drafts, sources.as_slice())?;
             let why = "no budgets and depths would do for its handlers";
             let said = unwritten(alloc, path, text, &faults, why)?;

@@ -16,6 +16,7 @@ mod json;
 mod judging;
 mod line_words;
 mod mistakes;
+mod numbers;
 mod refused;
 mod sources;
 mod stack;

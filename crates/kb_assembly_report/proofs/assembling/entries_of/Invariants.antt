@@ -7,7 +7,8 @@ use Rattle.kb_assembly_report.proofs.assembling.entries_of.Given as goal
 abbrev pub invariant-loop-left : goal.invariant-loop-left
 invariant-loop-left l = record {
   same : length l.left ≡ length l.others;
-  fills : (es : List Entry) → AreEntries l.left l.others es → AreEntries l.drafts l.declared (l.entries.items ++ es);
+  fills : (es : List Entry) → AreEntries l.sections (length l.entries.items) l.left l.others es →
+      AreEntries l.sections 0 l.drafts l.declared (l.entries.items ++ es);
 }
 
 abbrev pub decreases-loop-left : goal.decreases-loop-left

@@ -5,6 +5,6 @@ use Rattle.kb_assembly_report.proofs.assembling.written.Goals as goal
 
 pub returns : goal.returns
 returns c =
-    none_written _ _ _ _ _ _ _ c.requires.read c.requires.smallest c.in_ok-entries.ensures
+    none_written _ _ _ _ _ _ _ _ c.requires.cut c.requires.read c.requires.smallest c.in_ok-entries.ensures
     (c.as_slice-2.ensures ∙ c.in_ok-file.ensures ∙ ap file_json c.as_slice.ensures.value)
     c.in_ok-can_be_written.ensures.all c.if-branch.false c.in_ok-said.ensures
