@@ -1,5 +1,5 @@
 -- What a check answers, and the page that problems are written from.
-use Rattle.std.specs.Prelude.{◌≡◌, ℕ, List, [], Bool, not, Option, length, map, min, option_map}
+use Rattle.std.specs.Prelude.{◌≡◌, ℕ, List, [], Bool, not, ◌||◌, Option, length, map, min, option_map}
 use Rattle.std.specs.List.{list_any}
 use Rattle.std.specs.Option.{option_map_or}
 use Rattle.kb_check.specs.Problems.{AreWanted, Tells, files_in}
@@ -15,9 +15,16 @@ use Rattle.kb_problems.specs.declared.problem.Problem.{Problem}
 use Rattle.kb_source_files.specs.SourceFiles.{file_of}
 use Rattle.kb_source_files.specs.declared.source_files.SourceFiles.{SourceFiles}
 use Rattle.kb_check_report.specs.Marks.{is_shown, mark_of}
+use Rattle.kb_check_report.specs.Whose.{is_unknown}
 use Rattle.kb_check_report.specs.declared.checking.Page.{Page}
 
--- no problem of some files is shown
+-- no problem is shown, and each name that was given is of a file
+abbrev pub is_clean : SourceFiles → List (List ℕ) → Choices → List Problem → Bool
+is_clean sources ids choices problems =
+    not (list_any is_shown (map (mark_of sources ids choices) problems)
+    || list_any (is_unknown sources ids) (map (λ name. name.now) choices.only.now))
+
+-- whether some files are clean
 pub record Checks (files : Files) (choices : Choices) (clean : Bool) : Type 0 where
   pub problems : List Problem
   pub sources : SourceFiles
@@ -25,7 +32,7 @@ pub record Checks (files : Files) (choices : Choices) (clean : Bool) : Type 0 wh
   pub ids : List (List ℕ)
   pub tells : Tells (IsAtRule sources) files ids problems
   pub wanted : AreWanted choices problems
-  pub none : clean ≡ not (list_any is_shown (map (mark_of sources ids choices) problems))
+  pub none : clean ≡ is_clean sources ids choices problems
 
 -- ---- the page
 

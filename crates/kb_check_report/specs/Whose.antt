@@ -1,7 +1,7 @@
 -- Whose problems are shown.
-use Rattle.std.specs.Prelude.{ℕ, ◌==◌, List, [], ◌∷◌, Bool, true, false, ◌||◌, if◌then◌else◌, codes}
-use Rattle.std.specs.Prelude.{Option, None, is_some, slice_get, bytes_eq}
-use Rattle.std.specs.List.{list_any}
+use Rattle.std.specs.Prelude.{ℕ, zero, suc, nat_eq, ◌==◌, List, [], ◌∷◌, length, slice_get, codes, bytes_eq}
+use Rattle.std.specs.Prelude.{Bool, true, false, not, ◌&&◌, ◌||◌, if◌then◌else◌, Option, None, Some, is_some}
+use Rattle.std.specs.List.{list_any, starts_with, ends_with}
 use Rattle.std.specs.Option.{option_map_or}
 use Rattle.kb_base.specs.ExtensionId.{same_id}
 use Rattle.kb_files.specs.declared.fault.LoadFile.{LoadFile}
@@ -26,16 +26,15 @@ usual_word files =
     if is_some (slice_get files.extensions.now 0) then codes "extensions" else (
     if is_some files.defaults then codes "defaults" else codes "layout"))
 
--- behind what both begin with, nothing is left of the name, and the path ends or goes on in the folder
-abbrev pub is_end : List ℕ → List ℕ → Bool
-is_end [] [] = true
-is_end [] (b ∷ path) = b == 47
-is_end (a ∷ name) path = false
+-- behind the name the path ends, or goes on in the folder
+abbrev pub is_end : Option ℕ → Bool
+is_end None = true
+is_end (Some b) = b == 47
 
 -- a path is this one, or in this folder
 abbrev pub is_at : List ℕ → List ℕ → Bool
-is_at (a ∷ name) (b ∷ path) = if a == b then is_at name path else is_end (a ∷ name) (b ∷ path)
-is_at name path = is_end name path
+is_at name path = starts_with nat_eq path name
+    && (ends_with nat_eq name (47 ∷ []) || is_end (slice_get path (length name)))
 
 -- the identifier of the extension that a file is of
 abbrev pub id_of : List (List ℕ) → LoadFile → Option (List ℕ)
@@ -54,3 +53,21 @@ names files ids f name =
 abbrev pub is_asked : SourceFiles → List (List ℕ) → List (List ℕ) → LoadFile → Bool
 is_asked files ids [] f = bytes_eq (usual_word files) (file_word f)
 is_asked files ids (name ∷ others) f = list_any (names files ids f) (name ∷ others)
+
+-- ---- names that are of no file
+
+-- there is such a file, and it has the name
+abbrev pub is_there : SourceFiles → List (List ℕ) → List ℕ → LoadFile → Bool
+is_there files ids name f = is_some (file_of files f) && names files ids f name
+
+-- a file of one of so many extensions has the name
+abbrev pub is_of_extension : SourceFiles → List (List ℕ) → List ℕ → ℕ → Bool
+is_of_extension files ids name zero = false
+is_of_extension files ids name (suc number) = is_there files ids name (file.Package number)
+    || is_there files ids name (file.Handlers number) || is_of_extension files ids name number
+
+-- the name is of no file
+abbrev pub is_unknown : SourceFiles → List (List ℕ) → List ℕ → Bool
+is_unknown files ids name = not (bytes_eq name (codes "all") || is_there files ids name file.Layout
+    || is_there files ids name file.Defaults || is_there files ids name file.User
+    || is_of_extension files ids name (length files.extensions.now))

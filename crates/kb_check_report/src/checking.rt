@@ -1,16 +1,17 @@
 //! The check of some files, from their bytes to what is written.
-ghost use Rattle.std.specs.Prelude.{◌≡◌, [], IfOk, map, option_map};
+ghost use Rattle.std.specs.Prelude.{◌≡◌, [], IfOk, map, not, option_map, ◌||◌};
 ghost use Rattle.std.specs.Option.{option_map_or};
 ghost use Rattle.kb_check.specs.Problems.{files_in};
 ghost use Rattle.kb_check_report.specs.Checking.{Checks, IsPage, position_in, position_of_part};
-ghost use Rattle.kb_check_report.specs.Marks.{mark_of};
+ghost use Rattle.kb_check_report.specs.Marks.{is_shown, mark_of};
+ghost use Rattle.kb_check_report.specs.Whose.{is_unknown};
 ghost use Rattle.kb_jsonc.specs.Reader.{without_mark as text_behind_mark};
 
 use crate::json_lines::write_object;
 use crate::last_line::{write_last_line, write_last_object};
 use crate::marks::{Counts, Mark, counts_of, is_any_shown, is_refusal, marks_of};
 use crate::text_lines::write_problem;
-use crate::whose::unknown_names;
+use crate::whose::{is_any_unknown, unknown_names};
 use kb_base::NoMemory;
 use kb_check::{Findings, find_problems};
 use kb_files::LoadFile;
@@ -206,6 +207,19 @@ fn write_all<W: Write>(
     write_counts(alloc, &counts_of(marks), unknown.as_slice(), form, out)
 }
 
+/// Whether no problem is shown, and each name that was given is of a file.
+fn is_clean(
+    files: &SourceFiles<'_>,
+    found: &Findings,
+    marks: &[Mark],
+    choices: &Choices<'_>,
+) -> bool
+    ensures { result ≡ not (list_any is_shown marks.now
+        || list_any (is_unknown files.now found.now.ids.items) (map (λ name. name.now) choices.now.only.now)) }
+{
+    !(is_any_shown(marks) || is_any_unknown(files, found.ids.as_slice(), choices.only))
+}
+
 /// The mark of each problem that was found in files.
 fn marks_in(
     alloc: Global,
@@ -237,7 +251,7 @@ pub fn check<W: Write + Drop>(
     let marks = marks_in(alloc, files, &found, choices)?;
     write_all(alloc, files, &found, marks.as_slice(), choices, form, out)?;
     match out.flush() {
-        Ok(()) => Ok(!is_any_shown(marks.as_slice())),
+        Ok(()) => Ok(is_clean(files, &found, marks.as_slice(), choices)),
         Err(_) => Err(Stop::NotWritten),
     }
 }

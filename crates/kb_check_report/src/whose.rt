@@ -1,11 +1,11 @@
 //! Whose problems are shown: those of which files.
-ghost use Rattle.std.specs.Prelude.{◌≡◌, false, map, option_map, slice_get};
+ghost use Rattle.std.specs.Prelude.{◌≡◌, false, length, map, option_map, slice_get};
 ghost use Rattle.std.specs.List.{list_any};
 ghost use Rattle.std.specs.Option.{option_map_or};
 ghost use Rattle.kb_base.specs.ExtensionId.{same_id};
 ghost use Rattle.kb_source_files.specs.SourceFiles.{file_of};
-ghost use Rattle.kb_check_report.specs.Whose.{file_word, id_of, is_asked, is_at, is_end, names};
-ghost use Rattle.kb_check_report.specs.Whose.{usual_word};
+ghost use Rattle.kb_check_report.specs.Whose.{file_word, id_of, is_asked, is_at, is_of_extension, is_there};
+ghost use Rattle.kb_check_report.specs.Whose.{is_unknown, names, usual_word};
 
 use kb_base::{NoMemory, Text, same_id};
 use kb_files::LoadFile;
@@ -40,30 +40,12 @@ fn usual_word(files: &SourceFiles<'_>) -> &'static str
     }
 }
 
-/// Whether, behind what both begin with, nothing is left of a name, and a path ends or goes on in the folder.
-fn is_end(name: &[u8], path: &[u8]) -> bool
-    ensures { result ≡ is_end name.now path.now }
-{
-    match (name, path) {
-        ([], []) => true,
-        ([], [b, ..]) => *b == b'/',
-        ([_, ..], _) => false,
-    }
-}
-
 /// Whether a path is this one, or in this folder.
 fn is_at(name: &[u8], path: &[u8]) -> bool
     ensures { result ≡ is_at name.now path.now }
 {
-    let (mut name, mut path) = (name, path);
-    while let ([a, rest @ ..], [b, others @ ..]) = (name, path) {
-        if a != b {
-            break;
-        }
-        name = rest;
-        path = others;
-    }
-    is_end(name, path)
+    path.starts_with(name)
+        && (name.ends_with(&[b'/']) || matches!(path.get(name.len()), None | Some(b'/')))
 }
 
 /// The identifier of the extension that a file is of.
@@ -128,22 +110,22 @@ pub(crate) fn is_asked(files: &SourceFiles<'_>, ids: &[Text], only: &[&str], fil
     }
 }
 
-/// Whether there is a file, and it has a name.
-fn is_there(files: &SourceFiles<'_>, ids: &[Text], file: LoadFile, name: &str) -> bool {
+/// Whether there is such a file, and it has a name.
+fn is_there(files: &SourceFiles<'_>, ids: &[Text], name: &str, file: LoadFile) -> bool
+    ensures { result ≡ is_there files.now ids.now name.now file }
+{
     files.file_of(file).is_some() && names(files, ids, file, name)
 }
 
-/// Whether a file of a load has a name.
-fn is_known(files: &SourceFiles<'_>, ids: &[Text], name: &str) -> bool {
-    if is_there(files, ids, LoadFile::Layout, name)
-        || is_there(files, ids, LoadFile::Defaults, name)
-        || is_there(files, ids, LoadFile::User, name)
-    {
-        return true;
-    }
-    for number in 0..files.extensions.len() {
-        if is_there(files, ids, LoadFile::Package(number), name)
-            || is_there(files, ids, LoadFile::Handlers(number), name)
+/// Whether a file of an extension has a name.
+fn is_of_extension(files: &SourceFiles<'_>, ids: &[Text], name: &str) -> bool
+    ensures { result ≡ is_of_extension files.now ids.now name.now (length files.now.extensions.now) }
+{
+    let mut left = files.extensions.len();
+    while left > 0 {
+        left -= 1;
+        if is_there(files, ids, name, LoadFile::Package(left))
+            || is_there(files, ids, name, LoadFile::Handlers(left))
         {
             return true;
         }
@@ -151,7 +133,31 @@ fn is_known(files: &SourceFiles<'_>, ids: &[Text], name: &str) -> bool {
     false
 }
 
-/// Those of some names that no file of a load has.
+/// Whether a name is of no file.
+fn is_unknown(files: &SourceFiles<'_>, ids: &[Text], name: &str) -> bool
+    ensures { result ≡ is_unknown files.now ids.now name.now }
+{
+    let is_known = name == "all"
+        || is_there(files, ids, name, LoadFile::Layout)
+        || is_there(files, ids, name, LoadFile::Defaults)
+        || is_there(files, ids, name, LoadFile::User)
+        || is_of_extension(files, ids, name);
+    !is_known
+}
+
+/// Whether one of some names is of no file.
+pub(crate) fn is_any_unknown(files: &SourceFiles<'_>, ids: &[Text], all: &[&str]) -> bool
+    ensures { result ≡ list_any (is_unknown files.now ids.now) (map (λ name. name.now) all.now) }
+{
+    for name in all {
+        if is_unknown(files, ids, *name) {
+            return true;
+        }
+    }
+    false
+}
+
+/// Those of some names that are of no file.
 pub(crate) fn unknown_names<'n>(
     alloc: Global,
     files: &SourceFiles<'_>,
@@ -160,7 +166,7 @@ pub(crate) fn unknown_names<'n>(
 ) -> Result<Vec<&'n str>, NoMemory> {
     let mut unknown = Vec::new(alloc);
     for name in all {
-        if !is_known(files, ids, *name) {
+        if is_unknown(files, ids, *name) {
             unknown.push(*name)?;
         }
     }
