@@ -95,9 +95,9 @@ enum { PAFJIRN_LAYOUT = 0, PAFJIRN_DEFAULTS = 1, PAFJIRN_USER = 2 };
  * (registered), a line that was no event (unread line), and what a reload and a change of an extension did.
  *
  * Where runCommands names a command of the host's own, the answer is PAFJIRN_NOT_FOUND, and the record has
- * runCommands with the arguments of the rule. The last line of the trace that begins with `run ` names the
- * command; the number of such lines is its number in the list, from 1. Those above it ran, and those below it
- * didn't. So it is with a command whose arguments don't fit. */
+ * runCommands with the arguments of the rule. PAFJIRN_STEP is the command, and pafjirn_steps its number in
+ * the list, from 1. Those above it ran, and those below it didn't. So it is with a command whose arguments
+ * don't fit. (Don't look for it in the lines of the trace: a command's name may have a line feed in it.) */
 enum {
     PAFJIRN_TRACE = 0,     /* the trace lines of the last event, each with a line feed behind it */
     PAFJIRN_NOTICE = 1,    /* the warnings of the load, or why it was refused, in lines */
@@ -106,7 +106,8 @@ enum {
     PAFJIRN_ARGUMENTS = 4, /* the arguments of its rule as JSON, or nothing */
     PAFJIRN_SOURCE = 5,    /* the file of its rule: defaults, user, or the identifier of an extension */
     PAFJIRN_BEFORE = 6,    /* the text before the caret */
-    PAFJIRN_AFTER = 7      /* the text behind the caret */
+    PAFJIRN_AFTER = 7,     /* the text behind the caret */
+    PAFJIRN_STEP = 8       /* the command of the last step of runCommands that began in the last event */
 };
 
 /* What the last event did, for pafjirn_taken. */
@@ -118,6 +119,9 @@ enum {
 
 /* Texts of an entry of the palette, for pafjirn_entry. */
 enum { PAFJIRN_LABEL = 0, PAFJIRN_ENTRY_COMMAND = 1 };
+
+/* What keycheck writes, for pafjirn_written. */
+enum { PAFJIRN_OUTPUT = 0, PAFJIRN_ERRORS = 1 };
 
 /* Makes an engine without files, on Linux, in the place of what the handle holds, which ends. Behind
  * PAFJIRN_NO_MEMORY the handle keeps what it held.
@@ -225,6 +229,10 @@ PAFJIRN_NONNULL uint32_t pafjirn_taken(pafjirn_handle *engine);
  * empty. */
 PAFJIRN_NONNULL size_t pafjirn_place(pafjirn_handle *engine);
 
+/* Returns how many steps of runCommands began in the last event. PAFJIRN_STEP is the command of the last one.
+ * It is 0 behind any other event, and without an engine. */
+PAFJIRN_NONNULL size_t pafjirn_steps(pafjirn_handle *engine);
+
 /* Returns the number of entries of the last palette, until one of them is chosen. It is 0 without a palette,
  * and without an engine. */
 PAFJIRN_NONNULL size_t pafjirn_entries(pafjirn_handle *engine);
@@ -233,6 +241,50 @@ PAFJIRN_NONNULL size_t pafjirn_entries(pafjirn_handle *engine);
  * Without such an entry or such a `part` the text is empty. */
 PAFJIRN_NONNULL size_t pafjirn_entry(pafjirn_handle *engine, uint32_t number, uint32_t part, size_t from,
                                      uint8_t *into, size_t room);
+
+/* The program keycheck over files in memory, beside the engine: nothing of it changes the session, and the
+ * files of pafjirn_file aren't among those of pafjirn_put. Put the files, add the words of a command line,
+ * run it, and read what it wrote:
+ *
+ *     pafjirn_put(&engine, "keybindings.json", 16, rules, rules_length);
+ *     pafjirn_word(&engine, "keycheck", 8);
+ *     pafjirn_word(&engine, "check", 5);
+ *     pafjirn_word(&engine, "--user", 6);
+ *     pafjirn_word(&engine, "keybindings.json", 16);
+ *     pafjirn_keycheck(&engine);
+ *     size_t length = pafjirn_written(&engine, PAFJIRN_OUTPUT, 0, text, sizeof text);
+ *
+ * (with casts to const uint8_t *). docs/KEYCHECK.md has the command lines, the exit statuses, and what is
+ * written, which is what the program writes, byte for byte. */
+
+/* Copies a file's bytes to a path, in the place of those before. A path is looked for as it is spelled; the
+ * files of an extension in the folder `notes` are at notes/package.json and notes/handlers.json.
+ * Answers: DONE; NO_TEXT for a path that isn't UTF-8; UNKNOWN without an engine; NO_MEMORY. Behind NO_TEXT
+ * and NO_MEMORY nothing changed. */
+PAFJIRN_NONNULL uint32_t pafjirn_put(pafjirn_handle *engine, const uint8_t *path, size_t path_length,
+                                     const uint8_t *bytes, size_t bytes_length);
+
+/* Removes the file at a path, if there is one.
+ * Answers: DONE; NO_TEXT for a path that isn't UTF-8; UNKNOWN without an engine. */
+PAFJIRN_NONNULL uint32_t pafjirn_remove(pafjirn_handle *engine, const uint8_t *path, size_t length);
+
+/* Adds a word to the command line. The first word is the program's name.
+ * Answers: DONE; NO_TEXT for a word that isn't UTF-8; UNKNOWN without an engine; NO_MEMORY. Behind NO_TEXT
+ * and NO_MEMORY nothing changed. */
+PAFJIRN_NONNULL uint32_t pafjirn_word(pafjirn_handle *engine, const uint8_t *word, size_t length);
+
+/* Runs keycheck by the words of the command line, which are gone then, over the files that were put, which
+ * stay. Where memory is refused, the answer is DONE and the exit status 4, as that of the program.
+ * Answers: DONE; UNKNOWN without an engine. */
+PAFJIRN_NONNULL uint32_t pafjirn_keycheck(pafjirn_handle *engine);
+
+/* Returns the exit status of the last run of keycheck. It is 0 before any, and without an engine. */
+PAFJIRN_NONNULL uint32_t pafjirn_status(pafjirn_handle *engine);
+
+/* Copies what the last run of keycheck wrote as pafjirn_read does, and returns its whole length. A `stream`
+ * that stands for nothing, and a handle without an engine, read the empty text. */
+PAFJIRN_NONNULL size_t pafjirn_written(pafjirn_handle *engine, uint32_t stream, size_t from, uint8_t *into,
+                                       size_t room);
 
 #ifdef __cplusplus
 }

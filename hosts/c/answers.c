@@ -40,6 +40,27 @@ static void expect_entry(pafjirn_handle *engine, uint32_t number, uint32_t part,
     expect_bytes(what, room, sizeof room, pafjirn_entry(engine, number, part, 0, room, sizeof room), wants);
 }
 
+/* Reads what the last run of keycheck wrote to a stream, and compares it. */
+static void expect_written(pafjirn_handle *engine, uint32_t stream, const char *wants) {
+    uint8_t room[512];
+    char what[16];
+    snprintf(what, sizeof what, "stream %u", (unsigned)stream);
+    expect_bytes(what, room, sizeof room, pafjirn_written(engine, stream, 0, room, sizeof room), wants);
+}
+
+/* Runs keycheck by the words of a line, and compares its exit status and what it wrote. */
+static void expect_keycheck(pafjirn_handle *engine, const char *line, uint32_t status, const char *output,
+                            const char *errors) {
+    char words[64];
+    snprintf(words, sizeof words, "keycheck %s", line);
+    for (const char *word = strtok(words, " "); word; word = strtok(NULL, " "))
+        expect(word, pafjirn_word(engine, TEXT(word)), PAFJIRN_DONE);
+    expect(line, pafjirn_keycheck(engine), PAFJIRN_DONE);
+    expect("its status", pafjirn_status(engine), status);
+    expect_written(engine, PAFJIRN_OUTPUT, output);
+    expect_written(engine, PAFJIRN_ERRORS, errors);
+}
+
 /* Compares the record of the last event: what it did, and its texts. */
 static void expect_record(pafjirn_handle *engine, uint32_t kind, const char *chord, const char *command,
                           const char *arguments, const char *source) {
@@ -92,6 +113,25 @@ static void dead_handles(void) {
     pafjirn_free(&dead);
     pafjirn_free(&dead);
     expect("a key after the end", pafjirn_key(&dead, TEXT("a")), PAFJIRN_UNKNOWN);
+}
+
+/* keycheck with a handle that never had an engine, and with one whose engine ended. */
+static void keycheck_without_an_engine(void) {
+    pafjirn_handle dead = {0};
+    uint8_t room[4] = "abc";
+    for (int time = 0; time < 2; time++) {
+        expect("a file without an engine", pafjirn_put(&dead, TEXT("k"), TEXT("[]")), PAFJIRN_UNKNOWN);
+        expect("a removal without an engine", pafjirn_remove(&dead, TEXT("k")), PAFJIRN_UNKNOWN);
+        expect("a word without an engine", pafjirn_word(&dead, TEXT("keycheck")), PAFJIRN_UNKNOWN);
+        expect("keycheck without an engine", pafjirn_keycheck(&dead), PAFJIRN_UNKNOWN);
+        expect("a status without an engine", pafjirn_status(&dead), 0);
+        expect("a stream without an engine", pafjirn_written(&dead, PAFJIRN_ERRORS, 0, room, sizeof room), 0);
+        expect("the room after it", (unsigned long)memcmp(room, "abc", 4), 0);
+        if (time) return;
+        expect("an engine", pafjirn_new(&dead), PAFJIRN_DONE);
+        expect_keycheck(&dead, "list --user k", 3, "", "cannot read k: there is no such file\n");
+        pafjirn_free(&dead);
+    }
 }
 
 static void out_of_order(void) {
@@ -217,7 +257,9 @@ static void chords_and_steps(void) {
     pafjirn_handle engine = {0};
     load(&engine, "{\"scopes\":[{\"name\":\"window\"}]}",
          "[{\"key\":\"a b\",\"command\":\"runCommands\",\"args\":{\"commands\":[\"buffer.top\",\"my.own\"]}},"
-         "{\"key\":\"c\",\"command\":\"type\",\"args\":[]}]",
+         "{\"key\":\"c\",\"command\":\"type\",\"args\":[]},"
+         "{\"key\":\"d\",\"command\":\"runCommands\","
+         "\"args\":{\"commands\":[\"buffer.top\",\"x\\nrun y\"]}}]",
          "{\"name\":\"e\",\"publisher\":\"p\"}");
     expect("a first keystroke", pafjirn_key(&engine, TEXT("a")), PAFJIRN_DONE);
     expect_record(&engine, PAFJIRN_CHORDING, "a", "", "", "");
@@ -226,7 +268,69 @@ static void chords_and_steps(void) {
                   "{\"commands\":[\"buffer.top\",\"my.own\"]}", "user");
     expect_text(&engine, PAFJIRN_TRACE,
                 "key a b: start runCommands\nrun buffer.top\ndone \"\" \"\"\nrun my.own\nnot found my.own\n");
+    expect("the steps that began", pafjirn_steps(&engine), 2);
+    expect_text(&engine, PAFJIRN_STEP, "my.own");
     expect("bad arguments", pafjirn_key(&engine, TEXT("c")), PAFJIRN_BAD_ARGUMENTS);
+    expect("the steps of another command", pafjirn_steps(&engine), 0);
+    expect_text(&engine, PAFJIRN_STEP, "");
+    expect("a step with a line feed", pafjirn_key(&engine, TEXT("d")), PAFJIRN_NOT_FOUND);
+    expect("its number", pafjirn_steps(&engine), 2);
+    expect_text(&engine, PAFJIRN_STEP, "x\nrun y");
+    pafjirn_free(&engine);
+    expect("the steps without an engine", pafjirn_steps(&engine), 0);
+}
+
+/* What keycheck shows of a rule without a command. */
+#define SHOWN \
+    "k:1:2: error: 40 MissingMember: the rule has no member `command`; the rule is dropped\n" \
+    "    [{\"key\":\"a\"}]\n     ^\n1 problem: 1 error\n"
+
+/* keycheck over files that are put, put again and removed. */
+static void keychecks(void) {
+    pafjirn_handle engine = {0};
+    expect("an engine", pafjirn_new(&engine), PAFJIRN_DONE);
+    expect("the status before a run", pafjirn_status(&engine), 0);
+    expect_written(&engine, PAFJIRN_OUTPUT, "");
+    expect_written(&engine, PAFJIRN_ERRORS, "");
+    expect("a file", pafjirn_put(&engine, TEXT("k"), TEXT("[{\"key\":\"a\"}]")), PAFJIRN_DONE);
+    expect("no text of a path", pafjirn_put(&engine, TEXT("\xff"), TEXT("[]")), PAFJIRN_NO_TEXT);
+    expect("no text of a path to remove", pafjirn_remove(&engine, TEXT("\xff")), PAFJIRN_NO_TEXT);
+    expect("a path without a file", pafjirn_remove(&engine, TEXT("l")), PAFJIRN_DONE);
+    expect_keycheck(&engine, "check --user k", 1, SHOWN, "");
+    expect_written(&engine, 2, "");
+    expect_keycheck(&engine, "check --user l", 3, "", "cannot read l: there is no such file\n");
+    expect_keycheck(&engine, "check --user k", 1, SHOWN, "");
+    expect("the word of a run without others", pafjirn_word(&engine, TEXT("keycheck")), PAFJIRN_DONE);
+    expect("no text of a word", pafjirn_word(&engine, TEXT("\xff")), PAFJIRN_NO_TEXT);
+    expect("its run", pafjirn_keycheck(&engine), PAFJIRN_DONE);
+    expect("its status", pafjirn_status(&engine), 2);
+    expect_written(&engine, PAFJIRN_OUTPUT, "");
+    expect("a file in its place", pafjirn_put(&engine, TEXT("k"), TEXT("[]")), PAFJIRN_DONE);
+    expect_keycheck(&engine, "check --user k", 0, "", "");
+    expect("a removal", pafjirn_remove(&engine, TEXT("k")), PAFJIRN_DONE);
+    expect("a second one", pafjirn_remove(&engine, TEXT("k")), PAFJIRN_DONE);
+    expect_keycheck(&engine, "check --user k", 3, "", "cannot read k: there is no such file\n");
+    pafjirn_free(&engine);
+}
+
+/* keycheck beside a session: both streams of a run, parts of them, and a session that stays as it was. */
+static void keycheck_beside_a_session(void) {
+    pafjirn_handle engine = {0};
+    uint8_t room[8] = "abcdefg";
+    load(&engine, "{\"scopes\":[{\"name\":\"window\"}]}",
+         "[{\"key\":\"a\",\"command\":\"type\",\"args\":\"A\"}]", "{\"name\":\"e\",\"publisher\":\"p\"}");
+    expect("a press", pafjirn_key(&engine, TEXT("a")), PAFJIRN_DONE);
+    expect("a script", pafjirn_put(&engine, TEXT("s"), TEXT("set window k 1\nno line\n")), PAFJIRN_DONE);
+    expect_keycheck(&engine, "context --script s", 0, "k: 1 (window)\n", "script: unread line 2\n");
+    expect("a part", pafjirn_written(&engine, PAFJIRN_OUTPUT, 3, room, 1), 14);
+    expect("its byte and the one behind it", (unsigned long)memcmp(room, "1bc", 3), 0);
+    expect("a part past the end", pafjirn_written(&engine, PAFJIRN_ERRORS, 100, room, sizeof room), 22);
+    expect("the room after it", (unsigned long)memcmp(room, "1bcdefg", 8), 0);
+    expect_text(&engine, PAFJIRN_TRACE, "key a: start type\ndone \"A\" \"\"\n");
+    expect_record(&engine, PAFJIRN_STARTED, "a", "type", "\"A\"", "user");
+    expect("a press after it", pafjirn_key(&engine, TEXT("a")), PAFJIRN_DONE);
+    expect_text(&engine, PAFJIRN_BEFORE, "AA");
+    expect_written(&engine, PAFJIRN_OUTPUT, "k: 1 (window)\n");
     pafjirn_free(&engine);
 }
 
@@ -257,11 +361,14 @@ static void two_engines(void) {
 
 int main(void) {
     dead_handles();
+    keycheck_without_an_engine();
     out_of_order();
     refusals();
     context_keys();
     palettes();
     chords_and_steps();
+    keychecks();
+    keycheck_beside_a_session();
     two_engines();
     return wrong;
 }

@@ -1,6 +1,6 @@
 """Checks what the module returns and raises: for numbers out of range, for texts that a line can't contain,
-for calls from another thread, and after an engine is closed. It prints each difference from what the module
-documents. The status is 0 if there is none. tools/check-hosts runs it."""
+for calls from another thread, after an engine is closed, and for runs of keycheck. It prints each difference
+from what the module documents. The status is 0 if there is none. tools/check-hosts runs it."""
 
 from __future__ import annotations
 
@@ -11,8 +11,8 @@ import threading
 from collections.abc import Callable, Iterator
 from typing import Any
 
-from pafjirn import Ending, Engine, EngineError, Entry, File, Kind, LibraryNotFound, LoadRefused
-from pafjirn import OutOfRange, Platform, WrongThread
+from pafjirn import Checked, Ending, Engine, EngineError, Entry, File, Keycheck, Kind, LibraryNotFound
+from pafjirn import LoadRefused, OutOfRange, Platform, Step, WrongThread
 
 LAYOUT = b'{"scopes": [{"name": "window"}, {"name": "editor", "parent": "window"}]}'
 RULES = b"""[
@@ -20,6 +20,7 @@ RULES = b"""[
     { "key": "x", "command": "type", "args": "n", "when": "number == -9223372036854775808" },
     { "key": "x", "command": "type", "args": "l", "when": "'b' in list" },
     { "key": "y", "command": "my.own", "args": null },
+    { "key": "s", "command": "runCommands", "args": { "commands": ["buffer.top", "x\\nrun y"] } },
     { "key": "z z", "command": "my.own" },
 ]"""
 MANIFEST = """{
@@ -91,6 +92,9 @@ def records(engine: Engine) -> Iterator[tuple[str, bool]]:
     yield "a command of the host's own", (own.ending, own.command) == (Ending.NOT_FOUND, "my.own")
     yield "its rule", (own.source, own.place) == ("user", 3)
     yield "its arguments", own.arguments is None and own.arguments_json in {None, "null"}
+    yield "no step", own.step is None
+    listed = engine.press("s")
+    yield "a step", (listed.ending, listed.step) == (Ending.NOT_FOUND, Step(2, "x\nrun y"))
     yield "a chord", engine.press("z").kind == Kind.CHORDING
     yield "no arguments", engine.press("z").arguments_json is None
     yield "no key", raises(EngineError, lambda: engine.press("nokey"))
@@ -137,12 +141,61 @@ def ends() -> Iterator[tuple[str, bool]]:
     yield "no library", raises(LibraryNotFound, lambda: Engine("/nowhere.so"))
 
 
+# What keycheck writes about a rule without a command at a path with a letter of two bytes.
+SHOWN = """ü/keys:2:3: error: 40 MissingMember: the rule has no member `command`; the rule is dropped
+      {"key":"a"} ]
+      ^
+1 problem: 1 error
+"""
+
+
+def keychecks() -> Iterator[tuple[str, bool]]:
+    """Runs of keycheck over files in memory."""
+    words = ("check", "--user", "ü/keys")
+    with Keycheck() as keycheck, Keycheck() as other:
+        keycheck.put("ü/keys", b'[\n  {"key":"a"} ]')
+        yield "a problem", keycheck.run(*words) == Checked(1, SHOWN, "")
+        yield "a second run", keycheck.run(*words) == Checked(1, SHOWN, "")
+        yield "the files of another", other.run(*words).status == 3
+        keycheck.put("ü/keys", b"[]")
+        yield "no problem", keycheck.run(*words) == Checked(0, "", "")
+        keycheck.remove("ü/keys")
+        keycheck.remove("ü/keys")
+        missing = Checked(3, "", "cannot read ü/keys: there is no such file\n")
+        yield "no file", keycheck.run(*words) == missing
+        yield "no UTF-8 among words", raises(UnicodeEncodeError, lambda: keycheck.run("check", "\ud800"))
+        no_text: Any = b"\xff"
+        yield "no text of a word", raises(EngineError, lambda: keycheck.run("check", no_text))
+        yield "no text of a path", raises(EngineError, lambda: keycheck.put(no_text, b""))
+        yield "no text of a path to remove", raises(EngineError, lambda: keycheck.remove(no_text))
+        yield "no words of runs before", keycheck.run("--version").output.startswith("keycheck ")
+        yield "no words", keycheck.run().status == 2
+        not_bytes: Any = "[]"
+        yield "a text as a file", raises(ctypes.ArgumentError, lambda: keycheck.put("k", not_bytes))
+        yield "calls from another thread", all(of_another_thread(keycheck))
+    yield "a run after the end", raises(EngineError, lambda: keycheck.run("--version"))
+    yield "a file after the end", raises(EngineError, lambda: keycheck.put("k", b""))
+    yield "no library", raises(LibraryNotFound, lambda: Keycheck("/nowhere.so"))
+
+
+def of_another_thread(keycheck: Keycheck) -> list[bool]:
+    """For each call of another thread whether it raises WrongThread."""
+    found: list[bool] = []
+    calls: list[Callable[[], object]] = [lambda: keycheck.run("--version"), lambda: keycheck.put("k", b"")]
+    calls += [lambda: keycheck.remove("k"), keycheck.close]
+    other = threading.Thread(target=lambda: found.extend(raises(WrongThread, it) for it in calls))
+    other.start()
+    other.join()
+    return found if len(found) == len(calls) else [False]
+
+
 def main() -> int:
     wrong = []
     with loaded() as engine:
         for test in [numbers, values, records, threads]:
             wrong += [name for name, is_right in test(engine) if not is_right]
-    wrong += [name for name, is_right in ends() if not is_right]
+    for more in [ends, keychecks]:
+        wrong += [name for name, is_right in more() if not is_right]
     for name in wrong:
         print(f"{name}: not as hosts/python/pafjirn documents")
     return 1 if wrong else 0

@@ -9,6 +9,9 @@ const ROOM = 16384;
 // A handle is a pointer and a truth value.
 const HANDLE = 16;
 
+/** What only the modules of this package hand to constructors. */
+export const OF_MODULE = Symbol("the constructor's secret");
+
 /** An instance of pafjirn.wasm. Its engines share its memory, and nothing else. */
 export class Module {
   #exports;
@@ -129,4 +132,12 @@ export class Module {
     if (!made) throw new EngineError(ANSWERS.NO_MEMORY);
     return made;
   }
+}
+
+/** The bytes of what is given, or the text. */
+export function bytesOf(text) {
+  if (typeof text === "string" || text instanceof Uint8Array) return text;
+  if (text instanceof ArrayBuffer) return new Uint8Array(text);
+  if (ArrayBuffer.isView(text)) return new Uint8Array(text.buffer, text.byteOffset, text.byteLength);
+  throw new TypeError("give a text, or bytes");
 }

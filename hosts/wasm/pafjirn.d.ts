@@ -60,6 +60,9 @@ export interface EventRecord {
   /** The file of the rule (`defaults`, `user`, or the identifier of an extension) and the number of elements
    * above it there; null without a rule. */
   readonly rule: { readonly source: string; readonly place: number } | null;
+  /** The last step of `runCommands` that began, with its number from 1; null if no list ran. Those above it
+   * ran, and those below it didn't. */
+  readonly step: { readonly number: number; readonly command: string } | null;
   /** Why the event was refused. */
   readonly refusal: Fault | null;
   /** The command of the host that ran (`Engine.command`). */
@@ -167,11 +170,41 @@ export class Engine {
   [Symbol.dispose](): void;
 }
 
+/** How a run of keycheck ended, and what it wrote (docs/KEYCHECK.md). */
+export interface Checked {
+  /** The exit status. */
+  readonly status: number;
+  /** Standard output. */
+  readonly output: string;
+  /** Standard error. */
+  readonly errors: string;
+}
+
+/** The program keycheck over files in memory. Dispose of it, or let it go. */
+export class Keycheck {
+  private constructor();
+  /** Puts a file at a path, in the place of the one before. A path is looked for as it is spelled; an
+   * extension in the folder `notes` has notes/package.json and perhaps notes/handlers.json. */
+  put(path: string, text: Text): void;
+  /** Removes the file at a path, if there is one. */
+  remove(path: string): void;
+  /** Runs keycheck by the words of a command line, without the program's name, over the files, which stay. */
+  run(...words: string[]): Checked;
+  /** Ends it and gives its memory back. Any later call but this throws `Unknown`. */
+  dispose(): void;
+  [Symbol.dispose](): void;
+}
+
+/** The program keycheck, without files, in the module of `Engine.load`. */
+export function keycheck(): Promise<Keycheck>;
+
 /** A module in memory. Its engines share its memory, and nothing else. */
 export class Pafjirn {
   private constructor();
   /** Loads an engine of files. Throws LoadRefused if a file is refused. */
   load(files?: Files): Engine;
+  /** The program keycheck, without files. */
+  keycheck(): Keycheck;
   /** How many bytes of the module's memory are in use. */
   readonly bytesInUse: number;
   /** How many bytes of memory the module has. It never becomes less. */

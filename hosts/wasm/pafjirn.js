@@ -12,15 +12,18 @@
 // synchronous, and take some microseconds. tools/build-wasm makes the module pafjirn.wasm.
 
 import { ANSWERS, EngineError, LoadRefused } from "./errors.js";
+import { Keycheck } from "./keycheck.js";
 import { keystroke } from "./keys.js";
-import { Module } from "./module.js";
+import { Module, OF_MODULE, bytesOf } from "./module.js";
 
-export { EngineError, LoadRefused, keystroke };
+export { EngineError, Keycheck, LoadRefused, keystroke };
 
 // The numbers of include/pafjirn.h. tools/check-wasm compares them.
 const FILES = { layout: 0, defaults: 1, user: 2 };
 const PLATFORMS = { linux: 0, mac: 1, windows: 2 };
-const PARTS = { trace: 0, notice: 1, chord: 2, command: 3, arguments: 4, source: 5, before: 6, after: 7 };
+const PARTS = {
+  trace: 0, notice: 1, chord: 2, command: 3, arguments: 4, source: 5, before: 6, after: 7, step: 8,
+};
 const ENTRY_PARTS = { label: 0, entryCommand: 1 };
 const TAKEN = { nothing: 0, chording: 1, started: 2 };
 
@@ -34,7 +37,6 @@ const NATIVES = [
   "type", "deleteLeft", "deleteRight", "cursorLeft", "cursorRight", "buffer.clear", "buffer.top",
   "buffer.bottom", "setContext",
 ];
-const OF_MODULE = Symbol("the constructor's secret");
 
 /** An engine that is loaded. */
 export class Engine {
@@ -241,7 +243,7 @@ export class Engine {
 
   #record(ending) {
     const source = this.#read(PARTS.source), written = this.#read(PARTS.arguments);
-    const trace = this.#read(PARTS.trace);
+    const trace = this.#read(PARTS.trace), step = Number(this.#call("steps"));
     return {
       ending,
       kind: KINDS[this.#call("taken")],
@@ -250,6 +252,7 @@ export class Engine {
       arguments: written === "" ? undefined : JSON.parse(written),
       argumentsJson: written === "" ? null : written,
       rule: source === "" ? null : { source, place: Number(this.#call("place")) },
+      step: step === 0 ? null : { number: step, command: this.#read(PARTS.step) },
       refusal: refusalIn(trace),
       ranBy: null,
       trace,
@@ -301,6 +304,11 @@ export class Pafjirn {
     return new Engine(OF_MODULE, this.#module, files);
   }
 
+  /** The program keycheck, without files. */
+  keycheck() {
+    return new Keycheck(OF_MODULE, this.#module);
+  }
+
   /** How many bytes of the module's memory are in use. */
   get bytesInUse() {
     return Number(this.#module.call("in_use"));
@@ -315,6 +323,11 @@ export class Pafjirn {
   get dead() {
     return this.#module.dead;
   }
+}
+
+/** The program keycheck, without files, in the module of `Engine.load`. */
+export async function keycheck() {
+  return (await shared()).keycheck();
 }
 
 // The module of Engine.load. If it died, another one takes its place.
@@ -366,11 +379,9 @@ function refusalIn(trace) {
 }
 
 // The command that the engine lacks, and its arguments. Of runCommands it is the last one that began.
-function missingIn(record) {
-  if (record.command !== "runCommands") return { name: record.command, value: record.arguments };
-  const began = record.trace.split("\n").filter((line) => line.startsWith("run "));
-  const step = record.arguments?.commands?.[began.length - 1];
-  return typeof step === "string" ? { name: step } : { name: step?.command, value: step?.args };
+function missingIn({ command, arguments: value, step }) {
+  if (step === null) return { name: command, value };
+  return { name: step.command, value: value?.commands?.[step.number - 1]?.args };
 }
 
 function linesOf(text) {
@@ -403,11 +414,4 @@ function decoded(text) {
     if (wrong instanceof RangeError) throw wrong;
     throw new EngineError(ANSWERS.NO_TEXT, { cause: wrong });
   }
-}
-
-function bytesOf(text) {
-  if (typeof text === "string" || text instanceof Uint8Array) return text;
-  if (text instanceof ArrayBuffer) return new Uint8Array(text);
-  if (ArrayBuffer.isView(text)) return new Uint8Array(text.buffer, text.byteOffset, text.byteLength);
-  throw new TypeError("give a text, or bytes");
 }

@@ -2,7 +2,7 @@
 
 import re
 
-COUNTED = re.compile(r"(\d+) passed, (\d+) failed\s*\Z")
+COUNTED = re.compile(r"^(\d+) passed, (\d+) failed\s*\Z", re.MULTILINE)
 
 
 class Counts:
@@ -18,22 +18,29 @@ class Counts:
         if not is_right:
             print("check-wasm: " + what, flush=True)
 
+    def add_many(self, passed, failed):
+        """Counts checks of which each failure was said before."""
+        self.passed += passed
+        self.failed += failed
+
     def skip(self, what, tool):
         """Counts a part that needs a tool which isn't installed."""
         self.skipped += 1
         print(f"check-wasm: {what} is skipped, since {tool} isn't installed", flush=True)
 
     def add_run(self, name, ran):
-        """Counts the checks of a run whose last line says how many passed and failed."""
+        """Counts the checks of a run whose last line says how many passed and failed, and prints its other
+        lines."""
         status, out, said = ran
-        text = (out + said).decode(errors="replace")
-        found = COUNTED.search(out.decode(errors="replace"))
+        out, said = (it.decode(errors="replace") for it in (out, said))
+        found = COUNTED.search(out)
         self.passed += int(found[1]) if found else 0
-        self.failed += int(found[2]) if found else 1
-        if not found or found[2] != "0" or status:
-            print(f"check-wasm: {name}:\n{text}", flush=True)
-        elif len(lines := text.splitlines()) > 1:
-            print("\n".join(f"{name}: {it}" for it in lines[:-1]), flush=True)
+        self.failed += max(int(found[2]), int(status != 0)) if found else 1
+        # (the gate counts each line of counts that it finds)
+        for line in (out[: found.start()] if found else out).splitlines() + said.splitlines():
+            print(f"{name}: {line}", flush=True)
+        if not found or status:
+            print(f"check-wasm: {name} ends with status {status}", flush=True)
 
     def line(self):
         return f"{self.passed} passed, {self.failed} failed, {self.skipped} skipped"

@@ -1,5 +1,6 @@
 """What tools/check-wasm tests in Node."""
 
+import json
 import os
 import re
 import shlex
@@ -10,6 +11,8 @@ import tempfile
 from shared.kit import TOP
 from shared.programs import run_program
 from wasm.binary import least_pages, with_memory
+from wasm.golden_sessions import json_texts
+from wasm.sessions import check_sessions
 
 HOST = os.path.join(TOP, "hosts/wasm")
 TESTS = os.path.join(HOST, "tests")
@@ -26,13 +29,17 @@ LIMIT = 1800
 HEAP_CALLS = 300_000
 PRESSES = 1_000_000
 # By how many pages the small fixed memory is larger than the least, and how many pages the one for hostile
-# files has.
-PAGES, MOST_PAGES = 16, 16384
+# files has: 1536 MiB, of which the costliest of them needs between 1024 and 1280.
+PAGES, MOST_PAGES = 16, 24576
 # How tsc is called.
 TYPES = ["--strict", "--noEmit", "--target", "es2022", "--lib", "es2022,dom"]
 TYPES += ["--module", "node16", "--moduleResolution", "node16"]
 # The objects of the package that have the numbers of the header.
-NUMBERS = {"errors.js": ["ANSWERS"], "pafjirn.js": ["FILES", "PLATFORMS", "PARTS", "ENTRY_PARTS", "TAKEN"]}
+NUMBERS = {
+    "errors.js": ["ANSWERS"],
+    "keycheck.js": ["STREAMS"],
+    "pafjirn.js": ["FILES", "PLATFORMS", "PARTS", "ENTRY_PARTS", "TAKEN"],
+}
 
 
 def node(prefix, test, *words, flags=()):
@@ -160,16 +167,27 @@ def snippet_of(page):
     return code, re.sub("^    ", "", re.search(r"^It prints\n\n((?:    .*\n)+)", rest, re.M)[1], flags=re.M)
 
 
+def check_places(prefix, room, counts):
+    """Checks where the page finds syntax errors, on the golden texts of the engine."""
+    listed = os.path.join(room, "texts.json")
+    with open(listed, "w", encoding="utf-8") as file:
+        json.dump(list(json_texts()), file)
+    counts.add_run("syntax errors", node(prefix, "places.js", listed))
+
+
 def check_in_node(words, prefix, tests, counts):
     """All tests in Node."""
+    check_header(prefix, counts)
     if not shutil.which("node"):
         counts.skip("all that runs in Node", "node")
         return
-    check_header(prefix, counts)
     with tempfile.TemporaryDirectory() as room:
         check_output(prefix, words.keyrun, room, counts)
+    with tempfile.TemporaryDirectory() as room:
+        check_sessions(words, lambda path: node(prefix, "sessions.js", path), room, counts, LIMIT)
     counts.add_run("answers", node(prefix, "answers.js", flags=["--expose-gc"]))
     with tempfile.TemporaryDirectory() as room:
+        check_places(prefix, room, counts)
         check_package(prefix, room, counts)
     if words.quick:
         return

@@ -1,16 +1,17 @@
 """What tools/check-wasm tests on the page, in Chromium."""
 
-import base64
 import contextlib
 import functools
 import http.server
 import json
 import os
 import re
+import shutil
 import tempfile
 import threading
 
 from shared.browser import Browser, chromium
+from wasm.golden_page import check_golden
 
 # The policy of the page is its own, so any server does. A type that isn't known would stop the module.
 KINDS = {".js": "text/javascript", ".wasm": "application/wasm"}
@@ -40,23 +41,44 @@ var control = (...words) => [...document.querySelectorAll("[data-control]")]
 true"""
 OPENED = "new Promise((done) => { const look = () => document.documentElement?.dataset.ready === undefined"
 OPENED += " ? setTimeout(look, 20) : done(true); look(); })"
+# The page says something.
+SAYS = "new Promise((done) => { const look = () => document.getElementById('status')?.textContent"
+SAYS += " ? done(true) : setTimeout(look, 20); look(); })"
 # The elements that can have the focus, and that nothing names.
 UNNAMED = """[...document.querySelectorAll("button, input, select, textarea, [tabindex]")].filter((it) =>
   !(it.labels?.length || it.ariaLabel || it.getAttribute("aria-labelledby") || it.textContent.trim()))
   .map((it) => it.outerHTML)"""
-# The ratio of contrast of the text of an element and what is behind it.
-CONTRAST = """((id) => {
-  const parse = (it) => it.match(/[\\d.]+/g).map(Number);
-  const light = ([r, g, b]) => [r, g, b].map((it) => it / 255)
+# The texts of which the contrast to what is behind them is less than 4.5.
+FAINT = r"""(() => {
+  const parse = (it) => { const [r, g, b, a = 1] = it.match(/[\d.]+/g).map(Number); return [r, g, b, a]; };
+  const over = ([r, g, b, a], below) => [r, g, b].map((it, at) => it * a + below[at] * (1 - a));
+  const light = (color) => color.map((it) => it / 255)
     .map((it) => it <= 0.03928 ? it / 12.92 : ((it + 0.055) / 1.055) ** 2.4)
     .reduce((sum, it, place) => sum + it * [0.2126, 0.7152, 0.0722][place], 0);
-  const probe = document.createElement("p");
-  probe.style.color = "Canvas";
-  document.body.append(probe);
-  const [one, other] = [getComputedStyle(at(id)).color, getComputedStyle(probe).color].map(parse).map(light);
-  probe.remove();
-  return (Math.max(one, other) + 0.05) / (Math.min(one, other) + 0.05);
-})(%s)"""
+  const canvas = Object.assign(document.createElement("p"), { style: "background: Canvas" });
+  document.body.append(canvas);
+  const page = parse(getComputedStyle(canvas).backgroundColor);
+  canvas.remove();
+  const behind = (it) =>
+    it ? over(parse(getComputedStyle(it).backgroundColor), behind(it.parentElement)) : page;
+  const hasText = (it) => it.value || [...it.childNodes].some((one) => one.nodeType === 3 && one.data.trim());
+  const isFaint = (it) => {
+    const below = behind(it), above = over(parse(getComputedStyle(it).color), below);
+    const [one, other] = [above, below].map(light);
+    return (Math.max(one, other) + 0.05) / (Math.min(one, other) + 0.05) < 4.5;
+  };
+  const seen = [...document.querySelectorAll("body *:not(option)")].filter((it) => it.checkVisibility());
+  const faint = seen.filter((it) => hasText(it) && !it.disabled && isFaint(it));
+  return faint.map((it) => it.outerHTML.slice(0, 100));
+})()"""
+# A module that traps at each line.
+TRAPPING = """
+const whole = WebAssembly.instantiateStreaming;
+WebAssembly.instantiateStreaming = async (...given) => {
+  const { instance } = await whole.apply(WebAssembly, given);
+  const trap = () => { throw new WebAssembly.RuntimeError("unreachable"); };
+  return { instance: { exports: { ...instance.exports, pafjirn_line: trap } } };
+};"""
 RULES = """[{"key": "f2", "command": "my.own", "args": {"n": 9007199254740993}},
   {"key": "a"}, {"key": "b b", "command": "x"}]"""
 COMMANDS = [{"command": "buffer.top", "title": "Go to Top"}, {"command": "x", "title": "Other"}]
@@ -101,6 +123,15 @@ class Page:
     def focus(self, name):
         self.run(f"at({json.dumps(name)}).focus()")
 
+    def type(self, text):
+        self.browser.call("Input.insertText", text=text)
+
+    def drop(self, paths):
+        """Drops files and folders, as a file manager does."""
+        data = {"items": [], "files": paths, "dragOperationsMask": 1}
+        for kind in ["dragEnter", "dragOver", "drop"]:
+            self.browser.call("Input.dispatchDragEvent", type=kind, x=200, y=200, data=data)
+
     def is_(self, what, expression, wanted):
         """Checks the value of an expression, or the text of an element."""
         is_name = re.fullmatch("[a-z-]+", expression)
@@ -140,6 +171,9 @@ def with_keys(page):
     page.is_("the tab key is a key", "chord", "tab")
     page.press("Escape", "Escape", ["shift"])
     page.is_("shift+escape leaves the text", "document.activeElement.id", "key")
+    page.run("at('key').value = 'ctrl+j  alt+j'; at('press').requestSubmit()")
+    last = "shown('trace').trim().split('\\n').slice(-2).join()"
+    page.is_("keys by name", last, "key ctrl+j: unbound,key alt+j: unbound")
     page.run("at('key').value = 'ctrl+k'; at('press').requestSubmit()")
     page.is_("a key by its name", "open", "ctrl+k")
     page.run("at('key').value = 'ctrl+nothing'; at('press').requestSubmit()")
@@ -176,6 +210,14 @@ def with_context_keys(page):
     page.run("control('window', 'language').value = '1.5'")
     page.run("control('window', 'language').dispatchEvent(new Event('change'))")
     page.is_("a value that no key has", "control('window', 'language').value", '"markdown"')
+    page.is_("why", "shown('status').startsWith('1.5 is no value of a context key.')", True)
+    page.run("at('unset').click()")
+    page.is_("a key is unset", "status", "deep unset in window: done.")
+    page.is_("its control", "control('window', 'deep') === undefined", True)
+    page.run("at('set-key').value = 'two words'; at('set').requestSubmit()")
+    page.is_("no key", "status", "A key is a word without spaces.")
+    offered = "[...at('known-keys').children].map((it) => it.value).join()"
+    page.is_("the keys of the clauses", offered, "dirty")
 
 
 def with_files(page):
@@ -193,9 +235,20 @@ def with_files(page):
     page.run(f"pasted({json.dumps(MANIFEST)})")
     page.wait("a manifest is pasted", "at('file').options.length === 5")
     page.is_("its name", "at('file').options[3].textContent", "p.e/package.json")
+    page.run("at('file').value = 'manifest 0'; at('file').onchange()")
+    page.is_("what the button removes", "at('remove').textContent", "Remove this extension")
+    page.run("at('remove').click()")
+    page.is_("an extension is removed", "at('file').options.length", 3)
+    page.run("at('back').click()")
+    page.is_("and comes back", "at('file').options.length", 5)
+    page.run("at('file').value = 'user'; at('file').onchange()")
+
+
+def with_a_text(page):
+    """Changes the text of a file: the events are told again."""
     page.run("at('source').value = '['; at('source').dispatchEvent(new Event('input'))")
     page.wait("a load that is refused", "at('problems').querySelector('.refused')")
-    refused = "keybindings.json: Syntax: the text isn't JSON, or nests deeper than 127 levels"
+    refused = "keybindings.json, line 1: Syntax: the text isn't JSON, or nests deeper than 127 levels"
     page.is_("why", "at('problems').textContent", refused)
     page.focus("text")
     page.press("F2", "F2")
@@ -203,20 +256,60 @@ def with_files(page):
     text = json.dumps(RULES)
     page.run(f"at('source').value = {text}; at('source').dispatchEvent(new Event('input'))")
     page.wait("a load behind it", "!at('problems').querySelector('.refused')")
+    page.focus("text")
+    page.press("F2", "F2")
+    page.is_("an event", "command", "my.own")
+    text = json.dumps(RULES.replace("my.own", "my.other"))
+    page.run(f"at('source').value = {text}; at('source').dispatchEvent(new Event('input'))")
+    page.wait("the events follow the files", "shown('command') === 'my.other'")
+    page.run("at('source').value = '{'; at('source').dispatchEvent(new Event('input'))")
+    page.wait("a load that is refused again", "at('problems').querySelector('.refused')")
+    text = json.dumps(RULES)
+    page.run(f"at('source').value = {text}; at('source').dispatchEvent(new Event('input'))")
+    page.wait("the events stay behind it", "shown('command') === 'my.own'")
+
+
+def with_many_files(page):
+    """Files of other kinds are left out, and extensions stand behind those on which they depend."""
+    needed = json.dumps({"publisher": "p", "name": "needed"})
+    first = json.dumps({"publisher": "p", "name": "first", "extensionDependencies": ["P.needed"]})
+    files = [["a-keybindings.json", RULES], ["keybindings.json", "[]"]]
+    files += [["settings.json", "{}"], ["t.json", "[]"]]
+    page.run("at('over').click()")
+    page.run(f"picked({json.dumps(files)})")
+    said = "Left out: keybindings.json (another file is taken), settings.json (neither rules nor scopes), "
+    said += "t.json (another file is taken)."
+    page.wait("files of other kinds", f"shown('status') === '1 file loaded, with 1 problem. {said}'")
+    page.is_("the rules", "at('source').value.includes('my.own')", True)
+    page.run(f"picked({json.dumps([['any.json', '[]']])})")
+    page.wait("rules by any name", "shown('status') === '1 file loaded, with 0 problems.'")
+    page.run("at('over').click()")
+    paths = [["a/package.json", first], ["b/package.json", needed], ["b/x/y.json", "[5]"]]
+    given = json.dumps([{"path": path, "text": text} for path, text in paths])
+    module = "import('./page/files.js')"
+    inside = f"{module}.then((it) => it.wanted({given}).map(({{ path }}) => path).join())"
+    page.is_("other files of an extension", inside, "a/package.json,b/package.json")
+    order = f"{module}.then((it) => it.taken(it.firstFiles(), {given}).files.extensions"
+    page.is_("the order of extensions", order + ".map(({ folder }) => folder).join())", "b,a")
+    page.run(f"picked({json.dumps([['package.json', needed]])})")
+    page.wait("an extension", "shown('status') === '1 file loaded, with 0 problems.'")
+    page.run(f"pasted({json.dumps(first)})")
+    page.wait("one that depends on it", "at('extensions').children.length === 2")
+    page.run("at('extensions').querySelector('input').click()")
+    why = "an extension can't be disabled, since an enabled one depends on it (p.first)"
+    page.is_("why it isn't disabled", "status", f"disable p.needed: refused: {why}.")
+    page.is_("it is enabled", "at('extensions').querySelector('input').checked", True)
+    page.run("at('over').click()")
 
 
 def with_a_drop(page, room):
-    """Drops a folder and a file, as a file manager does."""
     folder = os.path.join(room, "dropped")
     for name, text in [("my-ext/package.json", MANIFEST), ("default-keys.json", RULES)]:
         path = os.path.join(folder, name)
         os.makedirs(os.path.dirname(path), exist_ok=True)
         with open(path, "w", encoding="utf-8") as file:
             file.write(text)
-    given = [os.path.join(folder, it) for it in ("my-ext", "default-keys.json")]
-    data = {"items": [], "files": given, "dragOperationsMask": 1}
-    for kind in ["dragEnter", "dragOver", "drop"]:
-        page.browser.call("Input.dispatchDragEvent", type=kind, x=200, y=200, data=data)
+    page.drop([os.path.join(folder, it) for it in ("my-ext", "default-keys.json")])
     page.wait("files are dropped", "shown('status') === '2 files loaded, with 1 problem.'")
     page.is_("the extension", "at('file').options[3].textContent", "my-ext/package.json")
     page.is_("its place", "at('problems').querySelector('button').textContent", "defaults.json, line 2")
@@ -257,6 +350,10 @@ def with_state(page):
     page.run("at('over').click()")
     page.is_("a start over", "open", "–")
     page.is_("its files", "at('file').options.length", 3)
+    page.run("at('back').click()")
+    page.is_("the way back", "open", "b")
+    page.run("at('back').click()")
+    page.is_("and again", "at('file').options.length", 3)
     page.open(link)
     page.is_("the state of a link", "open", "b")
     page.is_("its context key", "control('window', 'dirty').checked", True)
@@ -265,37 +362,97 @@ def with_state(page):
     page.focus("text")
     page.press("b", "KeyB", text="b")
     page.is_("the chord ends", "command", "x")
+    page.is_("the address is no link to that", "location.hash", "")
     page.counts.add(bool(trace), "the page: no trace")
+    page.open()
+    page.is_("a link that was used is kept", "command", "x")
+    page.run("at('back').click()")
+    page.is_("the files before the link", "at('file').options.length", 3)
     page.open("#broken")
     page.is_("a broken link", "status", "The link is broken: its end may be missing.")
     page.run("at('over').click()")
 
 
+def with_many_rules(page):
+    """600 default rules, of which the clause of one holds."""
+    rules = [{"key": f"alt+{'abcdef'[at % 6]}", "command": f"c{at}", "when": f"k{at}"} for at in range(600)]
+    text = "[\n" + "".join(json.dumps(it) + ",\n" for it in rules) + "]\n"
+    page.run(f"picked({json.dumps([['defaults.json', text]])})")
+    page.wait("many rules", "shown('status') === '1 file loaded, with 0 problems.'")
+    page.is_("all their keys", "at('known-keys').children.length", 601)
+    page.run("at('set-key').value = 'k300'; at('set-value').value = ''; at('set').requestSubmit()")
+    page.focus("text")
+    page.press("a", "KeyA", ["alt"])
+    page.is_("one of many rules", "rule", "defaults.json, line 302")
+    page.is_("its text", "at('rule-text').textContent", json.dumps(rules[300]))
+    page.run("at('share').click()")
+    page.wait("a link to many rules", "shown('status').startsWith('The link is ')")
+    page.open(page.run("location.hash"))
+    page.is_("the same rule by the link", "rule", "defaults.json, line 302")
+    page.run("at('over').click()")
+
+
+def with_an_engine_that_fails(page, prefix, room):
+    """The page says that its module isn't there, or that it trapped; and it asks no other server."""
+    broken = os.path.join(room, "broken")
+    shutil.copytree(prefix, broken, ignore=shutil.ignore_patterns("*.wasm"))
+    with served(broken) as url:
+        page.browser.call("Page.navigate", url=url)
+        page.run(SAYS)
+        page.run(HELPERS)
+        page.is_("the module isn't there", "/^The engine can't start: .*404/.test(shown('status'))", True)
+        page.open()
+        # (a request without an answer for the page, which only the page's own policy refuses)
+        other = f"fetch({json.dumps(url)}, {{ mode: 'no-cors' }}).then(() => 'sent', () => 'refused')"
+        page.is_("nothing is sent to another server", other, "refused")
+    patched = page.browser.call("Page.addScriptToEvaluateOnNewDocument", source=TRAPPING)["identifier"]
+    page.open()
+    page.run("at('key').value = 'f19'; at('press').requestSubmit()")
+    page.is_("a trap", "status", "The engine trapped: reload the page.")
+    page.browser.call("Page.removeScriptToEvaluateOnNewDocument", identifier=patched)
+    page.open()
+    page.run("at('key').value = 'f19'; at('press').requestSubmit()")
+    page.is_("the page behind it", "status", "f19: no rule matches. The line is empty.")
+
+
 def in_each_look(page):
     page.is_("elements that nothing names", UNNAMED, [])
+    page.run("at('query').focus(); at('keyboard').querySelector('button').click()")
+    page.run("at('status').classList.add('wrong')")
+    page.run("at('source').value = '['; at('source').dispatchEvent(new Event('input'))")
+    page.wait("an error is shown", "at('problems').querySelector('.refused')")
     for scheme in ["light", "dark"]:
         features = [{"name": "prefers-color-scheme", "value": scheme}]
         page.browser.call("Emulation.setEmulatedMedia", features=features)
-        for name in ["status", "chord", "keys-hint"]:
-            ratio = page.run(CONTRAST % json.dumps(name))
-            page.counts.add(ratio >= 4.5, f"the page: the contrast of {name}, {scheme}, is {ratio:.1f}")
-        page.run("at('status').classList.add('wrong')")
-        ratio = page.run(CONTRAST % '"status"')
-        page.counts.add(ratio >= 4.5, f"the page: the contrast of an error, {scheme}, is {ratio:.1f}")
+        page.is_(f"faint texts, {scheme}", FAINT, [])
     size = {"width": 360, "height": 740, "deviceScaleFactor": 1, "mobile": True}
     page.browser.call("Emulation.setDeviceMetricsOverride", **size)
     page.open()
     page.is_("no column is cut off at 360 pixels", "document.documentElement.scrollWidth <= 360", True)
     wide = "[...document.querySelectorAll('main *')].filter((it) => it.getBoundingClientRect().right > 361)"
     page.is_("no element is cut off", wide + ".length", 0)
+    close = "[...at('keyboard').querySelectorAll('button')].map((it) => it.getBoundingClientRect())"
+    close += ".filter((it, at, all) => all[at + 1]?.top === it.top && all[at + 1].x - it.x < 24).length"
+    page.is_("keys that are hard to hit", close, 0)
 
 
-def picture(browser, path):
-    with open(path, "wb") as file:
-        file.write(base64.b64decode(browser.call("Page.captureScreenshot", format="png")["data"]))
+def by_the_tab_key(page):
+    """The Tab key goes through the page, and Shift+Escape leaves the text."""
+    page.open()
+    page.run("document.activeElement.blur()")
+    active = "document.activeElement.id || document.activeElement.tagName.toLowerCase()"
+    gone = []
+    while len(gone) < 100 and "body" not in gone:
+        page.press("Tab", "Tab")
+        gone.append(page.run(active))
+        if gone[-1] == "text":
+            page.press("Escape", "Escape", ["shift"])
+            page.is_("shift+escape leaves the text", "document.activeElement.id", "key")
+    wanted = ["share", "over", "text", "trace", "pick", "file", "source", "set-key", "query", "body"]
+    page.counts.add([it for it in gone if it in wanted] == wanted, f"the page: the Tab key goes to {gone}")
 
 
-def check_on_page(prefix, path, counts):
+def check_on_page(prefix, words, counts):
     """All tests of the page."""
     program = chromium()
     if program is None:
@@ -311,10 +468,15 @@ def check_on_page(prefix, path, counts):
         with_keys(page)
         with_the_picture(page)
         with_context_keys(page)
-        if path:
-            picture(browser, path)
         with_files(page)
+        with_a_text(page)
         with_the_palette(page)
         with_state(page)
         with_a_drop(page, room)
+        with_many_files(page)
+        with_many_rules(page)
+        page.run("at('over').click()")
+        with_an_engine_that_fails(page, prefix, room)
+        check_golden(page, words, counts)
+        by_the_tab_key(page)
         in_each_look(page)

@@ -13,7 +13,9 @@ text is changed where it names the machine:
   call that a trap ended is never followed by another call, since it may have left half of its writes.
 
 A module is refused that has anything else of x86-64, assembly, or a function of C that nobody gives here. Of
-an unproved build the module is that of a program, whose `main` goes, with all that it alone calls. """
+an unproved build the module is that of programs, whose `main` goes, with all that it alone calls. What they
+call of C goes too: if any of it didn't, the linked module would import it, which tools/build-wasm refuses.
+"""
 
 import re
 
@@ -28,8 +30,8 @@ HOW = '"no-builtin-bcmp" "no-builtin-memcmp" "no-builtin-strlen" "target-feature
 HOW += f'"target-cpu"="{PROCESSOR}"'
 # Functions that a module may declare besides those of LLVM: those of heap.c, and the toolchain's own helpers.
 GIVEN = {"rattle_alloc", "rattle_realloc", "rattle_dealloc", "fmod", "fmodf"}
-# What the `main` of an unproved build calls.
-OF_MAIN = {"__sysv_signal", "rattle_arg", "rattle_set_errno", "rattle_errno"}
+# Functions of C that a module may declare, since what calls them goes.
+UNUSED = {"__sysv_signal", "rattle_arg", "rattle_set_errno", "rattle_errno"}
 OF_X86 = re.compile(r' "(probe-stack|stack-probe-size|target-features|tune-cpu)"="[^"]*"| sanitize_address')
 
 # (the module has no words on linkage or visibility but `internal`)
@@ -78,7 +80,7 @@ class Port:
         self.names, self.made, self.has_shuffle = set(names), [], False
         # Of each export the result, the name of the function behind it, and its parameters. An unproved build
         # has no exports, but functions of crates.
-        self.exports, self.of_crates = {}, {}
+        self.exports, self.of_crates, self.declared = {}, {}, set()
 
     def add(self, line):
         if SHUFFLE in line:
@@ -95,7 +97,7 @@ class Port:
         elif line.startswith("attributes #"):
             line = re.sub(r'"target-cpu"="[^"]*"', HOW, OF_X86.sub("", line))
         elif line.startswith("declare"):
-            check_declared(line)
+            self.declared.add(DECLARED.match(line)[1].strip('"'))
         elif line.startswith("define"):
             line = self.defined(line)
         elif re.search(r' asm (sideeffect )?"', line):
@@ -123,18 +125,19 @@ class Port:
         found = self.exports or self.of_crates
         if found.keys() != self.names:
             raise NotPortable("the module lacks " + ", ".join(sorted(self.names - found.keys())))
+        check_declared(self.declared, is_of_programs=not self.exports)
         if self.has_shuffle:
             self.made.append(SHUFFLED % (HOW, ", ".join(["i8 -113"] * 16)))
         return [*self.made, GUARD, *(guarded(name, *it) for name, it in found.items())]
 
 
-def check_declared(line):
-    """Refuses the declaration of a function that isn't there in WebAssembly. (What only `main` calls goes; if
-    it didn't, the module would import it, and be refused.)"""
-    name = DECLARED.match(line)[1].strip('"')
-    is_of_llvm = name.startswith("llvm.") and not name.startswith("llvm.x86.")
-    if not (is_of_llvm or name in GIVEN or name in OF_MAIN):
-        raise NotPortable("a call of " + name)
+def check_declared(names, is_of_programs):
+    """Refuses functions that aren't there in WebAssembly."""
+    for name in sorted(names):
+        is_of_llvm = name.startswith("llvm.") and not name.startswith("llvm.x86.")
+        is_of_c = is_of_programs and not name.startswith("llvm.")
+        if not (is_of_llvm or is_of_c or name in GIVEN | UNUSED):
+            raise NotPortable("a call of " + name)
 
 
 def guarded(name, returns, inner, given):

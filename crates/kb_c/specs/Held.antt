@@ -6,8 +6,11 @@ use denote.RawPtr.{Ptr}
 use mir.Syntax.{Ty}
 use Rattle.std.specs.contracts.impls.GlobalAllocator.TheImpl.{ghosts}
 use Rattle.std_alloc.specs.Box.Ownership.{box_owns}
-use Rattle.kb_engine.specs.Engine.{entries_of, entry_text, kind_number, new_engine, numbered_text}
+use Rattle.kb_engine.specs.Engine.{entries_of, entry_text, kind_number, new_engine, numbered_text, steps_of}
 use Rattle.kb_engine.specs.Values.{EngineData}
+use Rattle.kb_hosted_keycheck.specs.Desk.{new_desk}
+use Rattle.kb_hosted_keycheck.specs.Values.{DeskData}
+use Rattle.kb_c.specs.declared.hosted.Hosted.{Hosted}
 use Rattle.kb_engine.specs.declared.outcome.Outcome.{Outcome}
 use Rattle.kb_engine.specs.declared.outcome.Outcome.TheVariants as outcome
 use Rattle.kb_session.specs.Palette.{entry_at}
@@ -23,40 +26,54 @@ held R p false None = ftrue
 held R p true None = ffalse
 held R p false (Some x) = ffalse
 
--- a new engine takes the place of what the handle held, or memory was refused, and the handle keeps it
-abbrev pub Makes : Option EngineData → Option Outcome → Option EngineData → Type 0
-Makes old (Some outcome.Done) new = new ≡ Some new_engine
+-- a new engine, without files for `keycheck`, takes the place of what the handle held, or memory was refused,
+-- and the handle keeps it
+abbrev pub Makes : Option Hosted → Option Outcome → Option Hosted → Type 0
+Makes old (Some outcome.Done) new = new ≡ Some (record { engine = new_engine; desk = new_desk })
 Makes old (Some outcome.NoMemory) new = new ≡ old
 Makes old o new = ⊥
 
--- a call through a live handle does this to the engine; through a dead one it is answered as unknown, and the
--- handle stays dead
-abbrev pub Answers : (EngineData → Outcome → EngineData → Type 0) → Option EngineData → Option Outcome
-    → Option EngineData → Type 0
+-- an engine does this, and the files for `keycheck` stay
+abbrev pub OnEngine : (EngineData → Outcome → EngineData → Type 0) → Hosted → Outcome → Hosted → Type 0
+OnEngine P old o new = P old.engine o new.engine × (new.desk ≡ old.desk)
+
+-- `keycheck` or its files do this, and the engine stays
+abbrev pub OnDesk : (DeskData → Outcome → DeskData → Type 0) → Hosted → Outcome → Hosted → Type 0
+OnDesk P old o new = P old.desk o new.desk × (new.engine ≡ old.engine)
+
+-- a call through a live handle does this to what it leads to; through a dead one it is answered as unknown,
+-- and the handle stays dead
+abbrev pub Answers : (Hosted → Outcome → Hosted → Type 0) → Option Hosted → Option Outcome → Option Hosted
+    → Type 0
 Answers P (Some old) (Some o) (Some new) = P old o new
 Answers P None (Some o) new = (o ≡ outcome.Unknown) × (new ≡ None)
 Answers P old o new = ⊥
 
 -- the number of what the last event did, 0 without an engine, and the place of the rule that it took
-abbrev pub kind_held : Option EngineData → ℕ
+abbrev pub kind_held : Option Hosted → ℕ
 kind_held None = 0
-kind_held (Some e) = kind_number e.taken.kind
+kind_held (Some e) = kind_number e.engine.taken.kind
 
-abbrev pub place_held : Option EngineData → ℕ
+abbrev pub place_held : Option Hosted → ℕ
 place_held None = 0
-place_held (Some e) = e.taken.place
+place_held (Some e) = e.engine.taken.place
+
+-- how many steps of `runCommands` began in the last event
+abbrev pub steps_held : Option Hosted → ℕ
+steps_held None = 0
+steps_held (Some e) = steps_of e.engine.running
 
 -- how many entries the last palette has
-abbrev pub entries_held : Option EngineData → ℕ
+abbrev pub entries_held : Option Hosted → ℕ
 entries_held None = 0
-entries_held (Some e) = length (entries_of e.running)
+entries_held (Some e) = length (entries_of e.engine.running)
 
 -- the text with a number, of the engine that a handle holds; empty without one
-abbrev pub text_held : ℕ → Option EngineData → List ℕ
+abbrev pub text_held : ℕ → Option Hosted → List ℕ
 text_held number None = []
-text_held number (Some e) = numbered_text number e
+text_held number (Some e) = numbered_text number e.engine
 
 -- a text of an entry of the palette
-abbrev pub entry_held : ℕ → ℕ → Option EngineData → List ℕ
+abbrev pub entry_held : ℕ → ℕ → Option Hosted → List ℕ
 entry_held number part None = []
-entry_held number part (Some e) = entry_text (entry_at number (Some (entries_of e.running))) part
+entry_held number part (Some e) = entry_text (entry_at number (Some (entries_of e.engine.running))) part

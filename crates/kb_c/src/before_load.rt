@@ -2,23 +2,29 @@
 //! outcomes: 0; 1 after the load, 2 for an unknown number, and 5 for refused memory, after each of which
 //! nothing changed.
 ghost use Rattle.std.specs.Prelude.{◌≡◌, Some, None, if◌then◌else◌};
-ghost use Rattle.kb_c.specs.Held.{Answers, Makes};
+ghost use Rattle.kb_c.specs.Held.{Answers, Makes, OnEngine};
 ghost use Rattle.kb_engine.specs.Engine.{GivesExtension, GivesFile, GivesPlatform, LoadsBy};
 ghost use Rattle.kb_engine.specs.Outcome.{outcome_numbered};
 
 use crate::handle::Handle;
+use crate::hosted::Hosted;
 use kb_engine::{Engine, Outcome};
+use kb_hosted_keycheck::Desk;
 use std::alloc::Global;
 
-/// Makes an engine without files, in the place of what the handle holds. 0, or 5 where memory is refused:
-/// then the handle keeps what it held.
+/// Makes an engine without files, and without any for `keycheck`, in the place of what the handle holds. 0,
+/// or 5 where memory is refused: then the handle keeps what it held.
 #[unsafe(no_mangle)]
 pub extern "C" fn pafjirn_new(alloc: Global, h: &mut Handle) -> u32
     ensures { Makes h.old.value (outcome_numbered result) h.new.value }
 {
-    match Box::new(alloc, Engine::new(alloc)) {
-        Ok(engine) => {
-            h.put(alloc, engine);
+    let made = Hosted {
+        engine: Engine::new(alloc),
+        desk: Desk::new(alloc),
+    };
+    match Box::new(alloc, made) {
+        Ok(hosted) => {
+            h.put(alloc, hosted);
             Outcome::Done.number()
         }
         Err(_) => Outcome::NoMemory.number(),
@@ -30,8 +36,8 @@ pub extern "C" fn pafjirn_new(alloc: Global, h: &mut Handle) -> u32
 pub extern "C" fn pafjirn_free(alloc: Global, h: &mut Handle)
     ensures { h.new.value ≡ None }
 {
-    if let Some(engine) = h.take(alloc) {
-        drop(engine);
+    if let Some(hosted) = h.take(alloc) {
+        drop(hosted);
     }
 }
 
@@ -39,13 +45,13 @@ pub extern "C" fn pafjirn_free(alloc: Global, h: &mut Handle)
 #[unsafe(no_mangle)]
 #[tactic(auto, using(crate::proofs::AnswerLemmas::answering))]
 pub extern "C" fn pafjirn_platform(alloc: Global, h: &mut Handle, platform: u32) -> u32
-    ensures { Answers (GivesPlatform platform) h.old.value (outcome_numbered result) h.new.value }
+    ensures { Answers (OnEngine (GivesPlatform platform)) h.old.value (outcome_numbered result) h.new.value }
 {
-    let Some(mut engine) = h.take(alloc) else {
+    let Some(mut hosted) = h.take(alloc) else {
         return Outcome::Unknown.number();
     };
-    let outcome = engine.set_platform(platform);
-    h.put(alloc, engine);
+    let outcome = hosted.engine.set_platform(platform);
+    h.put(alloc, hosted);
     outcome.number()
 }
 
@@ -53,13 +59,14 @@ pub extern "C" fn pafjirn_platform(alloc: Global, h: &mut Handle, platform: u32)
 #[unsafe(no_mangle)]
 #[tactic(auto, using(crate::proofs::AnswerLemmas::answering))]
 pub extern "C" fn pafjirn_file(alloc: Global, h: &mut Handle, file: u32, bytes: &[u8]) -> u32
-    ensures { Answers (GivesFile file bytes.now) h.old.value (outcome_numbered result) h.new.value }
+    ensures { Answers (OnEngine (GivesFile file bytes.now))
+        h.old.value (outcome_numbered result) h.new.value }
 {
-    let Some(mut engine) = h.take(alloc) else {
+    let Some(mut hosted) = h.take(alloc) else {
         return Outcome::Unknown.number();
     };
-    let outcome = engine.set_file(file, bytes);
-    h.put(alloc, engine);
+    let outcome = hosted.engine.set_file(file, bytes);
+    h.put(alloc, hosted);
     outcome.number()
 }
 
@@ -74,18 +81,19 @@ pub extern "C" fn pafjirn_extension(
     has_handlers: bool,
     handlers: &[u8],
 ) -> u32
-    ensures { Answers (GivesExtension manifest.now (if has_handlers then Some handlers.now else None))
+    ensures { Answers (OnEngine
+        (GivesExtension manifest.now (if has_handlers then Some handlers.now else None)))
         h.old.value (outcome_numbered result) h.new.value }
 {
-    let Some(mut engine) = h.take(alloc) else {
+    let Some(mut hosted) = h.take(alloc) else {
         return Outcome::Unknown.number();
     };
     let outcome = if has_handlers {
-        engine.add_extension(manifest, Some(handlers))
+        hosted.engine.add_extension(manifest, Some(handlers))
     } else {
-        engine.add_extension(manifest, None)
+        hosted.engine.add_extension(manifest, None)
     };
-    h.put(alloc, engine);
+    h.put(alloc, hosted);
     outcome.number()
 }
 
@@ -94,12 +102,12 @@ pub extern "C" fn pafjirn_extension(
 #[unsafe(no_mangle)]
 #[tactic(auto, using(crate::proofs::AnswerLemmas::answering))]
 pub extern "C" fn pafjirn_load(alloc: Global, h: &mut Handle) -> u32
-    ensures { Answers LoadsBy h.old.value (outcome_numbered result) h.new.value }
+    ensures { Answers (OnEngine LoadsBy) h.old.value (outcome_numbered result) h.new.value }
 {
-    let Some(mut engine) = h.take(alloc) else {
+    let Some(mut hosted) = h.take(alloc) else {
         return Outcome::Unknown.number();
     };
-    let outcome = engine.load();
-    h.put(alloc, engine);
+    let outcome = hosted.engine.load();
+    h.put(alloc, hosted);
     outcome.number()
 }

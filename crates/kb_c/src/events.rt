@@ -3,7 +3,7 @@
 //! its trace, and 97 if the session was stopped before. Its comment names the other answers that it has. A
 //! refused event (3) has its line in the trace, and changes nothing else.
 ghost use Rattle.std.specs.Prelude.{◌≡◌, Some};
-ghost use Rattle.kb_c.specs.Held.{Answers};
+ghost use Rattle.kb_c.specs.Held.{Answers, OnEngine};
 ghost use Rattle.kb_context.specs.declared.value.ContextValue.TheVariants as value;
 ghost use Rattle.kb_engine.specs.Engine.{Tells, TellsIf, TellsLine, key_told, when_text};
 ghost use Rattle.kb_engine.specs.Outcome.{outcome_numbered};
@@ -20,13 +20,13 @@ use std::alloc::Global;
 #[unsafe(no_mangle)]
 #[tactic(auto, using(crate::proofs::AnswerLemmas::answering))]
 pub extern "C" fn pafjirn_line(alloc: Global, h: &mut Handle, line: &[u8]) -> u32
-    ensures { Answers (TellsLine line.now) h.old.value (outcome_numbered result) h.new.value }
+    ensures { Answers (OnEngine (TellsLine line.now)) h.old.value (outcome_numbered result) h.new.value }
 {
-    let Some(mut engine) = h.take(alloc) else {
+    let Some(mut hosted) = h.take(alloc) else {
         return Outcome::Unknown.number();
     };
-    let outcome = engine.tell_line(line);
-    h.put(alloc, engine);
+    let outcome = hosted.engine.tell_line(line);
+    h.put(alloc, hosted);
     outcome.number()
 }
 
@@ -36,14 +36,14 @@ pub extern "C" fn pafjirn_line(alloc: Global, h: &mut Handle, line: &[u8]) -> u3
 #[unsafe(no_mangle)]
 #[tactic(auto, using(crate::proofs::AnswerLemmas::answering))]
 pub extern "C" fn pafjirn_key(alloc: Global, h: &mut Handle, key: &[u8]) -> u32
-    ensures { Answers (TellsIf outcome.NoKey (key_told key.now))
+    ensures { Answers (OnEngine (TellsIf outcome.NoKey (key_told key.now)))
         h.old.value (outcome_numbered result) h.new.value }
 {
-    let Some(mut engine) = h.take(alloc) else {
+    let Some(mut hosted) = h.take(alloc) else {
         return Outcome::Unknown.number();
     };
-    let outcome = engine.press(key);
-    h.put(alloc, engine);
+    let outcome = hosted.engine.press(key);
+    h.put(alloc, hosted);
     outcome.number()
 }
 
@@ -51,14 +51,14 @@ pub extern "C" fn pafjirn_key(alloc: Global, h: &mut Handle, key: &[u8]) -> u32
 #[unsafe(no_mangle)]
 #[tactic(auto, using(crate::proofs::AnswerLemmas::answering))]
 pub extern "C" fn pafjirn_focus(alloc: Global, h: &mut Handle, scope: &[u8]) -> u32
-    ensures { Answers (TellsIf outcome.NoText (when_text scope.now (Some (event.Focus scope.now))))
+    ensures { Answers (OnEngine (TellsIf outcome.NoText (when_text scope.now (Some (event.Focus scope.now)))))
         h.old.value (outcome_numbered result) h.new.value }
 {
-    let Some(mut engine) = h.take(alloc) else {
+    let Some(mut hosted) = h.take(alloc) else {
         return Outcome::Unknown.number();
     };
-    let outcome = engine.focus(scope);
-    h.put(alloc, engine);
+    let outcome = hosted.engine.focus(scope);
+    h.put(alloc, hosted);
     outcome.number()
 }
 
@@ -73,15 +73,15 @@ pub extern "C" fn pafjirn_set_truth(
     key: &[u8],
     truth: bool,
 ) -> u32
-    ensures { Answers (TellsIf outcome.NoText (when_text scope.now (when_text key.now
-        (Some (event.SetKey scope.now key.now (value.Truth truth))))))
+    ensures { Answers (OnEngine (TellsIf outcome.NoText (when_text scope.now (when_text key.now
+        (Some (event.SetKey scope.now key.now (value.Truth truth)))))))
         h.old.value (outcome_numbered result) h.new.value }
 {
-    let Some(mut engine) = h.take(alloc) else {
+    let Some(mut hosted) = h.take(alloc) else {
         return Outcome::Unknown.number();
     };
-    let outcome = engine.set_truth(scope, key, truth);
-    h.put(alloc, engine);
+    let outcome = hosted.engine.set_truth(scope, key, truth);
+    h.put(alloc, hosted);
     outcome.number()
 }
 
@@ -96,15 +96,15 @@ pub extern "C" fn pafjirn_set_number(
     key: &[u8],
     number: i64,
 ) -> u32
-    ensures { Answers (TellsIf outcome.NoText (when_text scope.now (when_text key.now
-        (Some (event.SetKey scope.now key.now (value.Number number))))))
+    ensures { Answers (OnEngine (TellsIf outcome.NoText (when_text scope.now (when_text key.now
+        (Some (event.SetKey scope.now key.now (value.Number number)))))))
         h.old.value (outcome_numbered result) h.new.value }
 {
-    let Some(mut engine) = h.take(alloc) else {
+    let Some(mut hosted) = h.take(alloc) else {
         return Outcome::Unknown.number();
     };
-    let outcome = engine.set_number(scope, key, number);
-    h.put(alloc, engine);
+    let outcome = hosted.engine.set_number(scope, key, number);
+    h.put(alloc, hosted);
     outcome.number()
 }
 
@@ -119,15 +119,15 @@ pub extern "C" fn pafjirn_set_text(
     key: &[u8],
     text: &[u8],
 ) -> u32
-    ensures { Answers (TellsIf outcome.NoText (when_text scope.now (when_text key.now (when_text text.now
-        (Some (event.SetKey scope.now key.now (value.Text text.now)))))))
+    ensures { Answers (OnEngine (TellsIf outcome.NoText (when_text scope.now (when_text key.now
+        (when_text text.now (Some (event.SetKey scope.now key.now (value.Text text.now))))))))
         h.old.value (outcome_numbered result) h.new.value }
 {
-    let Some(mut engine) = h.take(alloc) else {
+    let Some(mut hosted) = h.take(alloc) else {
         return Outcome::Unknown.number();
     };
-    let outcome = engine.set_text(scope, key, text);
-    h.put(alloc, engine);
+    let outcome = hosted.engine.set_text(scope, key, text);
+    h.put(alloc, hosted);
     outcome.number()
 }
 
@@ -135,15 +135,15 @@ pub extern "C" fn pafjirn_set_text(
 #[unsafe(no_mangle)]
 #[tactic(auto, using(crate::proofs::AnswerLemmas::answering))]
 pub extern "C" fn pafjirn_unset(alloc: Global, h: &mut Handle, scope: &[u8], key: &[u8]) -> u32
-    ensures { Answers (TellsIf outcome.NoText (when_text scope.now (when_text key.now
-        (Some (event.UnsetKey scope.now key.now)))))
+    ensures { Answers (OnEngine (TellsIf outcome.NoText (when_text scope.now (when_text key.now
+        (Some (event.UnsetKey scope.now key.now))))))
         h.old.value (outcome_numbered result) h.new.value }
 {
-    let Some(mut engine) = h.take(alloc) else {
+    let Some(mut hosted) = h.take(alloc) else {
         return Outcome::Unknown.number();
     };
-    let outcome = engine.unset(scope, key);
-    h.put(alloc, engine);
+    let outcome = hosted.engine.unset(scope, key);
+    h.put(alloc, hosted);
     outcome.number()
 }
 
@@ -151,14 +151,15 @@ pub extern "C" fn pafjirn_unset(alloc: Global, h: &mut Handle, scope: &[u8], key
 #[unsafe(no_mangle)]
 #[tactic(auto, using(crate::proofs::AnswerLemmas::answering))]
 pub extern "C" fn pafjirn_palette(alloc: Global, h: &mut Handle, query: &[u8]) -> u32
-    ensures { Answers (TellsIf outcome.NoText (when_text query.now (Some (event.Palette query.now))))
+    ensures { Answers (OnEngine (TellsIf outcome.NoText
+        (when_text query.now (Some (event.Palette query.now)))))
         h.old.value (outcome_numbered result) h.new.value }
 {
-    let Some(mut engine) = h.take(alloc) else {
+    let Some(mut hosted) = h.take(alloc) else {
         return Outcome::Unknown.number();
     };
-    let outcome = engine.palette(query);
-    h.put(alloc, engine);
+    let outcome = hosted.engine.palette(query);
+    h.put(alloc, hosted);
     outcome.number()
 }
 
@@ -168,12 +169,13 @@ pub extern "C" fn pafjirn_palette(alloc: Global, h: &mut Handle, query: &[u8]) -
 #[unsafe(no_mangle)]
 #[tactic(auto, using(crate::proofs::AnswerLemmas::answering))]
 pub extern "C" fn pafjirn_choose(alloc: Global, h: &mut Handle, number: u32) -> u32
-    ensures { Answers (Tells (event.Choose number)) h.old.value (outcome_numbered result) h.new.value }
+    ensures { Answers (OnEngine (Tells (event.Choose number)))
+        h.old.value (outcome_numbered result) h.new.value }
 {
-    let Some(mut engine) = h.take(alloc) else {
+    let Some(mut hosted) = h.take(alloc) else {
         return Outcome::Unknown.number();
     };
-    let outcome = engine.choose(number);
-    h.put(alloc, engine);
+    let outcome = hosted.engine.choose(number);
+    h.put(alloc, hosted);
     outcome.number()
 }

@@ -3,8 +3,10 @@
 #![tactic(auto)]
 
 pub mod before_load;
+pub mod desk;
 pub mod events;
 pub mod handle;
+pub mod hosted;
 pub mod loose;
 pub mod reads;
 

@@ -29,3 +29,5 @@ checked sources files choices ids problems marks clean are tells wanted marked i
   none = is ∙ ap (λ ms. not (list_any is_shown ms
       || list_any (is_unknown sources ids) (map (λ name. name.now) choices.only.now))) marked;
 }
+
+pub ruleset checks = (checked)

@@ -60,11 +60,16 @@ is_asked files ids (name ∷ others) f = list_any (names files ids f) (name ∷ 
 abbrev pub is_there : SourceFiles → List (List ℕ) → List ℕ → LoadFile → Bool
 is_there files ids name f = is_some (file_of files f) && names files ids f name
 
+-- a file of the extension with this number has the name
+abbrev pub is_of_one : SourceFiles → List (List ℕ) → List ℕ → ℕ → Bool
+is_of_one files ids name number =
+    is_there files ids name (file.Package number) || is_there files ids name (file.Handlers number)
+
 -- a file of one of so many extensions has the name
 abbrev pub is_of_extension : SourceFiles → List (List ℕ) → List ℕ → ℕ → Bool
 is_of_extension files ids name zero = false
-is_of_extension files ids name (suc number) = is_there files ids name (file.Package number)
-    || is_there files ids name (file.Handlers number) || is_of_extension files ids name number
+is_of_extension files ids name (suc number) =
+    is_of_one files ids name number || is_of_extension files ids name number
 
 -- the name is of no file
 abbrev pub is_unknown : SourceFiles → List (List ℕ) → List ℕ → Bool

@@ -1,5 +1,6 @@
 //! The check of some files, from their bytes to what is written.
 ghost use Rattle.std.specs.Prelude.{◌≡◌, [], IfOk, map, not, option_map, ◌||◌};
+ghost use Rattle.std.specs.List.{list_any};
 ghost use Rattle.std.specs.Option.{option_map_or};
 ghost use Rattle.kb_check.specs.Problems.{files_in};
 ghost use Rattle.kb_check_report.specs.Checking.{Checks, IsPage, position_in, position_of_part};
@@ -238,6 +239,7 @@ fn marks_in(
 /// buffer, and returns whether none is shown. What is written is tested, and in no clause.
 ///
 /// Errors: `NotWritten` where a write failed, or `NoMemory`; what was written stays.
+#[tactic(auto, using(crate::proofs::CheckingLemmas::checks))]
 pub fn check<W: Write + Drop>(
     alloc: Global,
     files: &SourceFiles<'_>,

@@ -4,8 +4,8 @@ ghost use Rattle.std.specs.List.{list_any};
 ghost use Rattle.std.specs.Option.{option_map_or};
 ghost use Rattle.kb_base.specs.ExtensionId.{same_id};
 ghost use Rattle.kb_source_files.specs.SourceFiles.{file_of};
-ghost use Rattle.kb_check_report.specs.Whose.{file_word, id_of, is_asked, is_at, is_of_extension, is_there};
-ghost use Rattle.kb_check_report.specs.Whose.{is_unknown, names, usual_word};
+ghost use Rattle.kb_check_report.specs.Whose.{file_word, id_of, is_asked, is_at, is_of_extension, is_of_one};
+ghost use Rattle.kb_check_report.specs.Whose.{is_there, is_unknown, names, usual_word};
 
 use kb_base::{NoMemory, Text, same_id};
 use kb_files::LoadFile;
@@ -117,16 +117,23 @@ fn is_there(files: &SourceFiles<'_>, ids: &[Text], name: &str, file: LoadFile) -
     files.file_of(file).is_some() && names(files, ids, file, name)
 }
 
+/// Whether a file of the extension with a number has a name.
+fn is_of_one(files: &SourceFiles<'_>, ids: &[Text], name: &str, number: usize) -> bool
+    ensures { result ≡ is_of_one files.now ids.now name.now number }
+{
+    is_there(files, ids, name, LoadFile::Package(number))
+        || is_there(files, ids, name, LoadFile::Handlers(number))
+}
+
 /// Whether a file of an extension has a name.
+#[tactic(auto, using(crate::proofs::WhoseLemmas::whose))]
 fn is_of_extension(files: &SourceFiles<'_>, ids: &[Text], name: &str) -> bool
     ensures { result ≡ is_of_extension files.now ids.now name.now (length files.now.extensions.now) }
 {
     let mut left = files.extensions.len();
     while left > 0 {
         left -= 1;
-        if is_there(files, ids, name, LoadFile::Package(left))
-            || is_there(files, ids, name, LoadFile::Handlers(left))
-        {
+        if is_of_one(files, ids, name, left) {
             return true;
         }
     }

@@ -9,6 +9,7 @@ use Rattle.kb_engine.specs.Part.{part_numbered}
 use Rattle.kb_engine.specs.Notice.{IsRefusal, warnings_text}
 use Rattle.kb_engine.specs.Running as running
 use Rattle.kb_engine.specs.Running.{HaltsFrom, next_number}
+use Rattle.kb_engine.specs.Steps.{last_step, steps_begun}
 use Rattle.kb_engine.specs.Taken as taken
 use Rattle.kb_engine.specs.Values.{EngineData, RunningData}
 use Rattle.kb_engine.specs.declared.part.Part.{Part}
@@ -168,6 +169,15 @@ abbrev pub after_caret : Option RunningData → List ℕ
 after_caret None = []
 after_caret (Some r) = r.session.state.core.buffer.after
 
+-- the command of the last step of `runCommands` that began in the last event, and how many began
+abbrev pub step_command : Option RunningData → List ℕ
+step_command None = []
+step_command (Some r) = last_step r.session.trace (length r.session.trace)
+
+abbrev pub steps_of : Option RunningData → ℕ
+steps_of None = 0
+steps_of (Some r) = steps_begun r.session.trace (length r.session.trace)
+
 abbrev pub part_of : Part → EngineData → List ℕ
 part_of part.Trace e = trace_text e.running
 part_of part.Notice e = e.notice
@@ -177,6 +187,7 @@ part_of part.Arguments e = e.taken.arguments
 part_of part.Source e = e.taken.source
 part_of part.Before e = before_caret e.running
 part_of part.After e = after_caret e.running
+part_of part.Step e = step_command e.running
 
 -- the text that a number stands for
 abbrev pub text_of_part : Option Part → EngineData → List ℕ

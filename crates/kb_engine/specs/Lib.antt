@@ -4,5 +4,6 @@ pub mod Notice
 pub mod Outcome
 pub mod Part
 pub mod Running
+pub mod Steps
 pub mod Taken
 pub mod Values

@@ -13,4 +13,5 @@ part_numbered n =
     else (if n == 4 then Some part.Arguments
     else (if n == 5 then Some part.Source
     else (if n == 6 then Some part.Before
-    else (if n == 7 then Some part.After else None)))))))
+    else (if n == 7 then Some part.After
+    else (if n == 8 then Some part.Step else None))))))))

@@ -12,6 +12,7 @@ pub mod part;
 pub mod plain;
 pub mod reading;
 pub mod running;
+mod steps;
 pub mod taken;
 mod telling;
 

@@ -21,6 +21,8 @@ pub enum Part {
     Before,
     /// The text behind the caret.
     After,
+    /// The command of the last step of `runCommands` that began in the last event.
+    Step,
 }
 
 impl Part {
@@ -37,6 +39,7 @@ impl Part {
             5 => Some(Part::Source),
             6 => Some(Part::Before),
             7 => Some(Part::After),
+            8 => Some(Part::Step),
             _ => None,
         }
     }

@@ -10,7 +10,7 @@ use Rattle.clap.specs.Words.{subcommand_rows_of}
 use Rattle.clap.specs.declared.parser.matches.ArgMatches.{ArgMatches}
 use Rattle.clap.specs.declared.parser.matches.ArgMatches.TheViews.{out-ArgMatches, out-SubCommand}
 use Rattle.clap.specs.declared.parser.matches.SubCommand.{SubCommand}
-use Rattle.kb_disk.specs.Files.{Held, unknown}
+use Rattle.kb_disk.specs.Files.{Held}
 use Rattle.kb_run.specs.declared.outcome.Stop.TheVariants as run
 use Rattle.kb_handler_report.specs.Check as handlers
 use Rattle.kb_handler_report.specs.Stop as handlers_stop
@@ -81,22 +81,22 @@ pub ruleset translates = (translates_given)
 
 -- ---- its exit status
 
-pub checks_status : (rows : List Row) (end : Result Bool Stop) (status : ℕ)
-    → ChecksBy (λ path. unknown) rows end → status ≡ check_status end → Checks rows status
-checks_status rows end status ends is = record { end = end; ends = ends; status_is = is }
+pub checks_status : (held : List ℕ → Held) (rows : List Row) (end : Result Bool Stop) (status : ℕ)
+    → ChecksBy held rows end → status ≡ check_status end → Checks held rows status
+checks_status held rows end status ends is = record { end = end; ends = ends; status_is = is }
 
-pub answers_status : (topic : Topic) (rows : List Row) (end : Result (Unit {0}) Stop) (status : ℕ)
-    → AnswersBy (λ path. unknown) topic rows end → status ≡ answer_status end → Answers topic rows status
-answers_status topic rows end status ends is = record { end = end; ends = ends; status_is = is }
+pub answers_status : (held : List ℕ → Held) (topic : Topic) (rows : List Row) (end : Result (Unit {0}) Stop) (status : ℕ)
+    → AnswersBy held topic rows end → status ≡ answer_status end → Answers held topic rows status
+answers_status held topic rows end status ends is = record { end = end; ends = ends; status_is = is }
 
-pub handles_status : (rows : List Row) (end : Result Bool handlers_end.Stop) (status : ℕ)
-    → HandlersBy (λ path. unknown) rows end → status ≡ handlers_stop.status_of end → Handles rows status
-handles_status rows end status ends is = record { end = end; ends = ends; status_is = is }
+pub handles_status : (held : List ℕ → Held) (rows : List Row) (end : Result Bool handlers_end.Stop) (status : ℕ)
+    → HandlersBy held rows end → status ≡ handlers_stop.status_of end → Handles held rows status
+handles_status held rows end status ends is = record { end = end; ends = ends; status_is = is }
 
-pub translates_status : (direction : Direction) (rows : List Row) (end : Result (Option Text) Stop) (status : ℕ)
-    → TranslatesGiven (λ path. unknown) direction rows end → status ≡ translation_status end
-    → Translates direction rows status
-translates_status direction rows end status ends is = record { end = end; ends = ends; status_is = is }
+pub translates_status : (held : List ℕ → Held) (direction : Direction) (rows : List Row)
+    (end : Result (Option Text) Stop) (status : ℕ) → TranslatesGiven held direction rows end
+    → status ≡ translation_status end → Translates held direction rows status
+translates_status held direction rows end status ends is = record { end = end; ends = ends; status_is = is }
 
 pub ruleset statuses = (checks_status, answers_status, handles_status, translates_status)
 
@@ -113,15 +113,15 @@ no_pair : (o : Option (Box SubCommand Global))
 no_pair None named = refl
 no_pair (Some b) named = cc
 
-pub obeys_named : (m : ArgMatches) (name : Text) (rows : List Row) (status : ℕ)
+pub obeys_named : (held : List ℕ → Held) (m : ArgMatches) (name : Text) (rows : List Row) (status : ℕ)
     → Some name ≡ subcommand_name_of m → Some rows ≡ option_map (λ p. p.1) (subcommand_rows_of m)
-    → Does (subcommand_named name) rows status → Obeys (subcommand_rows_of m) status
-obeys_named m name rows status named had does =
-    subst (λ o. Obeys o status) (sym (named_pair (out-ArgMatches m).subcommand name rows named had)) does
+    → Does held (subcommand_named name) rows status → Obeys held (subcommand_rows_of m) status
+obeys_named held m name rows status named had does =
+    subst (λ o. Obeys held o status) (sym (named_pair (out-ArgMatches m).subcommand name rows named had)) does
 
-pub obeys_none : (m : ArgMatches) (status : ℕ) → None ≡ subcommand_name_of m → status ≡ 2
-    → Obeys (subcommand_rows_of m) status
-obeys_none m status named is =
-    subst (λ o. Obeys o status) (sym (no_pair (out-ArgMatches m).subcommand named)) is
+pub obeys_none : (held : List ℕ → Held) (m : ArgMatches) (status : ℕ) → None ≡ subcommand_name_of m → status ≡ 2
+    → Obeys held (subcommand_rows_of m) status
+obeys_none held m status named is =
+    subst (λ o. Obeys held o status) (sym (no_pair (out-ArgMatches m).subcommand named)) is
 
 pub ruleset obeys = (obeys_named, obeys_none)

@@ -202,43 +202,44 @@ pub record TranslatesGiven (held : List ℕ → Held) (direction : Direction) (r
   pub path_is : path.now ≡ path_in rows
   pub ends : EndsTranslating direction held path end
 
--- ---- the exit status of a command over the system, of whose files contracts know nothing
+-- ---- the exit status of a command over some files
 
-pub record Checks (rows : List Row) (status : ℕ) : Type 0 where
+pub record Checks (held : List ℕ → Held) (rows : List Row) (status : ℕ) : Type 0 where
   pub end : Result Bool Stop
-  pub ends : ChecksBy (λ path. unknown) rows end
+  pub ends : ChecksBy held rows end
   pub status_is : status ≡ check_status end
 
-pub record Answers (topic : Topic) (rows : List Row) (status : ℕ) : Type 0 where
+pub record Answers (held : List ℕ → Held) (topic : Topic) (rows : List Row) (status : ℕ) : Type 0 where
   pub end : Result (Unit {0}) Stop
-  pub ends : AnswersBy (λ path. unknown) topic rows end
+  pub ends : AnswersBy held topic rows end
   pub status_is : status ≡ answer_status end
 
-pub record Handles (rows : List Row) (status : ℕ) : Type 0 where
+pub record Handles (held : List ℕ → Held) (rows : List Row) (status : ℕ) : Type 0 where
   pub end : Result Bool handlers_end.Stop
-  pub ends : HandlersBy (λ path. unknown) rows end
+  pub ends : HandlersBy held rows end
   pub status_is : status ≡ handlers_stop.status_of end
 
-pub record Translates (direction : Direction) (rows : List Row) (status : ℕ) : Type 0 where
+pub record Translates (held : List ℕ → Held) (direction : Direction) (rows : List Row) (status : ℕ)
+    : Type 0 where
   pub end : Result (Option Text) Stop
-  pub ends : TranslatesGiven (λ path. unknown) direction rows end
+  pub ends : TranslatesGiven held direction rows end
   pub status_is : status ≡ translation_status end
 
-abbrev pub DoesCommand : Subcommand → List Row → ℕ → Type 0
-DoesCommand command.Check rows status = Checks rows status
-DoesCommand (command.Ask topic) rows status = Answers topic rows status
-DoesCommand command.Handlers rows status = Handles rows status
-DoesCommand (command.Translate direction) rows status = Translates direction rows status
+abbrev pub DoesCommand : (List ℕ → Held) → Subcommand → List Row → ℕ → Type 0
+DoesCommand held command.Check rows status = Checks held rows status
+DoesCommand held (command.Ask topic) rows status = Answers held topic rows status
+DoesCommand held command.Handlers rows status = Handles held rows status
+DoesCommand held (command.Translate direction) rows status = Translates held direction rows status
 
 -- what the program does with the arguments of a command; 4 also if memory was refused before. A line without
 -- a known command has the status 2
-abbrev pub Does : Option Subcommand → List Row → ℕ → Type 0
-Does None rows status = status ≡ 2
-Does (Some c) rows status = (status ≡ 4) ⊎ DoesCommand c rows status
+abbrev pub Does : (List ℕ → Held) → Option Subcommand → List Row → ℕ → Type 0
+Does held None rows status = status ≡ 2
+Does held (Some c) rows status = (status ≡ 4) ⊎ DoesCommand held c rows status
 
-abbrev pub Obeys : Option (Text × List Row) → ℕ → Type 0
-Obeys None status = status ≡ 2
-Obeys (Some named) status = Does (subcommand_named named.0) named.1 status
+abbrev pub Obeys : (List ℕ → Held) → Option (Text × List Row) → ℕ → Type 0
+Obeys held None status = status ≡ 2
+Obeys held (Some named) status = Does held (subcommand_named named.0) named.1 status
 
 -- ---- a run
 
@@ -253,20 +254,21 @@ pub record RefusesLine (words : List Text) (status : ℕ) : Type 0 where
   pub by_clap : IsMatched words (Err error)
   pub ends : EndsWithFault (fault_by error) status
 
--- clap gives the words a meaning, and the program does what it says
-pub record ObeysLine (words : List Text) (status : ℕ) : Type 0 where
+-- clap gives the words a meaning, and the program does what it says over these files
+pub record ObeysLine (held : List ℕ → Held) (words : List Text) (status : ℕ) : Type 0 where
   pub matches : ArgMatches
   pub by_clap : IsMatched words (Ok matches)
-  pub obeys : Obeys (subcommand_rows_of matches) status
+  pub obeys : Obeys held (subcommand_rows_of matches) status
 
--- the exit status for these words; 4 also if memory was refused
-abbrev pub RunsLine : List Text → ℕ → Type 0
-RunsLine words status = (status ≡ 4) ⊎ (RefusesLine words status ⊎ ObeysLine words status)
+-- the exit status for these words over these files; 4 also if memory was refused
+abbrev pub RunsLine : (List ℕ → Held) → List Text → ℕ → Type 0
+RunsLine held words status = (status ≡ 4) ⊎ (RefusesLine words status ⊎ ObeysLine held words status)
 
--- the exit status of a run over the system, for some words; 2 also if a word is no text, and 4 if memory was
--- refused
+-- the exit status of a run over the system, of whose files contracts know nothing, for some words; 2 also if
+-- a word is no text, and 4 if memory was refused
 abbrev pub RunsOnSystem : ℕ → Type 0
-RunsOnSystem status = ((status ≡ 2) ⊎ (status ≡ 4)) ⊎ ((words : List Text) × RunsLine words status)
+RunsOnSystem status = ((status ≡ 2) ⊎ (status ≡ 4))
+    ⊎ ((words : List Text) × RunsLine (λ path. unknown) words status)
 
 -- ---- for private functions
 

@@ -1,4 +1,4 @@
-//! Does what a command line asks for, over the system.
+//! Does what a command line asks for, over some files.
 ghost use Rattle.std.specs.Prelude.{◌≡◌, ◌≤◌, ◌⊎◌};
 ghost use Rattle.clap.specs.Words.{found_of, rows_of, subcommand_rows_of};
 ghost use Rattle.kb_keycheck.specs.Ends.{Answers, AnswersBy, Checks, ChecksBy, DoesCommand, Handles};
@@ -9,7 +9,7 @@ use crate::checking::check_files;
 use crate::ending::{Stop, answer_status, check_status};
 use crate::explaining::answer_question;
 use crate::mistakes::Mistakes;
-use crate::reason::unread_reason;
+use crate::reason::{Reasons, unread_reason};
 use crate::request::{
     Direction, Subcommand, Topic, form_asked, given_in, path_asked, question_in, subcommand_named,
     wishes_in,
@@ -18,13 +18,12 @@ use crate::translating::{translate, translation_status};
 use clap::ArgMatches;
 use kb_base::Text;
 use kb_cli::all_texts;
-use kb_disk::{FileSource, SystemFiles};
+use kb_disk::FileSource;
 use kb_handler_report::{check_extensions, status_of};
 use std::alloc::Global;
 use std::fmt::Display;
 use std::io;
 use std::io::{BufWriter, Write};
-use std::rt::Files;
 
 /// Does `check`, and returns how it ended.
 #[tactic(auto, using(crate::proofs::DoesLemmas::checks))]
@@ -81,59 +80,55 @@ fn check_handlers<F: FileSource, W: Write + Drop>(
 
 /// Does `check`, says why it stopped, if it did, and returns the exit status.
 #[tactic(auto, using(crate::proofs::DoesLemmas::statuses))]
-fn obey_check<R: Files + Eprint, W: Write + Drop>(
+fn obey_check<R: Eprint, F: FileSource + Reasons, W: Write + Drop>(
     rt: &R,
     alloc: Global,
     matches: &ArgMatches<'_>,
+    files: &F,
     out: &mut BufWriter<W>,
 ) -> u8
-    ensures does { Checks (rows_of (found_of matches.now)) result }
+    ensures does { Checks (F.held files.now) (rows_of (found_of matches.now)) result }
     ensures table { result ≤ 4 }
 {
-    let end = check(alloc, matches, &SystemFiles { rt }, out);
-    say_stop(rt, alloc, &end);
+    let end = check(alloc, matches, files, out);
+    say_stop(rt, alloc, files, &end);
     check_status(&end)
 }
 
 /// Answers a question, says what is wrong in the script and why it stopped, if it did, and returns the exit
 /// status.
 #[tactic(auto, using(crate::proofs::DoesLemmas::statuses))]
-fn obey_question<R: Files + Eprint, W: Write + Drop>(
+fn obey_question<R: Eprint, F: FileSource + Reasons, W: Write + Drop>(
     rt: &R,
     alloc: Global,
     topic: Topic,
     matches: &ArgMatches<'_>,
+    files: &F,
     out: &mut BufWriter<W>,
 ) -> u8
-    ensures does { Answers topic (rows_of (found_of matches.now)) result }
+    ensures does { Answers (F.held files.now) topic (rows_of (found_of matches.now)) result }
     ensures table { result ≤ 4 }
 {
     let mut mistakes = Mistakes::none(alloc);
-    let end = answer(
-        alloc,
-        topic,
-        matches,
-        &SystemFiles { rt },
-        &mut mistakes,
-        out,
-    );
+    let end = answer(alloc, topic, matches, files, &mut mistakes, out);
     say_mistakes(rt, &mistakes);
-    say_stop(rt, alloc, &end);
+    say_stop(rt, alloc, files, &end);
     answer_status(&end)
 }
 
 /// Does `handlers`, says why it stopped, if it did, and returns the exit status.
 #[tactic(auto, using(crate::proofs::DoesLemmas::statuses))]
-fn obey_handlers<R: Files + Eprint, W: Write + Drop>(
+fn obey_handlers<R: Eprint, F: FileSource, W: Write + Drop>(
     rt: &R,
     alloc: Global,
     matches: &ArgMatches<'_>,
+    files: &F,
     out: &mut BufWriter<W>,
 ) -> u8
-    ensures does { Handles (rows_of (found_of matches.now)) result }
+    ensures does { Handles (F.held files.now) (rows_of (found_of matches.now)) result }
     ensures table { result ≤ 4 }
 {
-    let end = check_handlers(alloc, matches, &SystemFiles { rt }, out);
+    let end = check_handlers(alloc, matches, files, out);
     say_end(rt, &end);
     status_of(&end)
 }
@@ -155,30 +150,33 @@ fn translate_given<'a, F: FileSource, W: Write + Drop>(
 /// Does `assemble` or `disassemble`, says which faults the file has or why it stopped, if it did, and returns
 /// the exit status.
 #[tactic(auto, using(crate::proofs::DoesLemmas::statuses))]
-fn obey_translation<R: Files + Eprint, W: Write + Drop>(
+fn obey_translation<R: Eprint, F: FileSource + Reasons, W: Write + Drop>(
     rt: &R,
     alloc: Global,
     direction: Direction,
     matches: &ArgMatches<'_>,
+    files: &F,
     out: &mut BufWriter<W>,
 ) -> u8
-    ensures does { Translates direction (rows_of (found_of matches.now)) result }
+    ensures does { Translates (F.held files.now) direction (rows_of (found_of matches.now)) result }
     ensures table { result ≤ 4 }
 {
-    let end = translate_given(alloc, direction, matches, &SystemFiles { rt }, out);
+    let end = translate_given(alloc, direction, matches, files, out);
     say_faults(rt, &end);
-    say_stop(rt, alloc, &end);
+    say_stop(rt, alloc, files, &end);
     translation_status(&end)
 }
 
 /// Does what a command asks for, and returns the exit status.
-fn obey_command<R: Files + Print + Eprint>(
+fn obey_command<R: Print + Eprint, F: FileSource + Reasons>(
     rt: &R,
     alloc: Global,
     command: Subcommand,
     matches: &ArgMatches<'_>,
+    files: &F,
 ) -> u8
-    ensures does { (result ≡ 4) ⊎ DoesCommand command (rows_of (found_of matches.now)) result }
+    ensures does { (result ≡ 4)
+        ⊎ DoesCommand (F.held files.now) command (rows_of (found_of matches.now)) result }
     ensures table { result ≤ 4 }
 {
     let Ok(mut out) = BufWriter::new(alloc, io::writer(rt)) else {
@@ -186,12 +184,12 @@ fn obey_command<R: Files + Print + Eprint>(
         return 4;
     };
     match command {
-        Subcommand::Check => obey_check(rt, alloc, matches, &mut out),
-        Subcommand::Ask(topic) => obey_question(rt, alloc, topic, matches, &mut out),
-        Subcommand::Handlers => obey_handlers(rt, alloc, matches, &mut out),
-        Subcommand::Translate(direction) => obey_translation(
-            rt, alloc, direction, matches, &mut out,
-        ),
+        Subcommand::Check => obey_check(rt, alloc, matches, files, &mut out),
+        Subcommand::Ask(topic) => obey_question(rt, alloc, topic, matches, files, &mut out),
+        Subcommand::Handlers => obey_handlers(rt, alloc, matches, files, &mut out),
+        Subcommand::Translate(direction) => {
+            obey_translation(rt, alloc, direction, matches, files, &mut out)
+        }
     }
 }
 
@@ -203,17 +201,17 @@ fn say_mistakes<R: Eprint>(rt: &R, mistakes: &Mistakes) {
 }
 
 /// Why a run that stopped could not read a file, if that is why.
-fn reason_of<R: Files>(rt: &R, alloc: Global, stop: &Stop<'_>) -> &'static str {
+fn reason_of<F: Reasons>(files: &F, alloc: Global, stop: &Stop<'_>) -> &'static str {
     match stop {
-        Stop::Run(kb_run::Stop::Unread(file)) => unread_reason(rt, alloc, *file),
+        Stop::Run(kb_run::Stop::Unread(file)) => unread_reason(files, alloc, *file),
         _ => "",
     }
 }
 
 /// Says why a run stopped, if it did.
-fn say_stop<R: Files + Eprint, T>(rt: &R, alloc: Global, end: &Result<T, Stop<'_>>) {
+fn say_stop<R: Eprint, F: Reasons, T>(rt: &R, alloc: Global, files: &F, end: &Result<T, Stop<'_>>) {
     if let Err(stop) = end {
-        let reason = reason_of(rt, alloc, stop);
+        let reason = reason_of(files, alloc, stop);
         let _ = rt.eprintln(format_args!("{stop}{reason}"));
     }
 }
@@ -235,15 +233,20 @@ fn say_end<R: Eprint, T, S: Display>(rt: &R, end: &Result<T, S>) {
 /// Does what the matches of a command line ask for, and returns the exit status. `clap` refuses a line
 /// without a command.
 #[tactic(auto, using(crate::proofs::DoesLemmas::obeys))]
-pub(crate) fn obey<R: Files + Print + Eprint>(rt: &R, alloc: Global, matches: &ArgMatches<'_>) -> u8
-    ensures does { Obeys (subcommand_rows_of matches.now) result }
+pub(crate) fn obey<R: Print + Eprint, F: FileSource + Reasons>(
+    rt: &R,
+    alloc: Global,
+    matches: &ArgMatches<'_>,
+    files: &F,
+) -> u8
+    ensures does { Obeys (F.held files.now) (subcommand_rows_of matches.now) result }
     ensures table { result ≤ 4 }
 {
     let Some(named) = matches.subcommand() else {
         return 2;
     };
     match subcommand_named(named.0) {
-        Some(command) => obey_command(rt, alloc, command, named.1),
+        Some(command) => obey_command(rt, alloc, command, named.1, files),
         None => 2,
     }
 }

@@ -15,4 +15,5 @@ pub mod running;
 pub mod translating;
 pub mod words;
 
-pub use running::keycheck;
+pub use reason::Reasons;
+pub use running::{keycheck, keycheck_over};

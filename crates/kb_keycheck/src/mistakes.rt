@@ -38,11 +38,12 @@ impl Mistakes {
     }
 }
 
-/// Each write has whole lines of text, since a script writes the lines of an event at once.
+/// Each write has the lines that one event added to the trace, since a script writes them at once. A mistake
+/// is the first of them. The others may be any text: a command's name may have a line feed in it.
 impl Write for Mistakes {
     fn write(&mut self, bytes: &[u8]) -> io::Result<usize> {
         if let Ok(text) = str::from_utf8(bytes) {
-            for line in text.lines() {
+            if let Some(line) = text.lines().next() {
                 self.note(line)?;
             }
         }

@@ -5,9 +5,11 @@ ghost use Rattle.kb_keycheck.specs.Ends.{EndsWithFault, HasNoWords, IsLineFault,
 ghost use Rattle.kb_keycheck.specs.Ends.{RunsLine, RunsOnSystem};
 
 use crate::dispatch::obey;
+use crate::reason::Reasons;
 use crate::words::{matched, not_text};
 use kb_base::NoMemory;
 use kb_cli::{OptionsFault, WordsFault, refuse_line, words_fault};
+use kb_disk::{FileSource, SystemFiles};
 use std::alloc::Global;
 use std::env;
 use std::process::ExitCode;
@@ -32,7 +34,7 @@ fn run_line<R: Alloc<A = Global> + Env + Files + Print + Eprint>(rt: &R, alloc: 
     ensures table { result ≤ 4 }
 {
     match line_words(rt, alloc) {
-        Ok(words) => run_words(rt, alloc, words.as_slice()),
+        Ok(words) => keycheck_over(rt, alloc, words.as_slice(), &SystemFiles { rt }),
         Err(fault) => refuse(rt, fault),
     }
 }
@@ -66,30 +68,37 @@ fn no_words(alloc: Global, fault: WordsFault) -> Result<OptionsFault, NoMemory>
     }
 }
 
-/// Does what the words ask for, and returns the exit status.
+/// Does what the words of a command line ask for, the program's name first, over some files, and returns the
+/// exit status: that of `keycheck`.
 #[tactic(auto, using(crate::proofs::RunLemmas::line_status))]
-fn run_words<R: Files + Print + Eprint>(rt: &R, alloc: Global, words: &[String]) -> u8
-    ensures run { RunsLine (map string_bytes words.now) result }
+pub fn keycheck_over<R: Print + Eprint, F: FileSource + Reasons>(
+    rt: &R,
+    alloc: Global,
+    words: &[String],
+    files: &F,
+) -> u8
+    ensures run { RunsLine (F.held files.now) (map string_bytes words.now) result }
     ensures table { result ≤ 4 }
 {
-    match obey_words(rt, alloc, words) {
+    match obey_words(rt, alloc, words, files) {
         Ok(status) => status,
         Err(fault) => refuse(rt, fault),
     }
 }
 
 /// Does what the words ask for, if they can be parsed.
-fn obey_words<R: Files + Print + Eprint>(
+fn obey_words<R: Print + Eprint, F: FileSource + Reasons>(
     rt: &R,
     alloc: Global,
     words: &[String],
+    files: &F,
 ) -> Result<u8, OptionsFault>
-    ensures obeyed { IfOk result (ObeysLine (map string_bytes words.now)) }
+    ensures obeyed { IfOk result (ObeysLine (F.held files.now) (map string_bytes words.now)) }
     ensures table { IfOk result (λ status. status ≤ 4) }
     ensures refused { IfErr result (IsLineFault (map string_bytes words.now)) }
 {
     let texts = texts_of(alloc, words)?;
-    obey_texts(rt, alloc, texts.as_slice())
+    obey_texts(rt, alloc, texts.as_slice(), files)
 }
 
 /// The texts of the words.
@@ -105,17 +114,18 @@ fn texts_of<'w>(alloc: Global, words: &'w [String]) -> Result<Vec<&'w str>, NoMe
 
 /// Does what these texts ask for, if they can be parsed.
 #[tactic(auto, using(crate::proofs::RunLemmas::line_ends))]
-fn obey_texts<R: Files + Print + Eprint>(
+fn obey_texts<R: Print + Eprint, F: FileSource + Reasons>(
     rt: &R,
     alloc: Global,
     texts: &[&str],
+    files: &F,
 ) -> Result<u8, OptionsFault>
-    ensures obeyed { IfOk result (ObeysLine (map (λ text. text.now) texts.now)) }
+    ensures obeyed { IfOk result (ObeysLine (F.held files.now) (map (λ text. text.now) texts.now)) }
     ensures table { IfOk result (λ status. status ≤ 4) }
     ensures refused { IfErr result (IsLineFault (map (λ text. text.now) texts.now)) }
 {
     let matches = matched(alloc, texts)?;
-    Ok(obey(rt, alloc, &matches))
+    Ok(obey(rt, alloc, &matches, files))
 }
 
 /// Prints the error of a command line that is refused, the help or the version, and returns the exit status.

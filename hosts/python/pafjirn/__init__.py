@@ -7,24 +7,33 @@
         engine.load()
         print(engine.press("ctrl+h").trace, end="")
 
-The package takes the first of these libraries: that of the path which is passed to Engine, that of the path in
-PAFJIRN_LIBRARY, the one that `pip install` put beside this file, the one that tools/build-library installed in
-.rt/prefix of the repository of this file, and the one that the system finds by name.
+Keycheck is the program `keycheck` over files in memory: it says what is wrong in them.
+
+    from pafjirn import Keycheck
+
+    with Keycheck() as keycheck:
+        keycheck.put("keybindings.json", b'[{ "key": "ctrl+retrun", "command": "type" }]')
+        print(keycheck.run("check", "--user", "keybindings.json").output, end="")
+
+The package takes the first of these libraries: that of the path which is passed to Engine or Keycheck, that
+of the path in PAFJIRN_LIBRARY, the one that `pip install` put beside this file, the one that
+tools/build-library installed in .rt/prefix of the repository of this file, and the one that the system finds
+by name.
 `python3 -m pafjirn` is a prompt at which keys are pressed.
 
 A call can raise:
 
-- LibraryNotFound: no library can be loaded. Only Engine() raises it.
+- LibraryNotFound: no library can be loaded. Only Engine() and Keycheck() raise it.
 - EngineError: the library answered that it did nothing, or that the session is stopped. `answer` is the
   number of the answer. After 103, a handler that trapped, `trace` reads what the event did up to there.
 - LoadRefused, an EngineError: the load was refused.
 - OutOfRange, a ValueError: a number doesn't fit into its integer type of the library. The engine was not
   called.
-- WrongThread: another thread made the engine. The engine was not called.
-- ValueError: a text can't be encoded as UTF-8, or `set` can't write the value on a line. The engine was not
+- WrongThread: another thread made the engine or the Keycheck. The library was not called.
+- ValueError: a text can't be encoded as UTF-8, or `set` can't write the value on a line. The library was not
   called.
 - ctypes.ArgumentError or TypeError: an argument is of another type than the call takes, such as a text in
-  the place of the bytes of a file. The engine was not called."""
+  the place of the bytes of a file. The library was not called."""
 
 from __future__ import annotations
 
@@ -46,17 +55,20 @@ from typing import Any, Union
 Value = Union[bool, int, str, Sequence[str], Mapping[str, Any]]
 
 __all__ = [
+    "Checked",
     "Ending",
     "Engine",
     "EngineError",
     "Entry",
     "File",
+    "Keycheck",
     "Kind",
     "LibraryNotFound",
     "LoadRefused",
     "OutOfRange",
     "Platform",
     "Record",
+    "Step",
     "Value",
     "WrongThread",
 ]
@@ -110,11 +122,17 @@ class _Part(enum.IntEnum):
     SOURCE = 5
     BEFORE = 6
     AFTER = 7
+    STEP = 8
 
 
 class _EntryPart(enum.IntEnum):
     LABEL = 0
     ENTRY_COMMAND = 1
+
+
+class _Stream(enum.IntEnum):
+    OUTPUT = 0
+    ERRORS = 1
 
 
 class _Answer(enum.IntEnum):
@@ -133,7 +151,7 @@ class _Answer(enum.IntEnum):
 
 _REASONS = {
     _Answer.OUT_OF_ORDER: "files come before the load, and events after it",
-    _Answer.UNKNOWN: "the engine is closed, or a number has no meaning",
+    _Answer.UNKNOWN: "the engine or the Keycheck is closed, or a number has no meaning",
     _Answer.NO_MEMORY: "stopped: out of memory",
     _Answer.NO_TEXT: "the bytes aren't UTF-8",
     _Answer.NO_KEY: "the text is no key: docs/FORMATS.md lists them, such as ctrl+s",
@@ -175,6 +193,14 @@ class WrongThread(RuntimeError):
 
 
 @dataclasses.dataclass(frozen=True)
+class Step:
+    """A step of `runCommands`."""
+
+    number: int  # its number in the list, from 1
+    command: str
+
+
+@dataclasses.dataclass(frozen=True)
 class Record:
     """What an event did. Only key presses and choices start commands. The trace has everything else."""
 
@@ -185,6 +211,7 @@ class Record:
     arguments_json: str | None  # the arguments of the rule, as JSON; None without arguments
     source: str | None  # the file of the rule: defaults, user, or the identifier of an extension
     place: int | None  # the number of elements above the rule in its file
+    step: Step | None  # the last step of runCommands that began; those above it ran, those below it didn't
     trace: str  # the lines that the event added to the trace, each with its line feed
 
     @property
@@ -199,6 +226,18 @@ class Entry:
 
     label: str
     command: str
+
+
+@dataclasses.dataclass(frozen=True)
+class Checked:
+    """How a run of `keycheck` ended, and what it wrote. The exit status is 0 if nothing is wrong or a
+    question was answered, 1 if a problem was shown, 2 for a command line that is refused, 3 for a file that
+    isn't there or is refused, and 4 if memory was refused or a script didn't run to its end.
+    docs/KEYCHECK.md has all cases."""
+
+    status: int  # the exit status
+    output: str  # what it wrote to standard output
+    errors: str  # what it wrote to standard error
 
 
 class _Handle(ctypes.Structure):
@@ -237,8 +276,15 @@ _FUNCTIONS: dict[str, tuple[list[Any], Any]] = {
     "read": ([_NUMBER, _SIZE, *_TEXT], _SIZE),
     "taken": ([], _NUMBER),
     "place": ([], _SIZE),
+    "steps": ([], _SIZE),
     "entries": ([], _SIZE),
     "entry": ([_NUMBER, _NUMBER, _SIZE, *_TEXT], _SIZE),
+    "put": ([*_TEXT, *_TEXT], _NUMBER),
+    "remove": (_TEXT, _NUMBER),
+    "word": (_TEXT, _NUMBER),
+    "keycheck": ([], _NUMBER),
+    "status": ([], _NUMBER),
+    "written": ([_NUMBER, _SIZE, *_TEXT], _SIZE),
 }
 
 
@@ -291,6 +337,12 @@ def _within(number: int, least: int, most: int) -> int:
     return int(number)
 
 
+def _check_done(answer: int) -> None:
+    """Raises EngineError for an answer that says that a call did nothing."""
+    if answer != _Answer.DONE:
+        raise EngineError(answer)
+
+
 def _line_that_sets(scope: str, key: str, value: Sequence[str] | Mapping[str, Any]) -> bytes:
     """The script line that sets a key to a list or an object. Only the member names of an object matter."""
     for word in (scope, key):
@@ -304,7 +356,51 @@ def _line_that_sets(scope: str, key: str, value: Sequence[str] | Mapping[str, An
     return f"set {scope} {key} {json.dumps(written, ensure_ascii=False)}".encode()
 
 
-class Engine:
+class _Owner:
+    """Owns a handle of the library, which its calls take."""
+
+    def __init__(self, library: str | os.PathLike[str] | None = None) -> None:
+        self._library = _library_at(_path_of_library(library))
+        self._handle = _Handle()
+        self._left = _HERE.left
+        while self._left:
+            self._library.pafjirn_free(self._left.pop())
+        self._room = ctypes.create_string_buffer(1024)
+        self._done("new")
+        self._finalizer = weakref.finalize(self, _release, self._library, self._handle, self._left)
+
+    def __exit__(self, *_: object) -> None:
+        self.close()
+
+    def close(self) -> None:
+        """Ends it, and gives its memory back. Reads of a closed Engine are empty. All other calls of a closed
+        Engine or Keycheck raise EngineError."""
+        self._check_thread()
+        self._finalizer()
+
+    def _check_thread(self) -> None:
+        if _HERE.left is not self._left:
+            raise WrongThread(f"another thread made this {type(self).__name__}: call it there, by a queue")
+
+    def _call(self, name: str, given: tuple[Any, ...]) -> int:
+        self._check_thread()
+        answer: int = getattr(self._library, f"pafjirn_{name}")(self._handle, *given)
+        return answer
+
+    def _done(self, name: str, *given: Any) -> None:
+        _check_done(self._call(name, given))
+
+    def _whole(self, read: Callable[[ctypes.Array[ctypes.c_char], int], int]) -> str:
+        """A whole text. `read` copies it into a buffer of the given size, and returns its length. The buffer
+        grows if a text is longer."""
+        length = read(self._room, len(self._room))
+        if length > len(self._room):
+            self._room = ctypes.create_string_buffer(2 * length)
+            read(self._room, len(self._room))
+        return ctypes.string_at(self._room, length).decode()
+
+
+class Engine(_Owner):
     """An engine. First pass files to it, then load it, and then send it events.
 
     Only the thread that made an engine may use it: calls from other threads raise WrongThread. Close an
@@ -315,26 +411,11 @@ class Engine:
         """Makes an engine without files, for Linux. `library` is the path of the shared library. Without it
         the library is searched for as the docstring of this module says. Raises LibraryNotFound, and
         EngineError if memory is refused."""
-        self._library = _library_at(_path_of_library(library))
-        self._handle = _Handle()
-        self._left = _HERE.left
-        while self._left:
-            self._library.pafjirn_free(self._left.pop())
-        self._room = ctypes.create_string_buffer(1024)
+        super().__init__(library)
         self._ending = Ending.DONE
-        self._done("new")
-        self._finalizer = weakref.finalize(self, _release, self._library, self._handle, self._left)
 
     def __enter__(self) -> Engine:
         return self
-
-    def __exit__(self, *_: object) -> None:
-        self.close()
-
-    def close(self) -> None:
-        """Ends the engine. Reads of a closed engine are empty, and all other calls raise EngineError."""
-        self._check_thread()
-        self._finalizer()
 
     def platform(self, platform: Platform) -> None:
         """Sets the platform, before the load."""
@@ -353,7 +434,10 @@ class Engine:
     def load(self) -> str:
         """Loads a session from the files, and returns its warnings, each with its line feed. Raises
         LoadRefused with the line that says why."""
-        self._done("load")
+        answer = self._call("load", ())
+        if answer == _Answer.REFUSED:
+            raise LoadRefused(answer, self._text(_Part.NOTICE).rstrip())
+        _check_done(answer)
         return self._text(_Part.NOTICE)
 
     def line(self, line: str | bytes) -> Record:
@@ -429,8 +513,13 @@ class Engine:
             arguments_json=arguments or None,
             source=source or None,
             place=self._library.pafjirn_place(self._handle) if source else None,
+            step=self._step(),
             trace=self._text(_Part.TRACE),
         )
+
+    def _step(self) -> Step | None:
+        number = self._library.pafjirn_steps(self._handle)
+        return Step(number, self._text(_Part.STEP)) if number else None
 
     def text(self) -> tuple[str, str]:
         """The text before the caret, and the text after it."""
@@ -439,22 +528,6 @@ class Engine:
     def trace(self) -> str:
         """The lines that the last event added to the trace."""
         return self._text(_Part.TRACE)
-
-    def _check_thread(self) -> None:
-        if _HERE.left is not self._left:
-            raise WrongThread("another thread made this engine: send it events on that thread, by a queue")
-
-    def _call(self, name: str, given: tuple[Any, ...]) -> int:
-        self._check_thread()
-        answer: int = getattr(self._library, f"pafjirn_{name}")(self._handle, *given)
-        return answer
-
-    def _done(self, name: str, *given: Any) -> None:
-        answer = self._call(name, given)
-        if answer == _Answer.REFUSED:
-            raise LoadRefused(answer, self._text(_Part.NOTICE).rstrip())
-        if answer != _Answer.DONE:
-            raise EngineError(answer)
 
     def _told(self, name: str, *given: Any) -> Record:
         self._told_quietly(name, *given)
@@ -486,11 +559,46 @@ class Engine:
         read: Callable[..., int] = self._library.pafjirn_read
         return self._whole(lambda room, size: read(self._handle, part, 0, room, size))
 
-    def _whole(self, read: Callable[[ctypes.Array[ctypes.c_char], int], int]) -> str:
-        """A whole text. `read` copies it into a buffer of the given size, and returns its length. The buffer
-        grows if a text is longer."""
-        length = read(self._room, len(self._room))
-        if length > len(self._room):
-            self._room = ctypes.create_string_buffer(2 * length)
-            read(self._room, len(self._room))
-        return ctypes.string_at(self._room, length).decode()
+
+class Keycheck(_Owner):
+    """The program `keycheck` over files in memory: it says what is wrong in files, and why a key does what it
+    does. It reads no file of the system, and the files of an Engine aren't among its own.
+
+    Threads, `close` and the context manager are as those of an Engine."""
+
+    def __init__(self, library: str | os.PathLike[str] | None = None) -> None:
+        """Makes a Keycheck without files. `library` is as that of an Engine. Raises LibraryNotFound, and
+        EngineError if memory is refused."""
+        super().__init__(library)
+
+    def __enter__(self) -> Keycheck:
+        return self
+
+    def put(self, path: str, data: bytes) -> None:
+        """Copies a file's bytes to a path. They replace those of an earlier call. A path is looked for as it
+        is spelled: the files of an extension in the folder `notes` are at `notes/package.json` and
+        `notes/handlers.json`. Raises EngineError if memory is refused; then the files are as before."""
+        self._done("put", *_bytes(path), data, len(data))
+
+    def remove(self, path: str) -> None:
+        """Removes the file at a path, if there is one."""
+        self._done("remove", *_bytes(path))
+
+    def run(self, *words: str) -> Checked:
+        """Runs `keycheck` by the words of a command line, without the program's name, over the files that
+        were put, which stay. docs/KEYCHECK.md has the command lines. Raises EngineError if memory for the
+        words is refused. Memory that is refused during the run is no error: the status is 4 then."""
+        given = [_bytes(word) for word in ("keycheck", *words)]
+        try:
+            for word in given:
+                self._done("word", *word)
+        finally:
+            # (a run takes all words away, also those before a word that was refused)
+            answer = self._call("keycheck", ())
+        _check_done(answer)
+        status = self._library.pafjirn_status(self._handle)
+        return Checked(status, self._written(_Stream.OUTPUT), self._written(_Stream.ERRORS))
+
+    def _written(self, stream: _Stream) -> str:
+        read: Callable[..., int] = self._library.pafjirn_written
+        return self._whole(lambda room, size: read(self._handle, stream, 0, room, size))

@@ -5,8 +5,11 @@
 
 use std::fmt;
 
+mod keycheck;
 #[allow(unsafe_code)]
 mod sys;
+
+pub use keycheck::{Checked, Keycheck};
 
 /// A file that an engine is loaded from.
 #[derive(Clone, Copy, Debug, PartialEq, Eq)]
@@ -127,8 +130,20 @@ pub struct Record {
     pub arguments: Option<String>,
     /// The rule that was taken.
     pub rule: Option<Place>,
+    /// The last step of `runCommands` that began. Those above it ran, and those below it didn't.
+    pub step: Option<Step>,
     /// The lines that the event added to the trace, each with its line feed.
     pub trace: String,
+}
+
+/// A step of `runCommands`.
+#[derive(Clone, Debug, PartialEq, Eq)]
+#[non_exhaustive]
+pub struct Step {
+    /// Its number in the list, from 1.
+    pub number: usize,
+    /// Its command.
+    pub command: String,
 }
 
 /// Where a rule is.
@@ -328,7 +343,7 @@ impl Engine {
         match answer {
             sys::DONE => Ok(()),
             sys::REFUSED => Err(Error::Refused(self.handle.text(sys::NOTICE))),
-            answer => Err(self.error_of(answer)),
+            answer => Err(error_of(&mut self.handle, answer)),
         }
     }
 
@@ -339,26 +354,26 @@ impl Engine {
             sys::REFUSED => Ending::Refused,
             sys::NOT_FOUND => Ending::NotFound,
             sys::BAD_ARGUMENTS => Ending::BadArguments,
-            answer => return Err(self.error_of(answer)),
+            answer => return Err(error_of(&mut self.handle, answer)),
         };
         Ok(Told {
             engine: self,
             ending,
         })
     }
+}
 
-    /// The error for an answer that is neither done nor refused.
-    fn error_of(&mut self, answer: u32) -> Error {
-        match answer {
-            sys::OUT_OF_ORDER => Error::OutOfOrder,
-            sys::NO_KEY => Error::NoKey,
-            sys::NO_MEMORY => Error::NoMemory,
-            sys::STOPPED => Error::Stopped,
-            sys::TRAPPED => Error::Trapped {
-                trace: self.handle.text(sys::TRACE),
-            },
-            answer => Error::Unknown(answer),
-        }
+/// The error for an answer that is neither done nor refused.
+fn error_of(handle: &mut sys::Handle, answer: u32) -> Error {
+    match answer {
+        sys::OUT_OF_ORDER => Error::OutOfOrder,
+        sys::NO_KEY => Error::NoKey,
+        sys::NO_MEMORY => Error::NoMemory,
+        sys::STOPPED => Error::Stopped,
+        sys::TRAPPED => Error::Trapped {
+            trace: handle.text(sys::TRACE),
+        },
+        answer => Error::Unknown(answer),
     }
 }
 
@@ -396,6 +411,7 @@ impl Told<'_> {
                 source,
                 above: handle.place(),
             }),
+            step: last_step(handle),
             trace: handle.text(sys::TRACE),
         }
     }
@@ -411,6 +427,15 @@ impl Told<'_> {
     pub fn read_trace(self, text: &mut Vec<u8>) {
         self.engine.handle.read_into(sys::TRACE, text);
     }
+}
+
+/// The last step of `runCommands` that began in an event.
+fn last_step(handle: &mut sys::Handle) -> Option<Step> {
+    let number = handle.steps();
+    (number > 0).then(|| Step {
+        number,
+        command: handle.text(sys::STEP),
+    })
 }
 
 /// A text that isn't empty.

@@ -23,12 +23,16 @@ pub const ARGUMENTS: u32 = 4;
 pub const SOURCE: u32 = 5;
 pub const BEFORE: u32 = 6;
 pub const AFTER: u32 = 7;
+pub const STEP: u32 = 8;
 
 pub const CHORDING: u32 = 1;
 pub const STARTED: u32 = 2;
 
 pub const LABEL: u32 = 0;
 pub const ENTRY_COMMAND: u32 = 1;
+
+pub const OUTPUT: u32 = 0;
+pub const ERRORS: u32 = 1;
 
 /// `pafjirn_handle`.
 #[repr(C)]
@@ -94,11 +98,30 @@ extern "C" {
     fn pafjirn_read(engine: &mut Raw, part: u32, from: usize, into: *mut u8, room: usize) -> usize;
     fn pafjirn_taken(engine: &mut Raw) -> u32;
     fn pafjirn_place(engine: &mut Raw) -> usize;
+    fn pafjirn_steps(engine: &mut Raw) -> usize;
     fn pafjirn_entries(engine: &mut Raw) -> usize;
     fn pafjirn_entry(
         engine: &mut Raw,
         number: u32,
         part: u32,
+        from: usize,
+        into: *mut u8,
+        room: usize,
+    ) -> usize;
+    fn pafjirn_put(
+        engine: &mut Raw,
+        path: *const u8,
+        path_length: usize,
+        bytes: *const u8,
+        bytes_length: usize,
+    ) -> u32;
+    fn pafjirn_remove(engine: &mut Raw, path: *const u8, length: usize) -> u32;
+    fn pafjirn_word(engine: &mut Raw, word: *const u8, length: usize) -> u32;
+    fn pafjirn_keycheck(engine: &mut Raw) -> u32;
+    fn pafjirn_status(engine: &mut Raw) -> u32;
+    fn pafjirn_written(
+        engine: &mut Raw,
+        stream: u32,
         from: usize,
         into: *mut u8,
         room: usize,
@@ -235,6 +258,11 @@ impl Handle {
         unsafe { pafjirn_place(&mut self.0) }
     }
 
+    pub fn steps(&mut self) -> usize {
+        // SAFETY: the handle is one of this file, and the call takes no pointer.
+        unsafe { pafjirn_steps(&mut self.0) }
+    }
+
     pub fn entries(&mut self) -> usize {
         // SAFETY: the handle is one of this file, and the call takes no pointer.
         unsafe { pafjirn_entries(&mut self.0) }
@@ -247,6 +275,44 @@ impl Handle {
         unsafe {
             read_whole(&mut bytes, |into, room| {
                 pafjirn_entry(&mut self.0, number, part, 0, into, room)
+            });
+        }
+        text_of(bytes)
+    }
+
+    pub fn put(&mut self, path: &[u8], bytes: &[u8]) -> u32 {
+        let (path_at, bytes_at) = (path.as_ptr(), bytes.as_ptr());
+        // SAFETY: each pointer is valid for the given length, and the call only reads.
+        unsafe { pafjirn_put(&mut self.0, path_at, path.len(), bytes_at, bytes.len()) }
+    }
+
+    pub fn remove(&mut self, path: &[u8]) -> u32 {
+        // SAFETY: the pointer is valid for the given length, and the call only reads.
+        unsafe { pafjirn_remove(&mut self.0, path.as_ptr(), path.len()) }
+    }
+
+    pub fn word(&mut self, word: &[u8]) -> u32 {
+        // SAFETY: the pointer is valid for the given length, and the call only reads.
+        unsafe { pafjirn_word(&mut self.0, word.as_ptr(), word.len()) }
+    }
+
+    pub fn keycheck(&mut self) -> u32 {
+        // SAFETY: the handle is one of this file, and the call takes no pointer.
+        unsafe { pafjirn_keycheck(&mut self.0) }
+    }
+
+    pub fn status(&mut self) -> u32 {
+        // SAFETY: the handle is one of this file, and the call takes no pointer.
+        unsafe { pafjirn_status(&mut self.0) }
+    }
+
+    pub fn written(&mut self, stream: u32) -> String {
+        let mut bytes = Vec::with_capacity(1024);
+        // SAFETY: `read_whole` passes the capacity of this vector, and the call returns the length of the
+        // whole text.
+        unsafe {
+            read_whole(&mut bytes, |into, room| {
+                pafjirn_written(&mut self.0, stream, 0, into, room)
             });
         }
         text_of(bytes)

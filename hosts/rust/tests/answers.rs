@@ -1,5 +1,6 @@
-//! What the crate answers: to events in and out of order, to refusals, and to what records have.
-use pafjirn::{Ending, Engine, Error, File, Kind, Place, Platform, Value};
+//! What the crate answers: to events in and out of order, to refusals, to what records have, and what runs of
+//! `keycheck` write.
+use pafjirn::{Ending, Engine, Error, File, Keycheck, Kind, Place, Platform, Value};
 
 const LAYOUT: &[u8] = br#"{"scopes":[{"name":"window"},{"name":"editor","parent":"window"}]}"#;
 const RULES: &[u8] = br#"[
@@ -7,7 +8,8 @@ const RULES: &[u8] = br#"[
     {"key":"x","command":"type","args":"n","when":"number == -7"},
     {"key":"x","command":"type","args":"w","when":"word == b"},
     {"key":"a b","command":"my.own"},
-    {"key":"e","command":""}
+    {"key":"e","command":""},
+    {"key":"s","command":"runCommands","args":{"commands":["buffer.top",{"command":"x\nrun y"}]}}
 ]"#;
 const MANIFEST: &str = r#"{"name":"e","publisher":"p","contributes":{"commands":[
     {"command":"buffer.top","title":"Größe"}]}}"#;
@@ -72,6 +74,11 @@ fn records_have_what_an_event_took() -> Result<(), Error> {
     };
     assert_eq!(own.rule, Some(place));
     assert_eq!(own.trace, "key a b: start my.own\nnot found my.own\n");
+    assert_eq!(own.step, None);
+    let (ending, step) = engine.press("s").map(|told| (told.ending(), told.record().step))?;
+    assert_eq!(ending, Ending::NotFound);
+    let named = step.map(|it| (it.number, it.command));
+    assert_eq!(named, Some((2, "x\nrun y".into())));
     let empty = engine.press("e")?.record();
     assert_eq!(empty.command.as_deref(), Some(""));
     let unbound = engine.press("q")?.record();
@@ -115,5 +122,45 @@ fn a_long_trace_is_read_whole() -> Result<(), Error> {
         .set("window", &name, Value::Truth(true))?
         .read_trace(&mut text);
     assert_eq!(text, format!("set window {name}\n").into_bytes());
+    Ok(())
+}
+
+#[test]
+fn keycheck_shows_what_is_wrong_in_files() -> Result<(), Error> {
+    let mut keycheck = Keycheck::new()?;
+    keycheck.put("ü/keys", b"[\n  {\"key\":\"a\"} ]")?;
+    let words = ["check", "--user", "ü/keys"];
+    let checked = keycheck.run(words)?;
+    assert_eq!((checked.status, &*checked.errors), (1, ""));
+    let shown = "ü/keys:2:3: error: 40 MissingMember: the rule has no member `command`; the rule is dropped\n\
+        \u{20}     {\"key\":\"a\"} ]\n\u{20}     ^\n1 problem: 1 error\n";
+    assert_eq!(checked.output, shown);
+    assert_eq!(keycheck.run(words)?, checked);
+    keycheck.put("ü/keys", b"[]")?;
+    let fine = keycheck.run(words)?;
+    assert_eq!((fine.status, &*fine.output, &*fine.errors), (0, "", ""));
+    keycheck.remove("ü/keys");
+    keycheck.remove("ü/keys");
+    let missing = keycheck.run(words)?;
+    assert_eq!((missing.status, &*missing.output), (3, ""));
+    assert_eq!(
+        missing.errors,
+        "cannot read ü/keys: there is no such file\n"
+    );
+    Ok(())
+}
+
+#[test]
+fn keycheck_gets_the_words_of_one_run_and_its_own_files() -> Result<(), Error> {
+    let mut keycheck = Keycheck::new()?;
+    let none: [&str; 0] = [];
+    assert_eq!(keycheck.run(none)?.status, 2);
+    let version = keycheck.run(vec![String::from("--version")])?;
+    assert_eq!((version.status, &*version.errors), (0, ""));
+    assert!(version.output.starts_with("keycheck "));
+    let mut other = Keycheck::new()?;
+    other.put("k", b"[]")?;
+    assert_eq!(other.run(["list", "--user", "k"])?.status, 0);
+    assert_eq!(keycheck.run(["list", "--user", "k"])?.status, 3);
     Ok(())
 }

@@ -1,5 +1,7 @@
 // The files of the page: which file is which, how they are read, and how they are kept and put into a link.
 
+import { identifier, plain, read } from "./places.js";
+
 const BEGIN = `[
   { "key": "ctrl+k ctrl+t", "command": "type", "args": "TODO: " },
   { "key": "left", "command": "cursorLeft" },
@@ -19,7 +21,8 @@ const LAYOUT = `{
 `;
 /** The most bytes of a file (docs/FORMATS.md). */
 export const MOST_BYTES = 16_777_216;
-const STORED = "pafjirn.state";
+// The names under which this browser keeps the state, and the one before a start over or a link.
+const STORED = "pafjirn.state", BEFORE = "pafjirn.before";
 const NAMES = { user: "keybindings.json", defaults: "defaults.json", layout: "layout.json" };
 
 /** The files that somebody finds who comes for the first time. */
@@ -56,34 +59,70 @@ export function given(files) {
 }
 
 /** The name of the file that the source of a rule or of a refusal stands for, or null. */
-export function idOf(files, source, identifierOf) {
+export function idOf(files, source) {
   if (source in NAMES) return source;
   const [, number, name] = /^ext (\d+) (package|handlers)\.json$/.exec(source) ?? [];
   if (number !== undefined) return `${name === "package" ? "manifest" : "handlers"} ${number}`;
-  const place = files.extensions.findIndex(({ manifest }) => identifierOf(manifest) === source);
+  const place = files.extensions.findIndex(({ manifest }) => identifier(manifest) === source);
   return place < 0 ? null : `manifest ${place}`;
 }
 
-/** Files in which given ones, each with a path and a text, take the place of those of the same kind. */
+/** Files in which given ones, each with a path and a text, take the place of those of the same kind. Of two
+ * of a kind the first counts. Returns the files, and which ones were left out, with the reason. */
 export function taken(files, given) {
   const made = { ...files, extensions: files.extensions.map((it) => ({ ...it })) };
-  for (const { path, text } of given) take(made, path, text);
-  return made;
+  const found = given.map((it) => ({ ...it, kind: kindOf(it.path, it.text) })), left = [], filled = new Set();
+  // (a list of rules may have any name, and so may a lone text with a mistake)
+  const other = found.length === 1 ? "user" : null;
+  const hasUser = found.some(({ kind }) => kind === "user");
+  for (const { path, text, kind: own } of found) {
+    const kind = own === "rules" && !hasUser ? "user" : own ?? other;
+    if (kind === "manifest" || kind === "handlers") takeOfExtension(made, path, kind, text);
+    else if (kind === null) left.push(`${path} (neither rules nor scopes)`);
+    else if (kind === "rules" || filled.has(kind)) left.push(`${path} (another file is taken)`);
+    else {
+      made[kind] = text;
+      filled.add(kind);
+    }
+  }
+  made.extensions = inOrder(made.extensions);
+  return { files: made, left };
 }
 
-// Adds a file by its name: an extension's two files by their folder, a layout and default rules by a word in
-// their name, and any other file as the user's rules.
-function take(files, path, text) {
-  const parts = path.split("/"), name = parts.pop();
-  if (name !== "package.json" && name !== "handlers.json") {
-    const kind = name.includes("layout") ? "layout" : name.includes("default") ? "defaults" : "user";
-    files[kind] = text;
-    return;
-  }
-  const folder = parts.pop() || "extension";
+// What a file is, by a word in its name, or else by its content; null if it is neither.
+function kindOf(path, text) {
+  const name = path.split("/").pop();
+  if (name === "package.json") return "manifest";
+  if (name === "handlers.json") return "handlers";
+  const word = ["layout", "default", "keybinding"].find((it) => name.includes(it));
+  if (word) return { layout: "layout", default: "defaults", keybinding: "user" }[word];
+  const value = read(text);
+  if (value.items) return "rules";
+  return value.members?.has("scopes") ? "layout" : null;
+}
+
+// An extension's two files have the same folder.
+function takeOfExtension(files, path, kind, text) {
+  const folder = path.split("/").at(-2) ?? "extension";
   let found = files.extensions.find((it) => it.folder === folder);
   if (!found) files.extensions.push(found = { folder, manifest: "", handlers: "" });
-  found[name === "package.json" ? "manifest" : "handlers"] = text;
+  found[kind] = text;
+}
+
+// Extensions, each behind those on which it depends. The engine refuses another order.
+function inOrder(extensions) {
+  const nameOf = ({ manifest }) => identifier(manifest).toLowerCase(), made = new Set();
+  const add = (extension, above) => {
+    if (made.has(extension) || above.includes(extension)) return;
+    const needed = plain(read(extension.manifest).members?.get("extensionDependencies"));
+    for (const name of Array.isArray(needed) ? needed : []) {
+      const found = extensions.find((it) => nameOf(it) === String(name).toLowerCase());
+      if (found) add(found, [...above, extension]);
+    }
+    made.add(extension);
+  };
+  for (const extension of extensions) add(extension, []);
+  return [...made];
 }
 
 /** The name for a text that was pasted, by its members. */
@@ -95,14 +134,17 @@ export function nameOfPasted(value) {
   return value?.items ? "keybindings.json" : null;
 }
 
-/** The files that count among dropped ones: in the folder of an extension its two files, in other folders all
- * JSON files. The packages that an extension uses don't count. */
+/** The files that count among dropped ones, in the order of their paths: in the folder of an extension and
+ * below it the two files of an extension, in other folders all JSON files. The packages that an extension
+ * uses don't count. */
 export function wanted(given) {
-  const folderOf = (path) => path.split("/").slice(0, -1).join("/");
-  const manifests = given.map(({ path }) => path).filter((it) => it.endsWith("/package.json"));
-  const ofExtensions = new Set(manifests.map(folderOf));
-  return given.filter(({ path }) => path.endsWith(".json") && !path.includes("node_modules/")
-    && (!ofExtensions.has(folderOf(path)) || /\/(package|handlers)\.json$/.test(path)));
+  const paths = given.map(({ path }) => path).filter((it) => it.endsWith("/package.json"));
+  const folders = paths.map((it) => it.slice(0, -"package.json".length));
+  const isOfExtension = (path) => folders.some((it) => path.startsWith(it));
+  const counts = (path) => path.endsWith(".json") && !path.includes("node_modules/")
+    && (!isOfExtension(path) || /\/(package|handlers)\.json$/.test(path));
+  const order = new Intl.Collator("en", { numeric: true });
+  return given.filter(({ path }) => counts(path)).sort((one, other) => order.compare(one.path, other.path));
 }
 
 /** All files in a dropped entry, each with its path. */
@@ -135,30 +177,45 @@ export async function textOf(file) {
 
 /** Keeps the state in this browser. Returns whether it took it. */
 export function keep(state) {
+  return stored(STORED, state);
+}
+
+/** The state that this browser keeps, or null. */
+export function kept() {
+  return storedIn(STORED);
+}
+
+/** Keeps the state to which the user may go back, or none. */
+export function keepBefore(state) {
+  return stored(BEFORE, state);
+}
+
+/** The state to which the user may go back, or null. */
+export function before() {
+  return storedIn(BEFORE);
+}
+
+function stored(name, state) {
   try {
-    localStorage.setItem(STORED, JSON.stringify(state));
+    if (state) localStorage.setItem(name, JSON.stringify(state));
+    else localStorage.removeItem(name);
     return true;
   } catch {
     return false;
   }
 }
 
-/** The state that this browser keeps, or null. */
-export function kept() {
+function storedIn(name) {
   try {
-    return checked(JSON.parse(localStorage.getItem(STORED)));
+    return checked(JSON.parse(localStorage.getItem(name)));
   } catch {
     return null;
   }
 }
 
-/** Forgets the kept state. */
-export function forget() {
-  try {
-    localStorage.removeItem(STORED);
-  } catch {
-    // (a browser that keeps nothing has nothing to forget)
-  }
+/** Whether two states are the same. */
+export function isSame(one, other) {
+  return JSON.stringify(one) === JSON.stringify(other);
 }
 
 async function through(stream, bytes) {

@@ -5,24 +5,24 @@ const ROWS = [
   ["escape", "f1", "f2", "f3", "f4", "f5", "f6", "f7", "f8", "f9", "f10", "f11", "f12"],
   ["`", "1", "2", "3", "4", "5", "6", "7", "8", "9", "0", "-", "=", "backspace"],
   ["tab", "q", "w", "e", "r", "t", "y", "u", "i", "o", "p", "[", "]", "\\"],
-  ["a", "s", "d", "f", "g", "h", "j", "k", "l", ";", "'", "enter"],
-  ["z", "x", "c", "v", "b", "n", "m", ",", ".", "/"],
-  ["ctrl", "shift", "alt", "meta", "space"],
-  ["home", "end", "pageup", "pagedown", "insert", "delete", "left", "up", "down", "right"],
+  ["capslock", "a", "s", "d", "f", "g", "h", "j", "k", "l", ";", "'", "enter"],
+  ["shift", "z", "x", "c", "v", "b", "n", "m", ",", ".", "/", "up", "insert"],
+  ["ctrl", "meta", "alt", "space", "left", "down", "right"],
+  ["home", "end", "pageup", "pagedown", "delete", "pausebreak"],
 ];
 const HELD = ["ctrl", "shift", "alt", "meta"];
 const FACES = {
-  escape: "Esc", backspace: "⌫", tab: "Tab", enter: "Enter", space: "Space", ctrl: "Ctrl", shift: "Shift",
-  alt: "Alt", meta: "Meta", left: "←", up: "↑", down: "↓", right: "→", pageup: "PgUp", pagedown: "PgDn",
-  insert: "Ins", delete: "Del", home: "Home", end: "End",
+  escape: "Esc", backspace: "⌫", tab: "Tab", capslock: "Caps", enter: "Enter", space: "Space", ctrl: "Ctrl",
+  shift: "Shift", alt: "Alt", meta: "Meta", left: "←", up: "↑", down: "↓", right: "→", pageup: "PgUp",
+  pagedown: "PgDn", insert: "Ins", delete: "Del", home: "Home", end: "End", pausebreak: "Pause",
 };
 const SPOKEN = {
   "`": "backquote", "-": "minus", "=": "equals", "[": "left bracket", "]": "right bracket", "\\": "backslash",
   ";": "semicolon", "'": "quote", ",": "comma", ".": "period", "/": "slash", escape: "escape",
   backspace: "backspace", left: "left", up: "up", down: "down", right: "right", pageup: "page up",
-  pagedown: "page down", insert: "insert", delete: "delete",
+  pagedown: "page down", insert: "insert", delete: "delete", capslock: "caps lock",
 };
-const WIDE = new Set(["backspace", "tab", "enter", "ctrl", "shift", "alt", "meta"]);
+const WIDE = new Set(["backspace", "tab", "capslock", "enter", "ctrl", "shift", "alt", "meta"]);
 // How long the picture shows which key was pressed.
 const SHOWN = 300;
 
@@ -91,9 +91,10 @@ function neighbour(rows, button, key) {
 }
 
 function flash(all, keystroke) {
-  // (the key "-" or "+" may end the text)
-  const last = keystroke.split(" ").pop(), name = /[^+]*.$/.exec(last)?.[0];
-  const button = all.find((it) => it.dataset.key === name);
-  button?.classList.add("pressed");
-  setTimeout(() => button?.classList.remove("pressed"), SHOWN);
+  // (the key "-" may end the text)
+  const [, held, name] = /^((?:[^+-]+[+-])*)(.+)$/s.exec(keystroke.toLowerCase());
+  const names = [name, ...held.split(/[+-]/).map((it) => (it === "cmd" || it === "win" ? "meta" : it))];
+  const buttons = all.filter((it) => names.includes(it.dataset.key));
+  for (const button of buttons) button.classList.add("pressed");
+  setTimeout(() => buttons.forEach((it) => it.classList.remove("pressed")), SHOWN);
 }

@@ -7,9 +7,9 @@ import { Context } from "./context.js";
 import { FAULTS } from "./faults.js";
 import * as store from "./files.js";
 import { makeKeyboard } from "./keyboard.js";
-import { makePalette } from "./palette.js";
-import { entriesOf, identifier, lineAt, read } from "./places.js";
-import { makeScopes } from "./scopes.js";
+import { Palette } from "./palette.js";
+import { entriesOf, identifier, keysIn, lineAt, read, wrongAt } from "./places.js";
+import { Scopes } from "./scopes.js";
 import { at, counted, element, line as item, link, spokenText } from "./shown.js";
 
 const ENDINGS = {
@@ -18,13 +18,19 @@ const ENDINGS = {
   "not found": "not a command of the engine: the host runs it",
   "bad arguments": "the arguments don't fit the command",
 };
+// The faults of texts that aren't JSON with comments.
+const SYNTAX = new Set([2, 3, 4]);
 // How long the text of a file stays as it is before it is loaded.
 const PAUSE = 300;
+const NO_VALUE = "is no value of a context key. Such a value is true or false, a whole number, a text, "
+  + "a list of texts or an object.";
 // The most lines of the trace that are shown.
 const MOST_LINES = 1000;
 
 let pafjirn = null, engine = null, context = new Context("");
 let files = store.firstFiles(), lines = [], chord = "", isComposing = false, isFull = false, late = 0;
+// Whether the address is a link to the state, which the next change makes another one.
+let isLinked = false;
 
 // Reports what happened, in the live region of the page, which a screen reader announces. It announces only
 // changes, so a repeated text gets a space.
@@ -43,11 +49,12 @@ async function tried(work) {
   }
 }
 
-// Loads the files, and then tells the engine the lines again.
+// Loads the files, and then tells the engine lines again. If the files don't load, the lines stay for the
+// next load.
 function load(again = []) {
   clearTimeout(late);
   engine?.dispose();
-  [engine, lines, chord] = [null, [], ""];
+  [engine, lines, chord] = [null, again, ""];
   at("trace").replaceChildren();
   palette.clear();
   showRecord(null);
@@ -55,6 +62,7 @@ function load(again = []) {
     engine = pafjirn.load(store.given(files));
     context = new Context(files.layout.trim() ? files.layout : "");
     showProblems(engine.warnings.map(problemOf));
+    lines = [];
     for (const line of again) {
       const record = tell(line);
       if (record) show(line, record);
@@ -66,6 +74,12 @@ function load(again = []) {
   }
   showExtensions();
   showState();
+  scopes.offer(store.listed(files).flatMap(({ text }) => keysIn(text)));
+}
+
+// Loads the files behind a change, and keeps them.
+function reload(again) {
+  load(again);
   keep();
 }
 
@@ -89,6 +103,7 @@ function follow(line, record) {
   if (name === "focus" || name === "enable" || name === "disable") chord = "";
   if (name === "focus") context.focus = scope;
   if (name === "set") context.set(scope, key, value.join(" "));
+  if (name === "unset") context.unset(scope, key);
   context.follow(record);
 }
 
@@ -100,12 +115,12 @@ function show(line, record) {
   at("trace").scrollTop = at("trace").scrollHeight;
 }
 
-// Tells the engine an event of the user's, and shows what became of it.
-function told(line, spoken) {
+// Tells the engine an event of the user's, and shows what became of it. `why` says why the line isn't read.
+function told(line, spoken, why = `“${line}” is no event: a name has a space.`) {
   return tried(() => {
     const record = tell(line);
     if (!record) {
-      if (engine) throw new Error(`“${line}” can't be told: it has a name with a space.`);
+      if (engine) throw new Error(why);
       return;
     }
     show(line, record);
@@ -115,30 +130,45 @@ function told(line, spoken) {
   });
 }
 
-function press(key) {
+// Presses the keys of a text: one, or those of a chord.
+function press(text) {
   if (!engine) return tell("");
-  // (a line that isn't read is no event)
-  if (/[\r\n]|^$/.test(key) || key === " ") return say("This is no key. A key is such as ctrl+s.", true);
-  flash(key);
+  const keys = text.split(" ").filter(Boolean);
+  if (keys.length === 0) return say("This is no key. A key is such as ctrl+s.", true);
   return tried(() => {
-    const line = `key ${key}`, record = tell(line);
-    if (!record) throw new Error(`${key} is no key of rules.`);
-    show(line, record);
-    showState();
-    keep();
-    const what = record.kind === "started" ? `${record.command || "no command"}, ` : "";
-    say(`${record.chord}: ${what}${resultOf(record)}. ${spokenText(engine.text)}`);
+    const said = keys.map(pressOne);
+    say(said.at(-1));
   });
 }
 
+// Presses a key, and returns what became of it as a sentence.
+function pressOne(key) {
+  const line = `key ${key}`, record = /[\r\n]/.test(key) ? null : tell(line);
+  if (!record) throw new Error(`${key} is no key of rules.`);
+  flash(key);
+  show(line, record);
+  showState();
+  keep();
+  const what = record.kind === "started" ? `${record.command || "no command"}, ` : "";
+  return `${record.chord}: ${what}${resultOf(record)}. ${spokenText(engine.text)}`;
+}
+
 function keep() {
+  if (isLinked) history.replaceState(null, "", location.pathname + location.search);
+  isLinked = false;
   const isKept = store.keep({ files, lines });
   if (!isKept && !isFull) say("This browser has no room to keep the files.", true);
   isFull = !isKept;
 }
 
+// What a refusal means, with the name that it adds.
+function meaningOf({ number, name, detail }) {
+  const meaning = (FAULTS.get(number)?.[1] ?? name).replaceAll(/ \(the line adds [^)]*\)/g, "");
+  return detail === undefined ? meaning : `${meaning} (${detail})`;
+}
+
 function resultOf(record) {
-  if (record.refusal) return `refused: ${FAULTS.get(record.refusal.number)?.[1] ?? record.refusal.name}`;
+  if (record.refusal) return `refused: ${meaningOf(record.refusal)}`;
   if (record.chord && record.kind === "nothing") return "no rule matches";
   if (record.kind === "chording") return "a chord is open";
   const steps = record.trace.split("\n").filter((it) => it.startsWith("run "));
@@ -158,7 +188,7 @@ function showRecord(record) {
 
 // The file of a source, with its title and text, or null.
 function fileOf(source) {
-  const id = store.idOf(files, source, identifier);
+  const id = store.idOf(files, source);
   return store.listed(files).find((it) => it.id === id) ?? null;
 }
 
@@ -189,9 +219,11 @@ function problemOf(warning) {
   return { file, place, name: source, text: `${name}: ${meaning}` };
 }
 
-function refusal({ file: source, number, name, detail }) {
-  const meaning = FAULTS.get(number)?.[1] ?? "", more = detail === undefined ? "" : ` (${detail})`;
-  return { file: fileOf(source), name: source, text: `${name}: ${meaning}${more}`, isRefused: true };
+function refusal(fault) {
+  const text = `${fault.name}: ${meaningOf(fault)}`, file = fileOf(fault.file);
+  const at = file && SYNTAX.has(fault.number) ? wrongAt(file.text) : null;
+  const place = at === null ? null : { begin: at, end: at + 1 };
+  return { file, place, name: fault.file, text, isRefused: true };
 }
 
 function showProblems(problems) {
@@ -226,10 +258,13 @@ function showSource() {
   const { title, text } = store.listed(files).find((it) => it.id === at("file").value);
   at("source-label").textContent = `Text of ${title}`;
   if (at("source").value !== text) at("source").value = text;
-  at("remove").disabled = text === "" && !at("file").value.includes(" ");
+  const isManifest = at("file").value.startsWith("manifest");
+  at("remove").textContent = isManifest ? "Remove this extension" : "Remove this file";
+  at("remove").disabled = text === "" && !isManifest;
 }
 
 function showExtensions() {
+  at("extensions-heading").hidden = !engine || files.extensions.length === 0;
   at("extensions").replaceChildren(...(engine ? files.extensions : []).map(({ manifest }) => {
     const name = identifier(manifest), label = document.createElement("label");
     const box = element("input", "", { type: "checkbox", checked: true });
@@ -264,11 +299,14 @@ function showText() {
 // Takes files, each with its path and text, and says how many there were.
 function take(given) {
   if (given.length === 0) throw new Error("There is no JSON file. Drop JSON files, or folders with them.");
-  files = store.taken(files, given);
+  const { files: taken, left } = store.taken(files, given);
+  remember();
+  files = taken;
   showFiles();
-  load();
-  const warnings = at("problems").children.length;
-  say(`${counted(given.length, "file")} loaded, with ${counted(warnings, "problem")}.`, !engine);
+  reload();
+  const found = `${counted(given.length - left.length, "file")} loaded`;
+  const more = left.length > 0 ? ` Left out: ${left.join(", ")}.` : "";
+  say(`${found}, with ${counted(at("problems").children.length, "problem")}.${more}`, !engine);
 }
 
 async function takeFiles(given) {
@@ -285,7 +323,7 @@ function takePasted(text) {
 }
 
 const flash = makeKeyboard(at("keyboard"), press);
-const palette = makePalette({
+const palette = new Palette({
   list: (query) => told(query ? `palette ${query}` : "palette",
     () => `${counted(engine.entries.length, "command")} found.`),
   choose: (number) => told(`choose ${number}`, (record) => {
@@ -293,10 +331,15 @@ const palette = makePalette({
     return record.refusal ? `${resultOf(record)}.` : `${what}. ${spokenText(engine.text)}`;
   }),
 });
-const scopes = makeScopes({
+const scopes = new Scopes({
   focus: (scope) => told(`focus ${scope}`, (record) => `Focus ${scope}: ${resultOf(record)}.`),
-  set: (scope, key, value) => told(`set ${scope} ${key} ${value}`,
-    (record) => `${key} set in ${scope}: ${resultOf(record)}.`),
+  set: (scope, key, value) => {
+    const why = /\s/.test(scope + key) ? undefined : `${value} ${NO_VALUE}`;
+    const spoken = (record) => `${key} set in ${scope}: ${resultOf(record)}.`;
+    return told(`set ${scope} ${key} ${value}`, spoken, why);
+  },
+  unset: (scope, key) => told(`unset ${scope} ${key}`,
+    (record) => `${key} unset in ${scope}: ${resultOf(record)}.`),
   wrong: (text) => say(text, true),
 });
 
@@ -334,11 +377,11 @@ function listenToFiles() {
   at("source").addEventListener("input", () => {
     store.change(files, at("file").value, at("source").value);
     clearTimeout(late);
-    late = setTimeout(() => tried(() => load()), PAUSE);
+    late = setTimeout(() => tried(() => reload(lines)), PAUSE);
   });
   at("platform").onchange = () => tried(() => {
     files.platform = at("platform").value;
-    load();
+    reload(lines);
   });
   at("add").onclick = () => tried(() => {
     const name = `extension-${files.extensions.length + 1}`;
@@ -349,12 +392,17 @@ function listenToFiles() {
   });
   at("remove").onclick = () => tried(() => {
     const [name, number] = at("file").value.split(" ");
+    remember();
     if (name === "manifest") files.extensions.splice(Number(number), 1);
     else store.change(files, at("file").value, "");
     showFiles();
-    load();
-    say("The file is removed.");
+    reload();
+    say(name === "manifest" ? "The extension is removed." : "The file is removed.");
   });
+}
+
+// Files come by a choice, a drop or a paste.
+function listenToGivenFiles() {
   for (const pick of [at("pick"), at("pick-folder")]) {
     pick.addEventListener("change", () => {
       const given = [...pick.files].map((file) => ({ file, path: file.webkitRelativePath || file.name }));
@@ -380,47 +428,58 @@ function listenToFiles() {
   });
 }
 
+// Shows a state of files and lines.
+function showAll(state) {
+  files = state.files;
+  showFiles();
+  load(state.lines);
+}
+
+// Keeps the state, so that the button goes back to it.
+function remember(state = { files, lines }) {
+  store.keepBefore(state);
+  at("back").hidden = store.before() === null;
+}
+
+function change(state, said) {
+  remember();
+  showAll(state);
+  keep();
+  say(said);
+}
+
 function listenToState() {
   at("share").onclick = () => tried(async () => {
     history.replaceState(null, "", `#${await store.toLink({ files, lines })}`);
+    isLinked = true;
     const length = location.href.length;
     // (a page that isn't secure has no clipboard)
     const isCopied = await navigator.clipboard?.writeText(location.href).then(() => true, () => false);
     say(`The link is ${isCopied ? "copied" : "in the address bar"}: ${counted(length, "character")}.`);
   });
-  at("over").onclick = () => tried(() => {
-    store.forget();
-    history.replaceState(null, "", location.pathname + location.search);
-    files = store.firstFiles();
-    showFiles();
-    load();
-    say("Started over.");
-  });
+  at("over").onclick = () => tried(() => change({ files: store.firstFiles(), lines: [] }, "Started over."));
+  at("back").onclick = () => tried(() => change(store.before(), "These are the files before."));
   addEventListener("hashchange", () => tried(start));
 }
 
-// Shows the state of the link, or the one that this browser keeps.
+// Shows the state of the link, or the one that this browser keeps. That of a link is kept when it changes.
 async function start() {
-  const given = location.hash.slice(1);
-  let state = null;
-  if (given) {
-    state = await store.fromLink(given).catch(() => {
-      throw new Error("The link is broken: its end may be missing.");
-    });
-  }
-  state ??= store.kept();
-  if (state) files = state.files;
-  showFiles();
-  load(state?.lines ?? []);
+  const given = location.hash.slice(1), own = store.kept();
+  const shared = given ? await store.fromLink(given).catch(() => null) : null;
+  isLinked = given !== "";
+  const before = shared && own && !store.isSame(shared, own) ? own : store.before();
+  if (before) remember(before);
+  showAll(shared ?? own ?? { files: store.firstFiles(), lines: [] });
+  if (given && !shared) say("The link is broken: its end may be missing.", true);
 }
 
 listenToKeys();
 listenToFiles();
+listenToGivenFiles();
 listenToState();
 try {
   pafjirn = await instantiate();
   await tried(start);
-  if (!engine && at("problems").children.length === 0) load();
   document.documentElement.dataset.ready = "";
 } catch (wrong) {
   say(`The engine can't start: ${wrong.message}`, true);

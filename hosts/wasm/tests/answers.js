@@ -1,7 +1,7 @@
 // Checks what the package answers and throws. It prints each difference from what pafjirn.d.ts says.
 
 import { readFileSync } from "node:fs";
-import { compiled, FOLDER, is, pafjirn as all, report, thrown } from "./shared.js";
+import { compiled, FOLDER, is, pafjirn as all, report, thrown, watched } from "./shared.js";
 
 const { Engine, LoadRefused, Pafjirn, instantiate, keystroke } = all;
 const LAYOUT = '{"scopes": [{"name": "window"}, {"name": "editor", "parent": "window"}]}';
@@ -226,9 +226,45 @@ async function memory(pafjirn) {
   is("memory behind engines that were let go", pafjirn.bytesInUse, before);
 }
 
+// A module of which a call traps, as it does where its stack ends.
+async function trapping(name) {
+  const whole = WebAssembly.instantiate;
+  WebAssembly.instantiate = async (...given) => {
+    WebAssembly.instantiate = whole;
+    const { instance } = await whole(...given);
+    const trap = () => { throw new WebAssembly.RuntimeError("unreachable"); };
+    return { instance: { exports: { ...instance.exports, [`pafjirn_${name}`]: trap } } };
+  };
+  return instantiate();
+}
+
+async function traps() {
+  const dead = ["Dead", 200], pafjirn = await trapping("key");
+  const [engine, other] = [pafjirn.load({ user: RULES }), pafjirn.load()];
+  is("a module that lives", [pafjirn.dead, engine.focus("window").ending], [null, "done"]);
+  is("a trap", thrown(() => engine.press("y")), dead);
+  is("its cause", pafjirn.dead.message, "unreachable");
+  is("each engine behind it", [thrown(() => engine.focus("window")), thrown(() => other.text)], [dead, dead]);
+  is("a load behind it", thrown(() => pafjirn.load()), dead);
+  engine.dispose();
+  is("an engine that is disposed of then", thrown(() => engine.text), ["Unknown", 2]);
+}
+
+// The module itself refuses each call behind a trap, here that of a text which isn't in its memory.
+async function guards() {
+  const seen = watched(), { exports: of } = (await instantiate(), seen);
+  const handle = of.pafjirn_room(16n), nowhere = 0x7fff_0000n;
+  is("a new handle", of.pafjirn_new(handle), 0);
+  is("a call", of.pafjirn_entries(handle), 0n);
+  is("a trap", thrown(() => of.pafjirn_file(handle, 2, nowhere, 100n)), "RuntimeError");
+  is("a call behind it", thrown(() => of.pafjirn_entries(handle)), "RuntimeError");
+}
+
 keys();
 const pafjirn = await instantiate();
 for (const test of [presses, context, changes, commands, loads]) test(pafjirn);
 await starts();
+await traps();
+await guards();
 await memory(await instantiate());
 report();

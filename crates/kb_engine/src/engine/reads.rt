@@ -1,7 +1,7 @@
 //! What a host reads of an engine.
 ghost use Rattle.std.specs.Prelude.{◌≡◌, length, take, drop};
 ghost use Rattle.kb_engine.specs.Engine.{after_caret, before_caret, entries_of, entry_text, kind_number};
-ghost use Rattle.kb_engine.specs.Engine.{numbered_text, over, part_of, trace_text};
+ghost use Rattle.kb_engine.specs.Engine.{numbered_text, over, part_of, step_command, steps_of, trace_text};
 ghost use Rattle.kb_session.specs.Palette.{entry_at};
 ghost use Rattle.std.specs.Prelude.{Some};
 
@@ -9,6 +9,7 @@ use crate::engine::Engine;
 use crate::part::Part;
 use crate::reading::read_over;
 use crate::running::Running;
+use crate::steps::{last_step, steps_begun};
 use crate::taken::{TakenKind, entry_at};
 use kb_palette::Entry;
 
@@ -26,6 +27,7 @@ impl Engine {
             Part::Source => self.taken.source.as_str().as_bytes(),
             Part::Before => before_caret(&self.running),
             Part::After => after_caret(&self.running),
+            Part::Step => step_command(&self.running),
         }
     }
 
@@ -51,6 +53,16 @@ impl Engine {
             TakenKind::Nothing => 0,
             TakenKind::Chord => 1,
             TakenKind::Started => 2,
+        }
+    }
+
+    /// How many steps of `runCommands` began in the last event. `Part::Step` is the command of the last one.
+    pub fn steps(&self) -> usize
+        ensures { result ≡ steps_of self.now.running }
+    {
+        match &self.running {
+            Some(running) => steps_begun(running.session().trace()),
+            None => 0,
         }
     }
 
@@ -106,6 +118,16 @@ fn trace_text(running: &Option<Running>) -> &[u8]
 {
     match running {
         Some(running) => running.trace_text(),
+        None => &[],
+    }
+}
+
+/// The command of the last step of `runCommands` that began in the last event; empty without a session.
+fn step_command(running: &Option<Running>) -> &[u8]
+    ensures { result.now ≡ step_command running.now }
+{
+    match running {
+        Some(running) => last_step(running.session().trace()),
         None => &[],
     }
 }
