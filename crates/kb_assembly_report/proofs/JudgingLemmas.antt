@@ -37,16 +37,16 @@ none_settled commands (d ∷ ds) (h ∷ hs) short = absurd (omega arith)
 
 -- ---- what was tested
 
-abbrev good : {A E : Type 0} → A → Result A E
+abbrev pub good : {A E : Type 0} → A → Result A E
 good x = Ok x
 
-abbrev bad : {A E : Type 0} → E → Result A E
+abbrev pub bad : {A E : Type 0} → E → Result A E
 bad x = Err x
 
-ok_same : {A E : Type 0} (x y : A) → good {E = E} x ≡ Ok y → x ≡ y
+pub ok_same : {A E : Type 0} (x y : A) → good {E = E} x ≡ Ok y → x ≡ y
 ok_same x y is = cc
 
-ok_fails : {A E : Type 0} (x : A) (e : E) → good x ≡ bad e → ⊥
+pub ok_fails : {A E : Type 0} (x : A) (e : E) → good x ≡ bad e → ⊥
 ok_fails x e is = cc
 
 pub same_text : (ds es : List Draft) (one other : List ℕ) → assemble one ≡ Ok ds → assemble other ≡ Ok es

@@ -14,6 +14,7 @@ mod found;
 mod holding;
 mod json;
 mod judging;
+pub mod laws;
 mod line_words;
 mod mistakes;
 mod numbers;
