@@ -14,7 +14,7 @@ use Rattle.kb_core.specs.Declaration.{Declaration}
 use Rattle.kb_verify.specs.Accepted.{IsAccepted}
 use Rattle.kb_verify.specs.Callable.{Commands}
 use Rattle.kb_verify.specs.Paths.{IsDearestCost, cost, Steps, Path, returns, ends, goes_on, falls, jumps, repeats}
-use Rattle.kb_assembly_report.specs.Choice.{AllLess, AreLowest, AreNext, Does, EachDoes, EachNext, Fills}
+use Rattle.kb_assembly_report.specs.Choice.{AllLess, AreFilled, AreLowest, AreNext, Does, EachDoes, EachNext, Fills}
 use Rattle.kb_assembly_report.specs.Choice.{IsAcceptable, IsBelow, IsBudgetAt, IsBudgetFor, IsDeep}
 use Rattle.kb_assembly_report.specs.Choice.{IsDepthFor, IsHoldable, IsLeastDepth, IsLess, IsLow, IsLowest, IsNext}
 use Rattle.kb_assembly_report.specs.Choice.{IsWithin, Keeps, NoChoice, NoneDo, NoneDoes, NotAcceptable}
@@ -493,5 +493,40 @@ pub falls_next : (drafts : List Draft) (ds es : List Declaration) → IsLow draf
     same_limits ds es ≡ false → room es < room ds
 falls_next drafts ds es low next differs =
     (less_room (called drafts ds) drafts ds es (low.rising es next) next).1 differs
+
+-- ---- likely declarations
+
+pub fill_end : (drafts left : List Draft) (made : List Declaration) →
+    ((ds : List Declaration) → AreFilled left ds → AreFilled drafts (made ++ ds)) → length left < 1 →
+    AreFilled drafts made
+fill_end drafts [] made fills short = subst (AreFilled drafts) (append-nil made) (fills [] tt)
+fill_end drafts (g ∷ left) made fills short = absurd (omega arith)
+
+same_numbers : (d e : Declaration) → d.params ≡ e.params → d.budget == e.budget ≡ true →
+    d.depth == e.depth ≡ true → e ≡ d
+same_numbers d e params budget depth =
+    let b : e.budget ≡ d.budget = grind (arith, nat_tests) in
+    let k : e.depth ≡ d.depth = grind (arith, nat_tests) in
+    let p : e.params ≡ d.params = sym params in
+    λ j. record { params = p j; budget = b j; depth = k j }
+
+filled_same : (commands : Commands) (drafts : List Draft) (ds es : List Declaration) → AreFilled drafts ds →
+    EachNext commands drafts es → same_limits ds es ≡ true → es ≡ ds
+filled_same commands [] [] [] filled each same = refl
+filled_same commands [] [] (e ∷ es) filled each same = absurd each
+filled_same commands [] (d ∷ ds) es filled each same = absurd filled
+filled_same commands (g ∷ drafts) [] es filled each same = absurd filled
+filled_same commands (g ∷ drafts) (d ∷ ds) [] filled each same = absurd each
+filled_same commands (g ∷ drafts) (d ∷ ds) (e ∷ es) filled each same =
+    let one = both (d.budget == e.budget && d.depth == e.depth) (same_limits ds es) same in
+    let two = both (d.budget == e.budget) (d.depth == e.depth) one.0 in
+    let h = same_numbers d e (filled.0 ∙ sym each.0.fills.params) two.0 two.1 in
+    let t = filled_same commands drafts ds es filled.1 each.1 one.1 in
+    λ j. h j ∷ t j
+
+pub filled_next : (drafts : List Draft) (ds es : List Declaration) → AreFilled drafts ds → AreNext drafts ds es →
+    same_limits ds es ≡ true → AreNext drafts ds ds
+filled_next drafts ds es filled next same =
+    subst (λ xs. AreNext drafts ds xs) (filled_same (called drafts ds) drafts ds es filled next same) next
 
 pub ruleset raising = (same_next, low_none, falls_next, low_next)

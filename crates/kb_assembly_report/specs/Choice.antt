@@ -216,6 +216,13 @@ AreLowest [] (d ∷ ds) = ⊥
 AreLowest (given ∷ drafts) [] = ⊥
 AreLowest (given ∷ drafts) (d ∷ ds) = IsLowest given d × AreLowest drafts ds
 
+-- declarations have all that a text doesn't leave out
+abbrev pub AreFilled : List Draft → List Declaration → Type 0
+AreFilled [] [] = Unit {0}
+AreFilled [] (d ∷ ds) = ⊥
+AreFilled (given ∷ drafts) [] = ⊥
+AreFilled (given ∷ drafts) (d ∷ ds) = (d.params ≡ given.params) × AreFilled drafts ds
+
 -- declarations are no larger than in a choice that will do, and the next ones no smaller
 pub record IsLow (drafts : List Draft) (ds : List Declaration) : Type 0 where
   pub below : (es : List Declaration) → IsChoice drafts es → AllLess ds es

@@ -8,7 +8,7 @@ ghost use Rattle.kb_assembly_report.specs.Translating.{AreEntries, Assembles, ar
 
 use crate::carets::write_all;
 use crate::choosing::smallest;
-use crate::declaring::add_reasons;
+use crate::declaring::{add_reasons, likely_limits};
 use crate::entry::Entry;
 use crate::file_limits::limit_faults;
 use crate::found::{Faults, Found};
@@ -160,13 +160,14 @@ fn file_of(
     let text = without_mark(bytes);
     let sections = sections_in(alloc, text)?;
     let sections = sections.as_slice();
-    match smallest(alloc, drafts)? {
+    let sources = sources_of(alloc, sections)?;
+    let likely = likely_limits(alloc, drafts, sources.as_slice())?;
+    match smallest(alloc, drafts, likely.as_slice())? {
         Some(declared) => {
             let made = written(alloc, path, bytes, sections, drafts, declared.as_slice())?;
             Ok(made)
         }
         None => {
-            let sources = sources_of(alloc, sections)?;
             let faults = reasons(alloc, drafts, sources.as_slice())?;
             let why = "no budgets and depths would do for its handlers";
             let said = unwritten(alloc, path, text, &faults, why)?;

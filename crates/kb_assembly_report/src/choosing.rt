@@ -3,10 +3,11 @@
 //! The first numbers are the smallest of all. Each round gives every handler what it needs over the handlers
 //! as the round before left them. So no number is ever larger than in a choice that will do. Where a round
 //! changes nothing the numbers are the smallest; where nothing will do for a handler then, no choice does.
-ghost use Rattle.std.specs.Prelude.{◌≡◌, IfOk, MatchOption, option_and_then, slice_get};
+ghost use Rattle.std.specs.Prelude.{◌≡◌, IfOk, IfSome, MatchOption, option_and_then, slice_get};
 ghost use Rattle.std.specs.FinMap as map;
 ghost use Rattle.kb_core.specs.Declaration.{Declaration};
-ghost use Rattle.kb_assembly_report.specs.Choice.{AreLowest, EachNext, IsAcceptable, IsBudgetAt, IsBudgetFor};
+ghost use Rattle.kb_assembly_report.specs.Choice.{AreFilled, AreLowest, EachNext, IsAcceptable, IsBudgetAt};
+ghost use Rattle.kb_assembly_report.specs.Choice.{IsBudgetFor};
 ghost use Rattle.kb_assembly_report.specs.Choice.{IsDepthFor, IsHoldable, IsLeastDepth, IsLow, IsNext};
 ghost use Rattle.kb_assembly_report.specs.Choice.{IsSmallest, NoChoice, NoneDo, NoneDoes, NotAcceptable};
 ghost use Rattle.kb_assembly_report.specs.Choice.{commands_of, handler_with, handlers_with, limits_of, need};
@@ -266,15 +267,80 @@ fn raised(
     }
 }
 
-/// The smallest budgets and depths for the handlers of a text, but for those that it gives. `None` if no
-/// choice will do. Error: `NoMemory`.
+/// The declarations of handlers with these limits, or `None` if these are too few, or past those of a file.
+/// Error: `NoMemory`.
+#[tactic(auto, using(crate::proofs::RaisingLemmas::fill_end))]
+fn guessed(
+    alloc: Global,
+    drafts: &[Draft],
+    limits: &[Limits],
+) -> Result<Option<Seq<Signature>>, NoMemory>
+    ensures { IfOk result (λ made. IfSome made (AreFilled drafts.now)) }
+{
+    let mut made = Seq::new(alloc);
+    let mut left = drafts;
+    while let [draft, more @ ..] = left {
+        match limits.get(made.len()) {
+            Some(limits) => match signature_of(alloc, draft, *limits)? {
+                Some(signature) => made.push(signature)?,
+                None => return Ok(None),
+            },
+            None => return Ok(None),
+        }
+        left = more;
+    }
+    Ok(Some(made))
+}
+
+/// The declarations of handlers with these limits, if they are the smallest. Error: `NoMemory`.
+#[tactic(auto, using(crate::proofs::RaisingLemmas::filled_next))]
+fn tried(
+    alloc: Global,
+    drafts: &[Draft],
+    limits: &[Limits],
+) -> Result<Option<Seq<Signature>>, NoMemory>
+    ensures { IfOk result (λ made. IfSome made (IsSmallest drafts.now)) }
+{
+    let Some(declared) = guessed(alloc, drafts, limits)? else {
+        return Ok(None);
+    };
+    let callable = commands_with(alloc, drafts, declared.as_slice())?;
+    match all_next(alloc, &callable, drafts)? {
+        Some(next) => {
+            if same_limits(declared.as_slice(), next.as_slice()) {
+                return Ok(Some(declared));
+            }
+            Ok(None)
+        }
+        None => Ok(None),
+    }
+}
+
+/// The same as `smallest`, by rounds from the smallest numbers of all. Error: `NoMemory`.
 #[tactic(auto, using(crate::proofs::RaisingLemmas::lowest_low))]
-pub(crate) fn smallest(alloc: Global, drafts: &[Draft]) -> Result<Option<Seq<Signature>>, NoMemory>
-    ensures { IfOk result (λ made. MatchOption made (NoChoice drafts.now)
-        (IsSmallest drafts.now)) }
+fn searched(alloc: Global, drafts: &[Draft]) -> Result<Option<Seq<Signature>>, NoMemory>
+    ensures { IfOk result (λ made. MatchOption made (NoChoice drafts.now) (IsSmallest drafts.now)) }
 {
     match lowest(alloc, drafts)? {
         Some(first) => raised(alloc, drafts, first),
         None => Ok(None),
+    }
+}
+
+/// The smallest budgets and depths for the handlers of a text, but for those that it gives. `None` if no
+/// choice will do. If the likely limits are the smallest, one round finds that out. Error: `NoMemory`.
+pub(crate) fn smallest(
+    alloc: Global,
+    drafts: &[Draft],
+    likely: &[Limits],
+) -> Result<Option<Seq<Signature>>, NoMemory>
+    ensures { IfOk result (λ made. MatchOption made (NoChoice drafts.now) (IsSmallest drafts.now)) }
+{
+    match tried(alloc, drafts, likely)? {
+        Some(declared) => Ok(Some(declared)),
+        None => {
+            let made = searched(alloc, drafts)?;
+            Ok(made)
+        }
     }
 }

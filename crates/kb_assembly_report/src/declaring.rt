@@ -274,33 +274,35 @@ fn level(
     Ok(())
 }
 
-/// Adds why no budgets and depths would do for handlers, by their lines. Error: `NoMemory`.
-pub(crate) fn add_reasons(
+/// The limits of handlers, each over those that it calls. Why a handler has none is added; then some limits
+/// may be missing. Error: `NoMemory`.
+fn examined(
     alloc: Global,
     drafts: &[Draft],
     sources: &[Source],
     faults: &mut Faults,
-) -> Result<(), NoMemory> {
+) -> Result<Vec<Limits>, NoMemory> {
     let callees = all_callees(alloc, drafts, sources, faults)?;
-    if faults.is_empty() {
-        let depths = depths_of(alloc, drafts, callees.as_slice())?;
-        add_endless(alloc, sources, depths.as_slice(), faults)?;
-        add_refusals(alloc, drafts, sources, depths.as_slice(), faults)?;
-        if faults.is_empty() {
-            add_costly(alloc, drafts, sources, depths.as_slice(), faults)?;
-        }
+    if !faults.is_empty() {
+        return Ok(Vec::new(alloc));
     }
-    faults.sort()
+    let depths = depths_of(alloc, drafts, callees.as_slice())?;
+    add_endless(alloc, sources, depths.as_slice(), faults)?;
+    add_refusals(alloc, drafts, sources, depths.as_slice(), faults)?;
+    if !faults.is_empty() {
+        return Ok(Vec::new(alloc));
+    }
+    by_levels(alloc, drafts, sources, depths.as_slice(), faults)
 }
 
-/// Adds why handlers cost too much, each over those that it calls.
-fn add_costly(
+/// The limits of handlers with these depths. Why one costs too much is added.
+fn by_levels(
     alloc: Global,
     drafts: &[Draft],
     sources: &[Source],
     depths: &[Option<u32>],
     faults: &mut Faults,
-) -> Result<(), NoMemory> {
+) -> Result<Vec<Limits>, NoMemory> {
     let mut limits: Vec<Limits> = Vec::new(alloc);
     for (draft, depth) in drafts.iter().zip(depths.iter()) {
         limits.push(Limits {
@@ -320,5 +322,27 @@ fn add_costly(
             faults,
         )?;
     }
-    Ok(())
+    Ok(limits)
+}
+
+/// The limits that handlers are likely to have, if they have any: nothing rests on them but how long the
+/// search for the smallest takes. Error: `NoMemory`.
+pub(crate) fn likely_limits(
+    alloc: Global,
+    drafts: &[Draft],
+    sources: &[Source],
+) -> Result<Vec<Limits>, NoMemory> {
+    let mut faults = Faults::none(alloc);
+    examined(alloc, drafts, sources, &mut faults)
+}
+
+/// Adds why no budgets and depths would do for handlers, by their lines. Error: `NoMemory`.
+pub(crate) fn add_reasons(
+    alloc: Global,
+    drafts: &[Draft],
+    sources: &[Source],
+    faults: &mut Faults,
+) -> Result<(), NoMemory> {
+    let _limits = examined(alloc, drafts, sources, faults)?;
+    faults.sort()
 }
