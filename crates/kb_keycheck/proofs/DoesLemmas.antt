@@ -10,16 +10,19 @@ use Rattle.clap.specs.Words.{subcommand_rows_of}
 use Rattle.clap.specs.declared.parser.matches.ArgMatches.{ArgMatches}
 use Rattle.clap.specs.declared.parser.matches.ArgMatches.TheViews.{out-ArgMatches, out-SubCommand}
 use Rattle.clap.specs.declared.parser.matches.SubCommand.{SubCommand}
-use Rattle.kb_disk.specs.Files.{Held, unknown}
+use Rattle.kb_disk.specs.Files.{Held}
 use Rattle.kb_run.specs.declared.outcome.Stop.TheVariants as run
 use Rattle.kb_handler_report.specs.Check as handlers
 use Rattle.kb_handler_report.specs.Stop as handlers_stop
 use Rattle.kb_handler_report.specs.declared.stop.Stop as handlers_end
-use Rattle.kb_keycheck.specs.CommandLine.{AreWishes, IsAsked, IsGiven, subcommand_named}
+use Rattle.kb_keycheck.specs.CommandLine.{AreWishes, IsAsked, IsGiven, path_in, subcommand_named}
 use Rattle.kb_keycheck.specs.Ends.{Answers, AnswersBy, AreChecked, AreLoaded, Checks, ChecksBy, Does, Handles}
 use Rattle.kb_keycheck.specs.Ends.{HandlersBy, Obeys, StopsAnswering, StopsChecking, answer_status, check_status}
+use Rattle.kb_keycheck.specs.Ends.{Translates, TranslatesGiven, translation_status}
+use Rattle.kb_keycheck.specs.Translating.{EndsTranslating}
 use Rattle.kb_keycheck.specs.declared.ending.Stop.{Stop}
 use Rattle.kb_keycheck.specs.declared.ending.Stop.TheVariants.{Run}
+use Rattle.kb_keycheck.specs.declared.request.Direction.{Direction}
 use Rattle.kb_keycheck.specs.declared.request.Given.{Given}
 use Rattle.kb_keycheck.specs.declared.request.Question.{Question}
 use Rattle.kb_keycheck.specs.declared.request.Topic.{Topic}
@@ -69,6 +72,13 @@ handlers_given held rows dirs (Err stop) named checked stopped =
 
 pub ruleset handles = (handlers_given)
 
+pub translates_given : (held : List ℕ → Held) (direction : Direction) (rows : List Row) (path : Bor Text)
+    (end : Result (Option Text) Stop) → path.now ≡ path_in rows → EndsTranslating direction held path end
+    → TranslatesGiven held direction rows end
+translates_given held direction rows path end is ends = record { path = path; path_is = is; ends = ends }
+
+pub ruleset translates = (translates_given)
+
 -- ---- its exit status
 
 pub checks_status : (held : List ℕ → Held) (rows : List Row) (end : Result Bool Stop) (status : ℕ)
@@ -83,7 +93,12 @@ pub handles_status : (held : List ℕ → Held) (rows : List Row) (end : Result 
     → HandlersBy held rows end → status ≡ handlers_stop.status_of end → Handles held rows status
 handles_status held rows end status ends is = record { end = end; ends = ends; status_is = is }
 
-pub ruleset statuses = (checks_status, answers_status, handles_status)
+pub translates_status : (held : List ℕ → Held) (direction : Direction) (rows : List Row)
+    (end : Result (Option Text) Stop) (status : ℕ) → TranslatesGiven held direction rows end
+    → status ≡ translation_status end → Translates held direction rows status
+translates_status held direction rows end status ends is = record { end = end; ends = ends; status_is = is }
+
+pub ruleset statuses = (checks_status, answers_status, handles_status, translates_status)
 
 -- ---- the command of a line
 

@@ -3,3 +3,4 @@ pub mod EndLemmas
 pub mod LineLemmas
 mod LineRows
 pub mod RunLemmas
+pub mod TranslatingLemmas

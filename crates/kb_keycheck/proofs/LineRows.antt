@@ -9,7 +9,8 @@ use Rattle.clap.specs.declared.error.kind.ErrorKind.TheVariants.{ArgumentConflic
 use Rattle.clap.specs.declared.error.kind.ErrorKind.TheVariants.{MissingRequiredArgument, MissingSubcommand}
 use Rattle.clap.specs.declared.error.kind.ErrorKind.TheVariants.{UnknownArgument}
 use Rattle.kb_keycheck.specs.CommandLine.{keycheck_app, subcommand_named}
-use Rattle.kb_keycheck.specs.declared.request.Subcommand.TheVariants.{Ask, Check}
+use Rattle.kb_keycheck.specs.declared.request.Direction.TheVariants.{Disassemble}
+use Rattle.kb_keycheck.specs.declared.request.Subcommand.TheVariants.{Ask, Check, Translate}
 use Rattle.kb_keycheck.specs.declared.request.Topic.TheVariants.{Press}
 
 module _ (platforms levels : Bor (List (Bor Text))) (all one : ℕ × ℕ) where
@@ -115,6 +116,23 @@ module _ (platforms levels : Bor (List (Bor Text))) (all one : ℕ × ℕ) where
       ≡ Some (Some (codes "true"))
   unfolding clap_on_literals
   handlers_are_written_as_json = refl
+
+  assemble_has_its_file :
+      of_it (first_of (codes "file")) (codes "keycheck" ∷ codes "assemble" ∷ codes "a" ∷ []) ≡ Some (Some (codes "a"))
+  unfolding clap_on_literals
+  assemble_has_its_file = refl
+
+  a_file_is_required : fault_of app (codes "keycheck" ∷ codes "disassemble" ∷ []) ≡ MissingRequiredArgument ∷ []
+  unfolding clap_on_literals
+  a_file_is_required = refl
+
+  no_json_of_a_text :
+      fault_of app (codes "keycheck" ∷ codes "assemble" ∷ codes "--json" ∷ codes "a" ∷ []) ≡ UnknownArgument ∷ []
+  unfolding clap_on_literals
+  no_json_of_a_text = refl
+
+  disassemble_is_a_translation : subcommand_named (codes "disassemble") ≡ Some (Translate Disassemble)
+  disassemble_is_a_translation = refl
 
   a_command_is_required : fault_of app (codes "keycheck" ∷ []) ≡ MissingSubcommand ∷ []
   unfolding clap_on_literals

@@ -20,6 +20,7 @@ use Rattle.kb_problems.specs.declared.severity.Severity.{Severity}
 use Rattle.kb_problems.specs.declared.severity.Severity.TheVariants.{Warning}
 use Rattle.kb_report.specs.declared.output.Form.{Form}
 use Rattle.kb_report.specs.declared.output.Form.TheVariants as form
+use Rattle.kb_keycheck.specs.declared.request.Direction.TheVariants as direction
 use Rattle.kb_keycheck.specs.declared.request.Given.{Given}
 use Rattle.kb_keycheck.specs.declared.request.Question.{Question}
 use Rattle.kb_keycheck.specs.declared.request.Question.TheVariants as question
@@ -107,6 +108,14 @@ palette_app platforms = with_script (with_rule (with_rule (new_app (codes "palet
 abbrev pub handlers_app : App
 handlers_app = with_rule (with_rule (new_app (codes "handlers")) json_rule) some_dirs_rule
 
+-- `assemble FILE`
+abbrev pub assemble_app : App
+assemble_app = with_rule (new_app (codes "assemble")) (word_rule (codes "file"))
+
+-- `disassemble FILE`
+abbrev pub disassemble_app : App
+disassemble_app = with_rule (new_app (codes "disassemble")) (word_rule (codes "file"))
+
 -- `keycheck COMMAND`, which has `--help` and `--version`
 abbrev pub bare_app : App
 bare_app = record (new_app (codes "keycheck")) {
@@ -115,9 +124,10 @@ bare_app = record (new_app (codes "keycheck")) {
 
 abbrev pub keycheck_app : Bor (List (Bor Text)) → Bor (List (Bor Text)) → Bor (List (Bor Text)) → App
 keycheck_app platforms lints levels = with_subcommand (with_subcommand (with_subcommand (with_subcommand
-    (with_subcommand (with_subcommand bare_app
+    (with_subcommand (with_subcommand (with_subcommand (with_subcommand bare_app
     (check_app platforms lints levels).top) (explain_app platforms).top) (list_app platforms).top)
-    (context_app platforms).top) (palette_app platforms).top) handlers_app.top
+    (context_app platforms).top) (palette_app platforms).top) handlers_app.top) assemble_app.top)
+    disassemble_app.top
 
 -- ---- what the words mean
 
@@ -148,10 +158,13 @@ subcommand_name (command.Ask topic.Rules) = codes "list"
 subcommand_name (command.Ask topic.Context) = codes "context"
 subcommand_name (command.Ask topic.Palette) = codes "palette"
 subcommand_name command.Handlers = codes "handlers"
+subcommand_name (command.Translate direction.Assemble) = codes "assemble"
+subcommand_name (command.Translate direction.Disassemble) = codes "disassemble"
 
 abbrev pub subcommands : List Subcommand
 subcommands = command.Check ∷ command.Ask topic.Press ∷ command.Ask topic.Rules ∷ command.Ask topic.Context
-    ∷ command.Ask topic.Palette ∷ command.Handlers ∷ []
+    ∷ command.Ask topic.Palette ∷ command.Handlers ∷ command.Translate direction.Assemble
+    ∷ command.Translate direction.Disassemble ∷ []
 
 abbrev pub subcommand_named : Text → Option Subcommand
 subcommand_named name = find (λ c. bytes_eq name (subcommand_name c)) subcommands
@@ -177,6 +190,10 @@ pub record AreWishes (rows : List Row) (wishes : Wishes) : Type 0 where
   pub only : map (λ name. name.now) wishes.only.items ≡ unwrap_or (all_of (codes "only") rows) []
   pub level : wishes.level ≡ level_given (first_of (codes "level") rows)
   pub commands : option_map (λ s. s.now) wishes.commands ≡ first_of (codes "commands") rows
+
+-- the path of the file to translate
+abbrev pub path_in : List Row → Text
+path_in rows = unwrap_or (first_of (codes "file") rows) []
 
 -- the question that the arguments of a command ask
 abbrev pub IsAsked : Topic → List Row → Question → Type 0

@@ -31,9 +31,11 @@ use Rattle.kb_report.specs.declared.output.Stop.TheVariants as report_stops
 use Rattle.kb_run.specs.Run.{FailsOpeningScript, HasLoadFault}
 use Rattle.kb_run.specs.declared.setup.Verification.TheVariants.{Verified}
 use Rattle.kb_session.specs.Session.{IsOf, Seen}
-use Rattle.kb_keycheck.specs.CommandLine.{AreWishes, IsAsked, IsGiven, IsMatched, subcommand_named}
+use Rattle.kb_keycheck.specs.CommandLine.{AreWishes, IsAsked, IsGiven, IsMatched, path_in, subcommand_named}
+use Rattle.kb_keycheck.specs.Translating.{EndsTranslating}
 use Rattle.kb_keycheck.specs.declared.ending.Stop.{Stop}
 use Rattle.kb_keycheck.specs.declared.ending.Stop.TheVariants.{Keys, Run, NotWritten}
+use Rattle.kb_keycheck.specs.declared.request.Direction.{Direction}
 use Rattle.kb_keycheck.specs.declared.request.Given.{Given}
 use Rattle.kb_keycheck.specs.declared.request.Question.{Question}
 use Rattle.kb_keycheck.specs.declared.request.Question.TheVariants as question
@@ -62,6 +64,12 @@ check_status (Err stop) = stop_status stop
 abbrev pub answer_status : Result (Unit {0}) Stop → ℕ
 answer_status (Ok done) = 0
 answer_status (Err stop) = stop_status stop
+
+-- the status of a translation, by whether the file has faults
+abbrev pub translation_status : Result (Option Text) Stop → ℕ
+translation_status (Ok None) = 0
+translation_status (Ok (Some faults)) = 1
+translation_status (Err stop) = stop_status stop
 
 abbrev pub report_stop : report.Stop → Stop
 report_stop report_stops.NoMemory = Run run.NoMemory
@@ -187,6 +195,13 @@ pub record HandlersGiven (held : List ℕ → Held) (rows : List Row) (end : Res
 abbrev pub HandlersBy : (List ℕ → Held) → List Row → Result Bool handlers_end.Stop → Type 0
 HandlersBy held rows end = (end ≡ Err handlers_variants.NoMemory) ⊎ HandlersGiven held rows end
 
+-- the file that the arguments name is translated
+pub record TranslatesGiven (held : List ℕ → Held) (direction : Direction) (rows : List Row)
+    (end : Result (Option Text) Stop) : Type 0 where
+  pub path : Bor Text
+  pub path_is : path.now ≡ path_in rows
+  pub ends : EndsTranslating direction held path end
+
 -- ---- the exit status of a command over some files
 
 pub record Checks (held : List ℕ → Held) (rows : List Row) (status : ℕ) : Type 0 where
@@ -204,10 +219,17 @@ pub record Handles (held : List ℕ → Held) (rows : List Row) (status : ℕ) :
   pub ends : HandlersBy held rows end
   pub status_is : status ≡ handlers_stop.status_of end
 
+pub record Translates (held : List ℕ → Held) (direction : Direction) (rows : List Row) (status : ℕ)
+    : Type 0 where
+  pub end : Result (Option Text) Stop
+  pub ends : TranslatesGiven held direction rows end
+  pub status_is : status ≡ translation_status end
+
 abbrev pub DoesCommand : (List ℕ → Held) → Subcommand → List Row → ℕ → Type 0
 DoesCommand held command.Check rows status = Checks held rows status
 DoesCommand held (command.Ask topic) rows status = Answers held topic rows status
 DoesCommand held command.Handlers rows status = Handles held rows status
+DoesCommand held (command.Translate direction) rows status = Translates held direction rows status
 
 -- what the program does with the arguments of a command; 4 also if memory was refused before. A line without
 -- a known command has the status 2

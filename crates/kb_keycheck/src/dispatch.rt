@@ -3,6 +3,7 @@ ghost use Rattle.std.specs.Prelude.{◌≡◌, ◌≤◌, ◌⊎◌};
 ghost use Rattle.clap.specs.Words.{found_of, rows_of, subcommand_rows_of};
 ghost use Rattle.kb_keycheck.specs.Ends.{Answers, AnswersBy, Checks, ChecksBy, DoesCommand, Handles};
 ghost use Rattle.kb_keycheck.specs.Ends.{HandlersBy, Obeys};
+ghost use Rattle.kb_keycheck.specs.Ends.{Translates, TranslatesGiven};
 
 use crate::checking::check_files;
 use crate::ending::{Stop, answer_status, check_status};
@@ -10,9 +11,12 @@ use crate::explaining::answer_question;
 use crate::mistakes::Mistakes;
 use crate::reason::{Reasons, unread_reason};
 use crate::request::{
-    Subcommand, Topic, form_asked, given_in, question_in, subcommand_named, wishes_in,
+    Direction, Subcommand, Topic, form_asked, given_in, path_asked, question_in, subcommand_named,
+    wishes_in,
 };
+use crate::translating::{translate, translation_status};
 use clap::ArgMatches;
+use kb_base::Text;
 use kb_cli::all_texts;
 use kb_disk::FileSource;
 use kb_handler_report::{check_extensions, status_of};
@@ -129,6 +133,40 @@ fn obey_handlers<R: Eprint, F: FileSource, W: Write + Drop>(
     status_of(&end)
 }
 
+/// Does `assemble` or `disassemble`, and returns how it ended.
+#[tactic(auto, using(crate::proofs::DoesLemmas::translates))]
+fn translate_given<'a, F: FileSource, W: Write + Drop>(
+    alloc: Global,
+    direction: Direction,
+    matches: &ArgMatches<'a>,
+    files: &F,
+    out: &mut BufWriter<W>,
+) -> Result<Option<Text>, Stop<'a>>
+    ensures { TranslatesGiven (F.held files.now) direction (rows_of (found_of matches.now)) result }
+{
+    translate(alloc, direction, path_asked(matches), files, out)
+}
+
+/// Does `assemble` or `disassemble`, says which faults the file has or why it stopped, if it did, and returns
+/// the exit status.
+#[tactic(auto, using(crate::proofs::DoesLemmas::statuses))]
+fn obey_translation<R: Eprint, F: FileSource + Reasons, W: Write + Drop>(
+    rt: &R,
+    alloc: Global,
+    direction: Direction,
+    matches: &ArgMatches<'_>,
+    files: &F,
+    out: &mut BufWriter<W>,
+) -> u8
+    ensures does { Translates (F.held files.now) direction (rows_of (found_of matches.now)) result }
+    ensures table { result ≤ 4 }
+{
+    let end = translate_given(alloc, direction, matches, files, out);
+    say_faults(rt, &end);
+    say_stop(rt, alloc, files, &end);
+    translation_status(&end)
+}
+
 /// Does what a command asks for, and returns the exit status.
 fn obey_command<R: Print + Eprint, F: FileSource + Reasons>(
     rt: &R,
@@ -149,6 +187,9 @@ fn obey_command<R: Print + Eprint, F: FileSource + Reasons>(
         Subcommand::Check => obey_check(rt, alloc, matches, files, &mut out),
         Subcommand::Ask(topic) => obey_question(rt, alloc, topic, matches, files, &mut out),
         Subcommand::Handlers => obey_handlers(rt, alloc, matches, files, &mut out),
+        Subcommand::Translate(direction) => {
+            obey_translation(rt, alloc, direction, matches, files, &mut out)
+        }
     }
 }
 
@@ -172,6 +213,13 @@ fn say_stop<R: Eprint, F: Reasons, T>(rt: &R, alloc: Global, files: &F, end: &Re
     if let Err(stop) = end {
         let reason = reason_of(files, alloc, stop);
         let _ = rt.eprintln(format_args!("{stop}{reason}"));
+    }
+}
+
+/// Says which faults a file has, if it has some.
+fn say_faults<R: Eprint>(rt: &R, end: &Result<Option<Text>, Stop<'_>>) {
+    if let Ok(Some(faults)) = end {
+        let _ = rt.eprint(faults.as_str());
     }
 }
 

@@ -103,7 +103,7 @@ fn advice(stop: &kb_run::Stop<'_>) -> &'static str {
 
 /// The exit status of a run that stopped: 2 if the keystrokes of the command line can't be read, 3 if a file
 /// can't be read or a load is refused, and 4 otherwise.
-fn stop_status(stop: &Stop<'_>) -> u8
+pub(crate) fn stop_status(stop: &Stop<'_>) -> u8
     ensures { result ≡ ends.stop_status stop.now }
 {
     match stop {

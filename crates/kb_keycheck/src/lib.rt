@@ -1,4 +1,5 @@
-//! `keycheck`: what people read of their files, of a key press, of the rules in force and of the context.
+//! `keycheck`: what people read of their files, of a key press, of the rules in force and of the context; and
+//! the assembly language of handlers.
 #![tactic(auto)]
 
 pub mod checking;
@@ -11,6 +12,7 @@ pub mod mistakes;
 pub mod reason;
 pub mod request;
 pub mod running;
+pub mod translating;
 pub mod words;
 
 pub use reason::Reasons;

@@ -2,7 +2,7 @@
 ghost use Rattle.std.specs.Prelude.{◌≡◌, [], IfOk, option_map, unwrap_or};
 ghost use Rattle.clap.specs.Words.{first_of, found_of, rows_of};
 ghost use Rattle.kb_keycheck.specs.CommandLine.{AreWishes, IsAsked, IsForm, IsGiven, level_given};
-ghost use Rattle.kb_keycheck.specs.CommandLine.{subcommand_named};
+ghost use Rattle.kb_keycheck.specs.CommandLine.{path_in, subcommand_named};
 
 use clap::ArgMatches;
 use kb_base::NoMemory;
@@ -25,6 +25,15 @@ pub enum Topic {
     Palette,
 }
 
+/// Which file of handlers is made of which.
+#[derive(Clone, Copy, Debug, PartialEq, Eq)]
+pub enum Direction {
+    /// `assemble`: a `handlers.json` of a text.
+    Assemble,
+    /// `disassemble`: a text of a `handlers.json`.
+    Disassemble,
+}
+
 /// A command of the program.
 #[derive(Clone, Copy, Debug, PartialEq, Eq)]
 pub enum Subcommand {
@@ -34,6 +43,8 @@ pub enum Subcommand {
     Ask(Topic),
     /// `handlers`.
     Handlers,
+    /// `assemble` or `disassemble`.
+    Translate(Direction),
 }
 
 /// What is asked of a loaded session.
@@ -84,6 +95,8 @@ pub(crate) fn subcommand_named(name: &str) -> Option<Subcommand>
         "context" => Some(Subcommand::Ask(Topic::Context)),
         "palette" => Some(Subcommand::Ask(Topic::Palette)),
         "handlers" => Some(Subcommand::Handlers),
+        "assemble" => Some(Subcommand::Translate(Direction::Assemble)),
+        "disassemble" => Some(Subcommand::Translate(Direction::Disassemble)),
         _ => None,
     }
 }
@@ -93,6 +106,13 @@ fn text_or_empty<'a>(matches: &ArgMatches<'a>, name: &str) -> &'a str
     ensures { result.now ≡ unwrap_or (first_of name.now (rows_of (found_of matches.now))) [] }
 {
     text_given(matches, name).unwrap_or("")
+}
+
+/// The path of the file to translate.
+pub(crate) fn path_asked<'a>(matches: &ArgMatches<'a>) -> &'a str
+    ensures { result.now ≡ path_in (rows_of (found_of matches.now)) }
+{
+    text_or_empty(matches, "file")
 }
 
 /// How lines are written.

@@ -3,7 +3,8 @@ ghost use Rattle.std.specs.Prelude.{◌≡◌, false, IfOk, codes, map};
 ghost use Rattle.clap.specs.Words.{App, Rule, kind_of, new_app, rule_of, with_rule, with_subcommand};
 ghost use Rattle.kb_cli.specs.CommandLine.{NamesPlatforms};
 ghost use Rattle.kb_keycheck.specs.CommandLine.{IsCommand, IsMatched, Matched, NamesLevels, NamesLints};
-ghost use Rattle.kb_keycheck.specs.CommandLine.{bare_app, check_app, context_app};
+ghost use Rattle.kb_keycheck.specs.CommandLine.{assemble_app, bare_app, check_app, context_app};
+ghost use Rattle.kb_keycheck.specs.CommandLine.{disassemble_app};
 ghost use Rattle.kb_keycheck.specs.CommandLine.{explain_app, handlers_app, json_rule, keycheck_app};
 ghost use Rattle.kb_keycheck.specs.CommandLine.{level_rule, only_rule};
 ghost use Rattle.kb_keycheck.specs.CommandLine.{lints_rule, list_app, palette_app, some_dirs_rule};
@@ -265,6 +266,42 @@ fn handlers<'a>(alloc: Global) -> Result<Command<'a>, NoMemory>
     with(with(command, json_option(alloc))?, some_dirs(alloc))
 }
 
+/// `assemble`.
+fn assemble<'a>(alloc: Global) -> Result<Command<'a>, NoMemory>
+    ensures { IfOk result (λ made. IsCommand assemble_app made) }
+{
+    let command = command(
+        alloc,
+        "assemble",
+        "Writes the handlers.json of a text of handlers.",
+    );
+    let file = word(
+        alloc,
+        "file",
+        "FILE",
+        "The text, in the assembly language of handlers",
+    );
+    with(command, file)
+}
+
+/// `disassemble`.
+fn disassemble<'a>(alloc: Global) -> Result<Command<'a>, NoMemory>
+    ensures { IfOk result (λ made. IsCommand disassemble_app made) }
+{
+    let command = command(
+        alloc,
+        "disassemble",
+        "Writes the text of the handlers of a handlers.json.",
+    );
+    let file = word(
+        alloc,
+        "file",
+        "FILE|DIR",
+        "The handlers.json, or the directory of an extension that has one",
+    );
+    with(command, file)
+}
+
 /// The command of the program without its subcommands. Help and error texts use the program's name, not the
 /// first word.
 fn bare<'a>(alloc: Global) -> Result<Command<'a>, NoMemory>
@@ -303,7 +340,9 @@ fn command_of<'a>(
     let command = with_subcommand(command, list(alloc, platforms)?)?;
     let command = with_subcommand(command, context(alloc, platforms)?)?;
     let command = with_subcommand(command, palette(alloc, platforms)?)?;
-    with_subcommand(command, handlers(alloc)?)
+    let command = with_subcommand(command, handlers(alloc)?)?;
+    let command = with_subcommand(command, assemble(alloc)?)?;
+    with_subcommand(command, disassemble(alloc)?)
 }
 
 /// Matches words against the command with these names. `clap` reports refused memory as an error of the kind

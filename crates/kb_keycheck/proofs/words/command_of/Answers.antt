@@ -8,5 +8,7 @@ returns c =
     let list = c.in_ok-command-3.ensures _ _ explain c.in_ok-list.ensures in
     let context = c.in_ok-command-4.ensures _ _ list c.in_ok-context.ensures in
     let palette = c.in_ok-command-5.ensures _ _ context c.in_ok-palette.ensures in
-    IfOk-weaker c.with_subcommand-6.result _ _ (λ made h. h _ _ palette c.in_ok-handlers.ensures)
-    c.with_subcommand-6.ensures
+    let handlers = c.in_ok-command-6.ensures _ _ palette c.in_ok-handlers.ensures in
+    let assemble = c.in_ok-command-7.ensures _ _ handlers c.in_ok-assemble.ensures in
+    IfOk-weaker c.with_subcommand-8.result _ _ (λ made h. h _ _ assemble c.in_ok-disassemble.ensures)
+    c.with_subcommand-8.ensures

@@ -1,0 +1,16 @@
+pub mod AlikeLemmas
+pub mod CodeLemmas
+pub mod DraftLemmas
+pub mod FileLemmas
+pub mod GrammarLemmas
+pub mod HeadLemmas
+pub mod IndexLemmas
+pub mod LineLemmas
+pub mod NumberLemmas
+pub mod ScanLemmas
+pub mod SectionLemmas
+pub mod TargetLemmas
+pub mod TextLemmas
+pub mod WideLemmas
+pub mod WordLemmas
+pub mod WriteLemmas

@@ -1,0 +1,17 @@
+pub mod Code
+pub mod Draft
+pub mod Fault
+pub mod File
+pub mod Grammar
+pub mod Head
+pub mod Index
+pub mod Line
+pub mod Mnemonic
+pub mod Names
+pub mod Places
+pub mod Sections
+pub mod Targets
+pub mod Text
+pub mod Uses
+pub mod Words
+pub mod Write
