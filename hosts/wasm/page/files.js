@@ -52,6 +52,14 @@ export function change(files, id, text) {
   else files.extensions[number][name] = text;
 }
 
+/** The name of a new extension, which no other one has. */
+export function newName(files) {
+  const names = new Set(files.extensions.map(({ folder }) => folder));
+  let number = 1;
+  while (names.has(`extension-${number}`)) number++;
+  return `extension-${number}`;
+}
+
 /** What the engine loads. */
 export function given(files) {
   const there = new Map(listed(files).filter(isThere).map(({ id, text }) => [id, text]));

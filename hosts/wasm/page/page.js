@@ -399,7 +399,7 @@ function listenToFiles() {
     reload(lines);
   });
   at("add").onclick = () => tried(() => {
-    const name = `extension-${files.extensions.length + 1}`;
+    const name = store.newName(files);
     const contributes = { keybindings: [] };
     const manifest = `${JSON.stringify({ publisher: "me", name, contributes }, null, 2)}\n`;
     take([{ path: `${name}/package.json`, text: manifest }]);

@@ -5,6 +5,7 @@ import { contexts } from "./following.js";
 import { FOLDER, is, pafjirn as all, report, thrown } from "./shared.js";
 
 const { continuations, keysOf } = await import(new URL("page/rules.js", FOLDER));
+const { newName } = await import(new URL("page/files.js", FOLDER));
 const { lineAt, rangeOf, read, rulesOf } = await import(new URL("page/places.js", FOLDER));
 const pafjirn = await all.instantiate();
 
@@ -55,6 +56,13 @@ function rules() {
   is("rules without a line", keysOf([...reloaded, ...rulesIn(0, ["u", "y"])]).get("y"), "v");
 }
 
+function newNames() {
+  const beside = (...folders) => newName({ extensions: folders.map((folder) => ({ folder })) });
+  is("the first extension", beside(), "extension-1");
+  is("one more", beside("extension-1", "notes"), "extension-2");
+  is("one more than the last that is left", beside("extension-2"), "extension-1");
+}
+
 function places() {
   const at = (text, ...place) => [rangeOf(text, ...place)].map(({ begin, end }) => text.slice(begin, end))[0];
   is("a line", at("[\n  5,\n]", 2, 3), "5,");
@@ -73,5 +81,5 @@ function places() {
     .filter((it) => thrown(() => read(it)) || !(read(it).end <= it.length)), []);
 }
 
-for (const test of [names, rules, places]) test();
+for (const test of [names, rules, newNames, places]) test();
 report();
