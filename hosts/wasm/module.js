@@ -6,6 +6,8 @@ import { ANSWERS, DEAD, EngineError } from "./errors.js";
 
 // The bytes of the room for texts. A text that is longer gets a room of its own, up to the next call.
 const ROOM = 16384;
+// The bytes behind that room for the texts of keys, and the most that one of them takes there.
+const KEYS = 8192, KEY = 64;
 // A handle is a pointer and a truth value.
 const HANDLE = 16;
 
@@ -15,8 +17,13 @@ export const OF_MODULE = Symbol("the constructor's secret");
 /** An instance of pafjirn.wasm. Its engines share its memory, and nothing else. */
 export class Module {
   #exports;
+  // The functions of the library, by their names without the prefix.
+  #calls;
   // Bytes in the memory of the module, for texts that are passed and read.
   #room;
+  // The keys that are pressed are few: the text of each is written once, for speed, until the room is full.
+  #keys = new Map();
+  #keysEnd = 0;
   #large = 0n;
   #bytes = new Uint8Array();
   #dead = null;
@@ -27,7 +34,9 @@ export class Module {
 
   constructor(instance) {
     this.#exports = instance.exports;
-    this.#room = this.#newRoom(ROOM);
+    const calls = Object.entries(this.#exports);
+    this.#calls = Object.fromEntries(calls.map(([name, call]) => [name.replace(/^pafjirn_/, ""), call]));
+    this.#room = this.#newRoom(ROOM + KEYS);
   }
 
   /** The error that ended the module, or null. */
@@ -45,7 +54,7 @@ export class Module {
   call(name, ...given) {
     if (this.#dead) throw new EngineError(DEAD, { cause: this.#dead });
     try {
-      return this.#exports[`pafjirn_${name}`](...given);
+      return this.#calls[name](...given);
     } catch (trap) {
       this.#dead = trap;
       throw new EngineError(DEAD, { cause: trap });
@@ -70,6 +79,26 @@ export class Module {
       at += length;
     }
     return places;
+  }
+
+  /** The place and the length of the text of a key in the memory. */
+  passedKey(key) {
+    if (this.#large) this.forgetTexts();
+    return this.#keys.get(key) ?? this.#newKey(key);
+  }
+
+  #newKey(key) {
+    if (3 * key.length > KEY) return this.passed([key]);
+    if (this.#keysEnd + KEY > KEYS) {
+      this.#keys.clear();
+      this.#keysEnd = 0;
+    }
+    const at = Number(this.#room) + ROOM + this.#keysEnd;
+    const { written } = this.#encoder.encodeInto(key, this.#memory().subarray(at, at + KEY));
+    this.#keysEnd += written;
+    const place = [BigInt(at), BigInt(written)];
+    this.#keys.set(key, place);
+    return place;
   }
 
   /** Gives back the memory of long texts that were passed. */

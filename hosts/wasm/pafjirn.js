@@ -88,12 +88,12 @@ export class Engine {
    * a key, as of Shift alone. */
   press(key) {
     const text = typeof key === "string" ? key : keystroke(key);
-    return text === null ? null : this.#started(this.#told("key", ...this.#passed(text)));
+    return text === null ? null : this.#started(this.#pressed(text));
   }
 
   /** Presses a key without making a record, for many presses. Returns how the press ended. */
   pressQuietly(key) {
-    return this.#told("key", ...this.#passed(key));
+    return this.#pressed(key);
   }
 
   /** Gives the focus to a scope. */
@@ -212,6 +212,10 @@ export class Engine {
   #call(name, ...given) {
     if (!this.#handle) throw new EngineError(ANSWERS.UNKNOWN);
     return this.#module.call(name, this.#handle, ...given);
+  }
+
+  #pressed(key) {
+    return this.#told("key", ...(typeof key === "string" ? this.#module.passedKey(key) : this.#passed(key)));
   }
 
   #read(part) {
