@@ -1,5 +1,5 @@
-"""The times of the page in Chromium, for tools/check-wasm --figures: over 600 default rules and ten
-extensions, behind 1,000 events."""
+"""The times of the module and the page in Chromium, for tools/check-wasm --figures. Those of the page are
+over 600 default rules and ten extensions, behind 1,000 events."""
 
 import contextlib
 import json
@@ -44,6 +44,25 @@ var explained = async (keys) => {
   return middle(times);
 };
 true"""
+# The module alone: a start without the browser's cache, and presses of which one rule of many is taken.
+STARTED = """(async () => {
+  const begin = performance.now(), { instantiate } = await import("./pafjirn.js");
+  const source = await fetch("pafjirn.wasm", { cache: "no-store" });
+  const pafjirn = await instantiate(source);
+  pafjirn.load({ user: '[{ "key": "a", "command": "cursorLeft" }]' }).press("a");
+  return (performance.now() - begin).toFixed(0) + " ms";
+})()"""
+EACH = """(async () => {
+  const { instantiate } = await import("./pafjirn.js"), pafjirn = await instantiate();
+  const engine = pafjirn.load({ user: JSON.stringify(%s) });
+  let best = Infinity;
+  for (let turn = 0; turn < 6; turn++) {
+    const begin = performance.now();
+    for (let number = 0; number < 50000; number++) engine.pressQuietly("f6");
+    best = Math.min(best, (performance.now() - begin) / 50);
+  }
+  return best.toFixed(2) + " microseconds";
+})()"""
 ROWS = [
     ("a press whose rule has a clause", "many('alt+b')"),
     ("a press that opens a chord", "many('ctrl+k', 'f12')"),
@@ -72,6 +91,12 @@ def state():
     return {"files": {**files, "extensions": extensions}, "lines": lines}
 
 
+def rules(count):
+    """Rules whose clauses don't hold, and one on another key."""
+    rule_of = lambda at: {"key": KEYS[at % len(KEYS)], "command": "cursorLeft", "when": f"k{at}"}
+    return json.dumps([*map(rule_of, range(count)), {"key": "f6", "command": "cursorLeft"}])
+
+
 def page_rows(prefix):
     """The rows of a table, each with what was measured and its time; none without Chromium."""
     program = chromium()
@@ -84,6 +109,9 @@ def page_rows(prefix):
         ended.callback(browser.close)
         page = Page(browser, url, Counts())
         page.open()
+        yield "from the fetch to the first press, in Chromium", page.run(STARTED)
+        for count in (1_000, 100_000):
+            yield f"a press in Chromium: {count:,} rules, one is taken", page.run(EACH % rules(count))
         page.run(f"localStorage.setItem('pafjirn.state', {json.dumps(json.dumps(state()))})")
         page.open()
         page.run(HELPERS)
