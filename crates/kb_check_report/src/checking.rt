@@ -216,7 +216,8 @@ fn is_clean(
     choices: &Choices<'_>,
 ) -> bool
     ensures { result ≡ not (list_any is_shown marks.now
-        || list_any (is_unknown files.now found.now.ids.items) (map (λ name. name.now) choices.now.only.now)) }
+        || list_any (is_unknown files.now found.now.ids.items)
+        (map (λ name. name.now) choices.now.only.now)) }
 {
     !(is_any_shown(marks) || is_any_unknown(files, found.ids.as_slice(), choices.only))
 }

@@ -4,7 +4,7 @@ ghost use Rattle.std.specs.FinMap as map;
 ghost use Rattle.kb_hosted_keycheck.specs.Desk.{Runs, new_desk, written};
 
 use crate::memory_files::MemoryFiles;
-use crate::streams::Streams;
+use crate::streams::KeptStreams;
 use kb_base::{NoMemory, Seq, Text, TextMap};
 use kb_keycheck::keycheck_over;
 use std::alloc::Global;
@@ -97,7 +97,7 @@ impl Desk {
         ensures { Runs self.old self.new }
     {
         let words = mem::replace(&mut self.words, Vec::new(self.alloc));
-        let streams = Streams::new(self.alloc);
+        let streams = KeptStreams::new(self.alloc);
         let files = MemoryFiles { files: &self.files };
         let status = keycheck_over(&streams, self.alloc, words.as_slice(), &files);
         let (output, errors) = streams.into_bytes();

@@ -2,9 +2,7 @@
 #![tactic(auto)]
 
 pub mod desk;
-pub mod memory_files;
-pub mod streams;
+mod memory_files;
+mod streams;
 
 pub use desk::Desk;
-pub use memory_files::MemoryFiles;
-pub use streams::Streams;

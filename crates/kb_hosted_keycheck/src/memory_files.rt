@@ -9,8 +9,8 @@ use std::io::ErrorKind;
 
 /// Files in memory, by their paths. A path is looked for as it is spelled.
 #[derive(Clone, Copy)]
-pub struct MemoryFiles<'d> {
-    pub files: &'d TextMap<Seq<u8>>,
+pub(crate) struct MemoryFiles<'d> {
+    pub(crate) files: &'d TextMap<Seq<u8>>,
 }
 
 impl<'d> FileSource for MemoryFiles<'d> {

@@ -7,7 +7,7 @@ use std::io::ErrorKind;
 
 /// Standard output and standard error, kept in memory. Where memory is refused, a write fails.
 #[derive(Drop)]
-pub struct Streams {
+pub(crate) struct KeptStreams {
     alloc: Global,
     output: RefCell<Vec<u8>>,
     errors: RefCell<Vec<u8>>,
@@ -37,10 +37,10 @@ fn add_shown<D: Display + Drop>(
     }
 }
 
-impl Streams {
+impl KeptStreams {
     /// Streams without bytes.
-    pub fn new(alloc: Global) -> Streams {
-        Streams {
+    pub(crate) fn new(alloc: Global) -> KeptStreams {
+        KeptStreams {
             alloc,
             output: RefCell::new(Vec::new(alloc)),
             errors: RefCell::new(Vec::new(alloc)),
@@ -48,8 +48,8 @@ impl Streams {
     }
 
     /// The bytes of standard output, and those of standard error.
-    pub fn into_bytes(self) -> (Vec<u8>, Vec<u8>) {
-        let Streams {
+    pub(crate) fn into_bytes(self) -> (Vec<u8>, Vec<u8>) {
+        let KeptStreams {
             alloc: _,
             output,
             errors,
@@ -58,7 +58,7 @@ impl Streams {
     }
 }
 
-impl Print for Streams {
+impl Print for KeptStreams {
     fn print<D: Display + Drop>(&self, value: D) -> io::Result<()> {
         add_shown(self.alloc, &self.output, value, "")
     }
@@ -72,7 +72,7 @@ impl Print for Streams {
     }
 }
 
-impl Eprint for Streams {
+impl Eprint for KeptStreams {
     fn eprint<D: Display + Drop>(&self, value: D) -> io::Result<()> {
         add_shown(self.alloc, &self.errors, value, "")
     }
