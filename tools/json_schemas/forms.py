@@ -1,5 +1,5 @@
-"""The schemas, by the names of their files. A schema refuses only what a load refuses or drops. Its tables are
-those of the sources (tables.py)."""
+"""The schemas, by the names of their files. A schema refuses only what a load refuses or drops. Its tables
+are those of the sources (tables.py)."""
 
 from json_schemas import tables
 
@@ -226,8 +226,8 @@ def code_of(version):
     """What the code of handlers has to be in a file of a version."""
     code = {
         "pattern": code_pattern(version),
-        "patternErrorMessage": f"This is no code of version {version}: {2 * tables.INSTRUCTION_BYTES} digits for"
-        " each instruction, two of its opcode and four of its operand.",
+        "patternErrorMessage": f"This is no code of version {version}: {2 * tables.INSTRUCTION_BYTES} digits"
+        " for each instruction, two of its opcode and four of its operand.",
     }
     of_handlers = {"items": {"properties": {"code": code}}}
     return {"properties": {"handlers": of_handlers}}
