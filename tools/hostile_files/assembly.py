@@ -1,5 +1,5 @@
-"""The large files of `keycheck assemble` and `keycheck disassemble` for tools/hostile-files: their contents, the
-expected answers, and what they cost."""
+"""The large files of `keycheck assemble` and `keycheck disassemble` for tools/hostile-files: their contents,
+the expected answers, and what they cost."""
 
 import dataclasses
 import os
@@ -41,8 +41,12 @@ def filled(before, piece, after=b""):
 
 def numbered(before, form, after=b""):
     """The same of pieces that each have a number of eight digits."""
-    size = len(form % 0)
-    return lambda n: before + b"".join(form % it for it in range((n - len(before) - len(after)) // size)) + after
+
+    def made(n):
+        count = (n - len(before) - len(after)) // len(form % 0)
+        return before + b"".join(form % it for it in range(count)) + after
+
+    return made
 
 
 def long_labels(n):
@@ -70,6 +74,7 @@ def instructions(count):
 
 NO_HANDLER = "1:1: NoHandler: "
 TOO_MANY = "44 TooLarge: a handler has at most "
+TOO_MANY_HANDLERS = "44 TooLarge: a file has at most 1,000 handlers"
 CASES = [
     Case("one word", filled(b"", b"x"), NO_HANDLER),
     Case("one word behind a handler's line", filled(HEAD, b"x"), "2:1: UnknownInstruction: "),
@@ -89,8 +94,8 @@ CASES = [
     Case("comments", filled(b"", b";\n")),
     Case("line ends", filled(b"", b"\n")),
     Case("blanks", filled(b"", b" ")),
-    Case("handlers", numbered(b"", b".handler x.%08d\nreturn\n"), "44 TooLarge: a file has at most 1,000 handlers"),
-    Case("handlers of one name", filled(b"", HEAD + END), "44 TooLarge: a file has at most 1,000 handlers"),
+    Case("handlers", numbered(b"", b".handler x.%08d\nreturn\n"), TOO_MANY_HANDLERS),
+    Case("handlers of one name", filled(b"", HEAD + END), TOO_MANY_HANDLERS),
     Case("instructions", filled(HEAD, b"before\ndrop\n", END), TOO_MANY + "10,000 instructions"),
     Case("10,000 instructions", instructions(10_000 - 1)),
     Case("10,001 instructions", instructions(10_001), TOO_MANY + "10,000 instructions"),
