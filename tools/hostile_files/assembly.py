@@ -69,12 +69,13 @@ def hashed_labels(n):
 
 def instructions(count):
     """A handler of this many instructions, whatever the size."""
-    return lambda n: HEAD + b"before\ndrop\n" * (count // 2) + END * (count % 2)
+    return lambda n: HEAD + b"before\ndrop\n" * ((count - 1) // 2) + END * (1 + (count - 1) % 2)
 
 
 NO_HANDLER = "1:1: NoHandler: "
 TOO_MANY = "44 TooLarge: a handler has at most "
 TOO_MANY_HANDLERS = "44 TooLarge: a file has at most 1,000 handlers"
+LONG_TEXT = b'text "%08d' + b"x" * 992 + b'"\n'
 CASES = [
     Case("one word", filled(b"", b"x"), NO_HANDLER),
     Case("one word behind a handler's line", filled(HEAD, b"x"), "2:1: UnknownInstruction: "),
@@ -84,8 +85,8 @@ CASES = [
     Case("unknown instructions", filled(HEAD, b"x\n"), "2:1: UnknownInstruction: ", lines_beyond(1)),
     Case("a text", filled(HEAD + b'text "', b"x", b'"\ncall type\nreturn\n')),
     Case("a text of escapes", filled(HEAD + b'text "', b"\\n", b'"\ncall type\nreturn\n')),
-    Case("a text of bytes FF", filled(HEAD + b'text "', b"\xff", b'"\n'), "2:"),
-    Case("open quotes", filled(HEAD + b'text "', b"x"), "2:"),
+    Case("a text of bytes FF", filled(HEAD + b'text "', b"\xff", b'"\n'), "NotUtf8: "),
+    Case("open quotes", filled(HEAD + b'text "', b"x"), "OpenQuotes: "),
     Case("quotes", filled(b"", b'"'), "1:3: MissingBlank: "),
     Case("bytes FF", filled(b"", b"\xff"), "1:1: BadByte: "),
     Case("NUL", filled(b"", b"\0"), "1:1: BadByte: "),
@@ -95,15 +96,15 @@ CASES = [
     Case("line ends", filled(b"", b"\n")),
     Case("blanks", filled(b"", b" ")),
     Case("handlers", numbered(b"", b".handler x.%08d\nreturn\n"), TOO_MANY_HANDLERS),
-    Case("handlers of one name", filled(b"", HEAD + END), TOO_MANY_HANDLERS),
+    Case("handlers of one name", filled(b"", HEAD + END), "3:10: 43 DuplicateHandler: "),
     Case("instructions", filled(HEAD, b"before\ndrop\n", END), TOO_MANY + "10,000 instructions"),
-    Case("10,000 instructions", instructions(10_000 - 1)),
+    Case("10,000 instructions", instructions(10_000)),
     Case("10,001 instructions", instructions(10_001), TOO_MANY + "10,000 instructions"),
     Case("parameters", numbered(HEAD, b".param p%08d text\n", END), TOO_MANY + "8 parameters"),
     Case("entries of a table", filled(HEAD, b'.text "a"\n', END), TOO_MANY + "1,000 texts"),
-    Case("texts", numbered(HEAD, b'text "%08d"\n', END), TOO_MANY + "1,000 texts"),
-    Case("blocks that are opened", filled(HEAD, b"repeat 2\n", END), "53 BadBlock: "),
-    Case("blocks that are closed", filled(HEAD, b"end\n", END), "2:1: 53 BadBlock: "),
+    Case("texts of 1,000 bytes", numbered(HEAD, LONG_TEXT, END), TOO_MANY + "1,000 texts"),
+    Case("blocks that are opened", filled(HEAD, b"repeat 2\n", END), TOO_MANY + "10,000 instructions"),
+    Case("blocks that are closed", filled(HEAD, b"end\n", END), TOO_MANY + "10,000 instructions"),
     Case("long labels, each with a jump", long_labels),
     Case("labels", numbered(HEAD, b"l%08d:\n", END)),
     Case("labels of one name", filled(HEAD, b"a:\n", END), "3:1: DoubleLabel: ", lines_beyond(3)),
