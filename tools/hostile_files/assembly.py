@@ -3,6 +3,7 @@ the expected answers, and what they cost."""
 
 import dataclasses
 import os
+import re
 import tempfile
 
 from hostile_files.large import FILE_LIMIT, LARGEST, LEAST, MIB, growth_fault, longest_handlers, most_handlers
@@ -15,6 +16,7 @@ END = b"return\n"
 # The first bytes of what is written where there is no fault.
 ASSEMBLED, DISASSEMBLED = b'{\n    "version": ', b".handler x."
 SHOWN = 1_000
+TOO_LONG = "44 TooLarge: its handlers.json would have more than 16,777,216 bytes"
 
 
 @dataclasses.dataclass
@@ -28,10 +30,12 @@ class Case:
     fault: str = ""
     more: object = None
     command: str = "assemble"
+    # Whether the handlers.json is longer than the text, so that there is none for the longest one.
+    is_copied: bool = False
 
-    @property
-    def status(self):
-        return 1 if self.fault else 0
+    def fault_of(self, content):
+        """The fault of a content, or the empty text."""
+        return TOO_LONG if self.is_copied and len(content) + 512 > FILE_LIMIT else self.fault
 
 
 def filled(before, piece, after=b""):
@@ -75,16 +79,17 @@ def instructions(count):
 NO_HANDLER = "1:1: NoHandler: "
 TOO_MANY = "44 TooLarge: a handler has at most "
 TOO_MANY_HANDLERS = "44 TooLarge: a file has at most 1,000 handlers"
+TYPED = b'"\ncall type\nreturn\n'
 LONG_TEXT = b'text "%08d' + b"x" * 992 + b'"\n'
 CASES = [
     Case("one word", filled(b"", b"x"), NO_HANDLER),
     Case("one word behind a handler's line", filled(HEAD, b"x"), "2:1: UnknownInstruction: "),
-    Case("a handler's name", filled(b".handler ", b"x", b"\nreturn\n")),
+    Case("a handler's name", filled(b".handler ", b"x", b"\nreturn\n"), is_copied=True),
     Case("words", filled(b"", b"x "), NO_HANDLER),
     Case("words behind an instruction", filled(HEAD + b"return ", b"x "), "2:8: ExtraWord: "),
     Case("unknown instructions", filled(HEAD, b"x\n"), "2:1: UnknownInstruction: ", lines_beyond(1)),
-    Case("a text", filled(HEAD + b'text "', b"x", b'"\ncall type\nreturn\n')),
-    Case("a text of escapes", filled(HEAD + b'text "', b"\\n", b'"\ncall type\nreturn\n')),
+    Case("a text", filled(HEAD + b'text "', b"x", TYPED), is_copied=True),
+    Case("a text of escapes", filled(HEAD + b'text "', b"\\n", TYPED), is_copied=True),
     Case("a text of bytes FF", filled(HEAD + b'text "', b"\xff", b'"\n'), "NotUtf8: "),
     Case("open quotes", filled(HEAD + b'text "', b"x"), "OpenQuotes: "),
     Case("quotes", filled(b"", b'"'), "1:3: MissingBlank: "),
@@ -130,15 +135,16 @@ def ends_of(path):
 def fault_of(case, content, status, folder):
     """What is wrong with the answer of a run, or None."""
     out, err = (os.path.join(folder, it) for it in ("out", "err"))
-    if status != case.status:
-        return f"status {status}, not {case.status}: {ends_of(err)[0][:200]!r}"
-    if not case.fault:
+    expected = case.fault_of(content)
+    if status != bool(expected):
+        return f"status {status}, not {int(bool(expected))}: {ends_of(err)[0][:200]!r}"
+    if not expected:
         with open(out, "rb") as text:
             begin = text.read(32)
         is_right = os.path.getsize(err) == 0 and begin.startswith((ASSEMBLED, DISASSEMBLED))
         return None if is_right else f"another output: {begin!r}, {ends_of(err)[0][:200]!r}"
     first, last = ends_of(err)
-    if os.path.getsize(out) or not first.startswith(b"f:") or case.fault.encode() not in first:
+    if os.path.getsize(out) or not first.startswith(b"f:") or expected.encode() not in first:
         return f"another fault: {first[:200]!r}"
     if case.more and last != b"f: %d more faults" % case.more(content):
         return f"another count of faults: {last!r}"
@@ -156,6 +162,12 @@ def measured(measurer, program, case, content):
         return min(it[1] for it in runs), max(it[2] for it in runs), fault
 
 
+def answer_of(fault):
+    """A cell of the table: the name of the fault, with its number if it has one."""
+    found = re.search(r"(\d+ )?[A-Z]\w+(?=: )", fault)
+    return found[0] if found else "read"
+
+
 def try_case(measurer, program, case, sizes):
     """The row of a case in the table, what is wrong, and what grew beyond its limit."""
     found, faults, title = [], [], f"{case.command}: {case.title}"
@@ -169,9 +181,7 @@ def try_case(measurer, program, case, sizes):
         " ".join(ratio_of(after[at], before[at], least) for before, after in zip(found, found[1:]))
         for at, least in enumerate(LEAST)
     ]
-    words = [it for it in case.fault.strip(": ").split(": ") if it[:1].isalpha() or it[3:4].isalpha()]
-    answer = words[0] if words else "a fault" if case.fault else "read"
-    cells = [title, "%g" % round(len(content) / MIB, 2), answer]
+    cells = [title, "%g" % round(len(content) / MIB, 2), answer_of(case.fault_of(content))]
     cells += ["%.2f" % found[-1][0], "%.0f" % (found[-1][1] / 1e6), ", ".join(ratios)]
     return "| %s |" % " | ".join(cells), faults, [f"{title}: {it}" for it in grew]
 
