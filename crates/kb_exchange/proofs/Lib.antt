@@ -1,0 +1,3 @@
+mod SaysLemmas
+mod ExchangeLemmas
+mod ValuesLemmas

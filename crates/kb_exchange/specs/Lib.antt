@@ -1,0 +1,6 @@
+pub mod Span
+pub mod Says
+pub mod Tokens
+pub mod Values
+pub mod Exchange
+pub mod Moves
