@@ -1,3 +1,4 @@
 mod SaysLemmas
 mod ExchangeLemmas
 mod ValuesLemmas
+mod MovesLemmas

@@ -1,6 +1,6 @@
 -- What a string of JSON says, by cases.
-use Rattle.std.proofs.Common.{◌≡◌, ℕ, List, Bool, true, false, Some, None, refl}
-use Rattle.std.specs.Prelude.{if◌then◌else◌, option_and_then, bytes_eq}
+use Rattle.std.proofs.Common.{◌≡◌, ℕ, List, true, false, Some, None, refl}
+use Rattle.std.specs.Prelude.{bytes_eq}
 use Rattle.std.specs.Str.{is_utf8, IsUtf8}
 use Rattle.std.proofs.lemmas.Bool.{false_from_ne_true}
 use Rattle.std.proofs.lemmas.Str.{IsUtf8-from_is_utf8, is_utf8-from_IsUtf8}

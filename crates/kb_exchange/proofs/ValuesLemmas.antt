@@ -1,7 +1,7 @@
 -- The values behind the tokens that were passed.
-use Rattle.std.proofs.Common.{◌≡◌, ◌∙◌, ◌≢◌, ℕ, zero, suc, ◌+◌, ◌-◌, ◌<◌, ◌≤◌, List, [], ◌∷◌, ◌++◌, length, drop, get_or}
-use Rattle.std.proofs.Common.{Bool, true, false, Some, None, Option, Ok, Err, refl, ap, sym, subst, arith, append_assoc, append-nil, eqb, cond, add-one, ◌⊎◌, inl, inr}
-use Rattle.std.specs.Prelude.{slice_index, if◌then◌else◌, ◌==◌, ◌&&◌, unwrap_or, option_map}
+use Rattle.std.proofs.Common.{◌≡◌, ◌∙◌, ◌≢◌, ℕ, zero, suc, ◌+◌, ◌<◌, ◌≤◌, List, [], ◌∷◌, ◌++◌, length, drop}
+use Rattle.std.proofs.Common.{Bool, true, false, Some, None, Ok, Err, refl, ap, sym, arith, append_assoc, append-nil, eqb, cond, add-one, ◌⊎◌, inl, inr}
+use Rattle.std.specs.Prelude.{slice_index, ◌&&◌}
 use Rattle.std.proofs.lemmas.Bool.{false_from_ne_true, ne_eqb}
 use Rattle.std.proofs.lemmas.List.{drop_all, drop-drop}
 use Rattle.std.proofs.Math.Seq.{drop-cons}
@@ -14,8 +14,8 @@ use Rattle.kb_jsonc.specs.Text.{plain_text}
 use Rattle.kb_exchange.specs.declared.members.Before.{Before}
 use Rattle.kb_exchange.specs.declared.members.Before.TheVariants as before
 use Rattle.kb_exchange.specs.declared.span.Span.{Span}
-use Rattle.kb_exchange.specs.Span.{span}
-use Rattle.kb_exchange.specs.Tokens.{Token, string, sign, tokens_past, tokens_from, tokens}
+use Rattle.kb_exchange.specs.Span.{AreInOrder, span}
+use Rattle.kb_exchange.specs.Tokens.{Token, string, sign, tokens_past, tokens_from}
 use Rattle.kb_exchange.specs.Values.{behind_byte, is_named, is_value, member_value, next_before, value_behind, values_among}
 use Rattle.kb_exchange.specs.Values.{values_behind, values_in, values_of}
 
@@ -194,3 +194,15 @@ unfolding values_of
 in_plain names file plain h e = rw (is_utf8-from_IsUtf8 file h, e) refl
 
 pub ruleset in_file = (in_no_text, in_fault, in_plain)
+
+-- ---- in order
+
+pub wider : (from to further : ℕ) (parts : List Span) → AreInOrder from to parts → to ≤ further
+    → AreInOrder from further parts
+wider from to further [] o l = omega (arith, o, l)
+wider from to further (p ∷ ps) o l = (o.0, o.1, wider p.end to further ps o.2 l)
+
+pub one_more : (from to : ℕ) (parts : List Span) (part : Span) → AreInOrder from to parts → to ≤ part.begin
+    → part.begin ≤ part.end → AreInOrder from part.end (parts ++ part ∷ [])
+one_more from to [] part o l m = (omega (arith, o, l), m, omega arith)
+one_more from to (p ∷ ps) part o l m = (o.0, o.1, one_more p.end to ps part o.2 l m)

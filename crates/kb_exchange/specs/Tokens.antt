@@ -1,6 +1,6 @@
 -- The tokens of a JSON text without comments: its strings, and all other bytes that aren't blank.
 use Rattle.std.specs.Prelude.{ℕ, zero, suc, ◌+◌, ◌==◌, if◌then◌else◌, List, [], ◌∷◌, drop}
-use Rattle.std.specs.Prelude.{Option, option_map, unwrap_or}
+use Rattle.std.specs.Prelude.{option_map, unwrap_or}
 use Rattle.kb_base.specs.Blank.{is_blank}
 use Rattle.kb_jsonc.specs.Pieces.{string_len}
 use Rattle.kb_exchange.specs.declared.span.Span.{Span}

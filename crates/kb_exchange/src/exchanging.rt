@@ -1,7 +1,8 @@
 //! A text with some of its parts exchanged.
-ghost use Rattle.std.specs.Prelude.{◌≡◌, [], IfOk};
+ghost use Rattle.std.specs.Prelude.{◌≡◌, [], IfOk, length, map};
 ghost use Rattle.kb_exchange.specs.Exchange as words;
-ghost use Rattle.kb_exchange.specs.Moves.{moves_of};
+ghost use Rattle.kb_exchange.specs.Moves.{moves_of, KeepsOthers};
+ghost use Rattle.kb_exchange.specs.Span.{AreInOrder};
 
 use crate::moves::{Move, Moves};
 use crate::span::{Span, part_of};
@@ -26,8 +27,44 @@ pub struct Exchanged {
     pub moves: Moves,
 }
 
+/// The bytes of the text with these parts exchanged, and where these are.
+fn bytes_and_moves(
+    alloc: Global,
+    text: &[u8],
+    exchanges: &[Exchange],
+) -> Result<(Vec<u8>, Vec<Move>), NoMemory>
+    ensures bytes { IfOk result (λ made. made.0.items ≡ words.exchanged text.now exchanges.now) }
+    ensures moves { IfOk result (λ made. made.1.items ≡ moves_of text.now exchanges.now) }
+{
+    let mut bytes = Vec::new(alloc);
+    let mut moves = Vec::new(alloc);
+    let mut at = 0;
+    for exchange in exchanges {
+        let kept = Span {
+            begin: at,
+            end: exchange.old.begin,
+        };
+        bytes.extend_from_slice(part_of(text, kept))?;
+        let begin = bytes.len();
+        bytes.extend_from_slice(exchange.text.as_str().as_bytes())?;
+        let end = bytes.len();
+        moves.push(Move {
+            old: exchange.old,
+            new: Span { begin, end },
+        })?;
+        at = exchange.old.end;
+    }
+    let kept = Span {
+        begin: at,
+        end: text.len(),
+    };
+    bytes.extend_from_slice(part_of(text, kept))?;
+    Ok((bytes, moves))
+}
+
 /// The text with these parts exchanged, which are in order: each begins at or behind the end of the one before.
-/// A part that isn't in the text counts as an empty one.
+/// A part that isn't in the text counts as an empty one. All other bytes are kept, and where nothing is
+/// exchanged the text is the same.
 ///
 /// Error: `NoMemory`.
 #[tactic(auto, using(crate::proofs::ExchangeLemmas::none_exchanged))]
@@ -38,37 +75,11 @@ pub fn exchange_all(
 ) -> Result<Exchanged, NoMemory>
     ensures bytes { IfOk result (λ made. made.bytes ≡ words.exchanged text.now exchanges.now) }
     ensures moves { IfOk result (λ made. made.moves ≡ moves_of text.now exchanges.now) }
+    ensures kept { AreInOrder 0 (length text.now) (map (λ e. e.old) exchanges.now)
+        → IfOk result (λ made. KeepsOthers text.now made.bytes made.moves) }
     ensures same { exchanges.now ≡ [] → IfOk result (λ made. made.bytes ≡ text.now) }
 {
-    let mut bytes = Vec::new(alloc);
-    let mut moves = Vec::new(alloc);
-    let mut at = 0;
-    for exchange in exchanges {
-        bytes.extend_from_slice(part_of(
-            text,
-            Span {
-                begin: at,
-                end: exchange.old.begin,
-            },
-        ))?;
-        let begin = bytes.len();
-        bytes.extend_from_slice(exchange.text.as_str().as_bytes())?;
-        moves.push(Move {
-            old: exchange.old,
-            new: Span {
-                begin,
-                end: bytes.len(),
-            },
-        })?;
-        at = exchange.old.end;
-    }
-    bytes.extend_from_slice(part_of(
-        text,
-        Span {
-            begin: at,
-            end: text.len(),
-        },
-    ))?;
+    let (bytes, moves) = bytes_and_moves(alloc, text, exchanges)?;
     Ok(Exchanged {
         bytes: Seq::from_vec(bytes),
         moves: Moves::from_vec(moves),

@@ -1,6 +1,7 @@
 //! Where the strings of members are.
 ghost use Rattle.std.specs.Prelude.{◌≡◌, ◌<◌, ◌++◌, ◌∷◌, [], false, length, map, slice_index, IfOk, OnOk};
 ghost use Rattle.kb_base.specs.Blank.{is_blank};
+ghost use Rattle.kb_exchange.specs.Span.{AreInOrder};
 ghost use Rattle.kb_exchange.specs.Values as words;
 
 use crate::span::{Span, part_of};
@@ -62,7 +63,9 @@ fn is_value(alloc: Global, text: &[u8], names: &[&str], before: Before) -> Resul
 /// Where the strings are, with their quotes, that are values of members with these names, in a text without
 /// comments, in order.
 fn values_in(alloc: Global, text: &[u8], names: &[&str]) -> Result<Vec<Span>, NoMemory>
-    ensures { IfOk result (λ found. found.items ≡ words.values_in (map (λ n. n.now) names.now) text.now) }
+    ensures values { IfOk result
+        (λ found. found.items ≡ words.values_in (map (λ n. n.now) names.now) text.now) }
+    ensures order { IfOk result (λ found. AreInOrder 0 (length text.now) found.items) }
 {
     let mut found = Vec::new(alloc);
     let mut before = Before::Other;
@@ -96,7 +99,9 @@ fn values_in(alloc: Global, text: &[u8], names: &[&str]) -> Result<Vec<Span>, No
 /// Error: `NoMemory`.
 #[tactic(auto, using(crate::proofs::ValuesLemmas::in_file))]
 pub fn values(alloc: Global, file: &[u8], names: &[&str]) -> Result<Vec<Span>, NoMemory>
-    ensures { IfOk result (λ found. found.items ≡ words.values_of (map (λ n. n.now) names.now) file.now) }
+    ensures values { IfOk result
+        (λ found. found.items ≡ words.values_of (map (λ n. n.now) names.now) file.now) }
+    ensures order { IfOk result (λ found. AreInOrder 0 (length file.now) found.items) }
 {
     let Ok(text) = str::from_utf8(file) else {
         return Ok(Vec::new(alloc));

@@ -2,7 +2,6 @@ use Rattle.std.proofs.Common.{◌≡◌, drop}
 use Rattle.std.specs.Prelude.{map}
 use Rattle.std.specs.List.{list_any}
 use Rattle.kb_exchange.specs.Says.{says}
-use Rattle.kb_exchange.specs.Span.{part_of}
 use Rattle.kb_exchange.proofs.members.is_named.Given as goal
 
 -- whether one of the names that are left is said is whether one of all is

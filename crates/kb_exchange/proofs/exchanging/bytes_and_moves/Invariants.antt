@@ -1,7 +1,7 @@
 use Rattle.std.proofs.Common.{◌≡◌, ◌++◌, drop, length}
 use Rattle.kb_exchange.specs.Exchange.{exchanged, exchanged_from}
 use Rattle.kb_exchange.specs.Moves.{moves_from, moves_of}
-use Rattle.kb_exchange.proofs.exchanging.exchange_all.Given as goal
+use Rattle.kb_exchange.proofs.exchanging.bytes_and_moves.Given as goal
 
 -- the text so far and what is made of the others give the whole, and so do the moves
 abbrev pub invariant-loop-exchange : goal.invariant-loop-exchange
