@@ -2,3 +2,4 @@ mod SaysLemmas
 mod ExchangeLemmas
 mod ValuesLemmas
 mod MovesLemmas
+mod RenewalLemmas

@@ -4,3 +4,4 @@ pub mod Tokens
 pub mod Values
 pub mod Exchange
 pub mod Moves
+pub mod Renewal
