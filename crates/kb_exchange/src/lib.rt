@@ -17,4 +17,4 @@ pub use members::values;
 pub use moves::{Move, Moves};
 pub use renewal::{Renewal, exchange_values};
 pub use span::{Span, part_of};
-pub use strings::{says, text_of};
+pub use strings::{says, string_of, text_of};

@@ -1,5 +1,8 @@
 //! What a string of JSON says.
-ghost use Rattle.std.specs.Prelude.{◌≡◌, IfOk};
+ghost use Rattle.std.specs.Prelude.{◌≡◌, IfOk, Some};
+ghost use Rattle.json.specs.Print.{quoted};
+ghost use Rattle.serde_json.specs.Data as json;
+ghost use Rattle.serde_json.specs.Read.{read};
 ghost use Rattle.kb_exchange.specs.Says as words;
 
 use kb_base::{NoMemory, Text};
@@ -71,4 +74,17 @@ fn is_text(found: &Option<Text>, text: &str) -> bool
         Some(found) => found.as_str() == text,
         None => false,
     }
+}
+
+/// A text as a string of JSON, with its quotes and the shortest escapes: control characters, `"` and `\` are
+/// escaped, and nothing else. It reads back as that text.
+///
+/// Error: `NoMemory`.
+pub fn string_of(alloc: Global, text: &str) -> Result<Text, NoMemory>
+    ensures string { IfOk result (λ made. made ≡ quoted text.now) }
+    ensures reads_back { IfOk result (λ made. read made ≡ Some (json.string text.now)) }
+{
+    let value = Value::try_from_str(alloc, text)?;
+    let string = value.to_string(alloc)?;
+    Ok(Text::from_string(string))
 }
