@@ -1,5 +1,5 @@
 -- Keys and their messages.
-use Rattle.std.specs.Prelude.{ℕ, ◌-◌, ◌==◌, ◌&&◌, not, if◌then◌else◌, List, [], ◌∷◌, codes, length, nat_lt}
+use Rattle.std.specs.Prelude.{ℕ, ◌-◌, ◌==◌, ◌&&◌, Bool, if◌then◌else◌, List, [], ◌∷◌, codes, length, nat_le}
 use Rattle.std.specs.Prelude.{slice_index, slice_range, Option, Some, None, option_map}
 use Rattle.std.specs.Option.{option_or}
 use Rattle.json.specs.Print.{quoted}
@@ -8,12 +8,14 @@ use Rattle.serde_json.specs.Find.{get}
 use Rattle.kb_jsonc.specs.Parts.{◌>>=◌, word_of}
 use Rattle.kb_exchange.specs.Says.{text_of}
 
+-- a text of two bytes or more begins and ends with `%`
+unfoldable pub has_key : List ℕ → Bool
+has_key text =
+    (nat_le 2 (length text) && (slice_index text 0 == 37)) && (slice_index text (length text - 1) == 37)
+
 -- the key that a text between two `%` is
 unfoldable pub key_in : List ℕ → Option (List ℕ)
-key_in text =
-    if not (nat_lt (length text) 2) && (slice_index text 0 == 37 && slice_index text (length text - 1) == 37) then
-    Some (slice_range text 1 (length text - 1))
-    else None
+key_in text = if has_key text then Some (slice_range text 1 (length text - 1)) else None
 
 -- the message that a value is: a text that isn't empty, or an object whose member `message` is one
 unfoldable pub message_in : Data → Option (List ℕ)

@@ -10,16 +10,24 @@ use kb_exchange::{Renewal, string_of, text_of};
 use serde_json::Value;
 use std::alloc::Global;
 
+/// Whether a text stands between two `%`.
+#[tactic(auto, unfolding(crate::specs::Messages::has_key))]
+fn has_key(text: &str) -> bool
+    ensures { result ≡ words.has_key text.now }
+{
+    let bytes = text.as_bytes();
+    bytes.len() >= 2 && bytes[0] == b'%' && bytes[bytes.len() - 1] == b'%'
+}
+
 /// The key that a text between two `%` is.
+#[tactic(auto, unfolding(crate::specs::Messages::key_in))]
 fn key_in(text: &str) -> Option<&str>
     ensures { option_map (λ key. key.now) result ≡ words.key_in text.now }
 {
-    let bytes = text.as_bytes();
-    let end = bytes.len();
-    if end < 2 || bytes[0] != b'%' || bytes[end - 1] != b'%' {
+    if !has_key(text) {
         return None;
     }
-    Some(&text[1..end - 1])
+    Some(&text[1..text.len() - 1])
 }
 
 /// The text that a value is, if it isn't empty.
@@ -33,6 +41,7 @@ fn word_in(value: &Value) -> Option<&str>
 }
 
 /// The message that a value is: a text that isn't empty, or an object whose member `message` is one.
+#[tactic(auto, unfolding(crate::specs::Messages::message_in))]
 fn message_in(value: &Value) -> Option<&str>
     ensures { option_map (λ text. text.now) result ≡ words.message_in (view value.now) }
 {
@@ -56,6 +65,7 @@ fn message_of<'b>(bundles: &'b [Bundle], key: &str) -> Option<&'b str>
 }
 
 /// The messages of some bundles, in the place of their keys.
+#[derive(Clone, Copy)]
 pub(crate) struct Messages<'b> {
     pub(crate) bundles: &'b [Bundle],
 }
@@ -74,6 +84,7 @@ impl Messages<'_> {
 impl Renewal for Messages<'_> {
     ghost renewed = { λ messages. words.renewed (map (λ b. view b.value) messages.bundles.now) };
 
+    #[tactic(auto, unfolding(crate::specs::Messages::renewed))]
     fn renewed(&self, alloc: Global, string: &[u8]) -> Result<Option<Text>, NoMemory> {
         let Some(text) = text_of(alloc, string)? else {
             return Ok(None);
