@@ -1,6 +1,7 @@
 //! Golden tests of what is read beside the engine: manifests with their messages, and keyboards.
 #![tactic(auto)]
 
+mod alike;
 mod manifests;
 
 use kb_base::NoMemory;

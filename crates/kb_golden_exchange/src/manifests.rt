@@ -1,4 +1,5 @@
 //! Manifests with the messages of bundles. A case has the manifest, and behind each ` ;; ` a bundle.
+use crate::alike::reads_alike;
 use kb_base::{Failure, NoMemory};
 use kb_golden_text::fault_text;
 use kb_localized::{Bundle, BundleFault, Exchanged, localize};
@@ -42,13 +43,21 @@ fn text_of(alloc: Global, bytes: &[u8]) -> Result<String, NoMemory> {
     }
 }
 
+/// The manifest with its messages, if what is read of it differs from what is read of the manifest in those
+/// texts alone.
+fn localized_text(alloc: Global, manifest: &[u8], bundles: &[Bundle]) -> Result<String, NoMemory> {
+    let made = localize(alloc, manifest, bundles)?;
+    if reads_alike(alloc, manifest, made.bytes.as_slice(), bundles)? {
+        text_of(alloc, made.bytes.as_slice())
+    } else {
+        String::from_str(alloc, "another value is read")
+    }
+}
+
 /// The manifest with the messages of its bundles, or the fault of a bundle.
 pub(crate) fn localized(alloc: Global, text: &str) -> Result<String, NoMemory> {
     match bundles_of(alloc, text)? {
-        Ok(bundles) => {
-            let made = localize(alloc, manifest_of(text).as_bytes(), bundles.as_slice())?;
-            text_of(alloc, made.bytes.as_slice())
-        }
+        Ok(bundles) => localized_text(alloc, manifest_of(text).as_bytes(), bundles.as_slice()),
         Err(fault) => Ok(fault),
     }
 }
