@@ -2,6 +2,7 @@
 #![tactic(auto)]
 
 mod alike;
+mod keyboards;
 mod manifests;
 
 use kb_base::NoMemory;
@@ -17,6 +18,9 @@ pub fn run_case(alloc: Global, kind: &str, input: &[u8]) -> Result<String, NoMem
     match word {
         "localize" => manifests::localized(alloc, text),
         "moves" => manifests::moved(alloc, rest, text),
+        "respell" => keyboards::respelled(alloc, rest, text),
+        "respell-file" => keyboards::respelled_file(alloc, rest, text),
+        "press" => keyboards::pressed(alloc, rest, text),
         _ => String::from_str(alloc, "no kind"),
     }
 }
