@@ -1,6 +1,6 @@
 -- Codes between brackets, and the words of a key text.
-use Rattle.std.proofs.Common.{◌≡◌, ◌∙◌, ◌+◌, ◌-◌, ◌<◌, ◌≤◌, ◌++◌, ℕ, Bool, true, false, List, [], ◌∷◌, ap, arith, cond, drop, get_or, length, refl, subst, sym, take}
-use Rattle.std.proofs.Common.{add-one, append_assoc, append-nil}
+use Rattle.std.proofs.Common.{◌≡◌, ◌∙◌, ◌+◌, ◌-◌, ◌<◌, ◌≤◌, ◌++◌, ℕ, Bool, true, false, List, [], ◌∷◌, ap, arith, drop, get_or, length, refl, subst, sym, take}
+use Rattle.std.proofs.Common.{add-one, append_assoc}
 use Rattle.std.specs.Prelude.{slice_index, slice_range, ◌==◌, ◌&&◌, nat_le}
 use Rattle.std.specs.Str.{IsCharBoundary, IsUtf8}
 use Rattle.std.proofs.Math.Seq.{drop-cons}
@@ -8,7 +8,7 @@ use Rattle.std.proofs.lemmas.Bool.Decides.{nat_tests}
 use Rattle.std.proofs.lemmas.List.{drop_all, get_or-drop, length-drop, take_all, take_more}
 use Rattle.std.proofs.lemmas.Str.{IsCharBoundary-after_ascii, IsCharBoundary-before_ascii}
 use Rattle.kb_keyboard.specs.declared.layout.LayoutKey.{LayoutKey}
-use Rattle.kb_keyboard.specs.Respelling.{has_code, is_separator, new_word, respelled, respelled_from, shifted_behind}
+use Rattle.kb_keyboard.specs.Respelling.{has_code, is_separator, new_word, respelled_from, shifted_behind}
 
 parts : (n a b : ℕ) → ((nat_le 3 n && (a == 91)) && (b == 93)) ≡ true → (3 ≤ n) × (a ≡ 91) × (b ≡ 93)
 parts n a b e = (grind (arith, nat_tests), grind (arith, nat_tests), grind (arith, nat_tests))

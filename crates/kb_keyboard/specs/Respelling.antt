@@ -1,6 +1,6 @@
 -- Key texts with scan codes, respelled for a layout.
 use Rattle.std.specs.Prelude.{ℕ, List, [], ◌∷◌, ◌++◌, ◌-◌, ◌==◌, ◌&&◌, ◌||◌, not, Bool, false, if◌then◌else◌}
-use Rattle.std.specs.Prelude.{Option, Some, None, option_map, bytes_eq, codes, length, nat_le, slice_index}
+use Rattle.std.specs.Prelude.{Option, Some, None, bytes_eq, codes, length, nat_le, slice_index}
 use Rattle.std.specs.Prelude.{slice_range, unwrap_or}
 use Rattle.json.specs.Print.{quoted}
 use Rattle.kb_exchange.specs.declared.exchanging.Exchange.{Exchange}
