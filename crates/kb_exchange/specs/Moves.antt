@@ -27,8 +27,8 @@ last_begun [] index = None
 last_begun (move ∷ moves) index =
     option_or (last_begun moves index) (if nat_le move.new.begin index then Some move else None)
 
--- the index in the old text of a byte that stands in or behind this part: all bytes of a new part are where the
--- old part began
+-- the index in the old text of a byte that stands in or behind this part: all bytes of a new part are where
+-- the old part began
 abbrev pub behind : Option Move → ℕ → ℕ
 behind None index = index
 behind (Some move) index =

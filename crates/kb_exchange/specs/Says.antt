@@ -30,4 +30,5 @@ is_text text (Some found) = bytes_eq found text
 
 -- a string says this text
 unfoldable pub says : List ℕ → List ℕ → Bool
-says text string = if has_escape string then is_text text (read_text string) else bytes_eq (inside string) text
+says text string =
+    if has_escape string then is_text text (read_text string) else bytes_eq (inside string) text

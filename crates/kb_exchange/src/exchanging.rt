@@ -62,9 +62,9 @@ fn bytes_and_moves(
     Ok((bytes, moves))
 }
 
-/// The text with these parts exchanged, which are in order: each begins at or behind the end of the one before.
-/// A part that isn't in the text counts as an empty one. All other bytes are kept, and where nothing is
-/// exchanged the text is the same.
+/// The text with these parts exchanged, which are in order: each begins at or behind the end of the one
+/// before. A part that isn't in the text counts as an empty one. All other bytes are kept, and where nothing
+/// is exchanged the text is the same.
 ///
 /// Error: `NoMemory`.
 #[tactic(auto, using(crate::proofs::ExchangeLemmas::none_exchanged))]

@@ -48,8 +48,8 @@ fn exchanges_of<R: Renewal>(
 /// A file of JSON with comments, in which those strings are exchanged that are values of members with these
 /// names and for which the renewal has something. All other bytes stay.
 ///
-/// A file that isn't UTF-8, or has a comment or a string without its end, stays as it is. The time is linear in
-/// the file, but for what the renewal does.
+/// A file that isn't UTF-8, or has a comment or a string without its end, stays as it is. The time is linear
+/// in the file, but for what the renewal does.
 ///
 /// Error: `NoMemory`.
 pub fn exchange_values<R: Renewal>(

@@ -35,8 +35,8 @@ fn read_text(alloc: Global, string: &[u8]) -> Result<Option<Text>, NoMemory>
     }
 }
 
-/// What a string of JSON says, or `None` where it is no string of JSON. A string without a backslash says what
-/// stands between its quotes; of any other it is what `serde_json` reads.
+/// What a string of JSON says, or `None` where it is no string of JSON. A string without a backslash says
+/// what stands between its quotes; of any other it is what `serde_json` reads.
 ///
 /// Error: `NoMemory`.
 #[tactic(auto, using(crate::proofs::SaysLemmas::texts))]

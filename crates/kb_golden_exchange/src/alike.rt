@@ -1,5 +1,5 @@
-//! Whether what is read of a manifest with its messages differs from what is read of the manifest in those texts
-//! alone: then the text of the first value is that of the second with the messages in it.
+//! Whether what is read of a manifest with its messages differs from what is read of the manifest in those
+//! texts alone: then the text of the first value is that of the second with the messages in it.
 use kb_base::{Failure, NoMemory};
 use kb_jsonc::{JsoncFault, read};
 use kb_localized::{Bundle, localize};

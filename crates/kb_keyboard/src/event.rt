@@ -40,8 +40,8 @@ pub enum Pressed {
     Named(Keystroke),
 }
 
-/// The modifiers of key rules that are held. On Windows AltGr is ctrl and alt for some toolkits; then neither is
-/// held.
+/// The modifiers of key rules that are held. On Windows AltGr is ctrl and alt for some toolkits; then neither
+/// is held.
 fn modifiers_of(held: Held, platform: Platform) -> Modifiers
     ensures { result ≡ words.modifiers_of held platform }
 {
@@ -56,10 +56,10 @@ fn modifiers_of(held: Held, platform: Platform) -> Modifiers
 
 /// The keystroke that an event is.
 ///
-/// The key's name is the one by which a rule with a scan code is respelled ([`crate::respell`]): of a key that the
-/// layout doesn't change what it means, of a digit its place, else the letter or, without Shift, the sign that it
-/// writes, and if rules have no name for that the place. A dead key has the name of its place. This is how
-/// VS Code names keys, as far as `code` and `key` tell it; modifiers are those of VS Code's
+/// The key's name is the one by which a rule with a scan code is respelled ([`crate::respell`]): of a key
+/// that the layout doesn't change what it means, of a digit its place, else the letter or, without Shift, the
+/// sign that it writes, and if rules have no name for that the place. A dead key has the name of its place.
+/// This is how VS Code names keys, as far as `code` and `key` tell it; modifiers are those of VS Code's
 /// `keyboard.mapAltGrToCtrlAlt: false`.
 #[tactic(auto, unfolding(crate::specs::Event::keystroke_of))]
 pub fn keystroke_of(event: KeyEvent<'_>, platform: Platform) -> Pressed

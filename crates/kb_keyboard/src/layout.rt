@@ -64,11 +64,11 @@ fn has_twice(keys: &[LayoutKey]) -> bool
 impl Layout {
     ghost use Rattle.kb_base.specs.Reading.{seen};
 
-    /// The layout with these keys, as Chromium's `navigator.keyboard.getLayoutMap()` lists them: each has a place
-    /// and what it writes without a modifier. It may have none.
+    /// The layout with these keys, as Chromium's `navigator.keyboard.getLayoutMap()` lists them: each has a
+    /// place and what it writes without a modifier. It may have none.
     ///
-    /// Errors, in this order: `TooLarge` (44) for more than 256 keys, `CodeTwice` (70) if two keys have the same
-    /// code, in any ASCII letter case.
+    /// Errors, in this order: `TooLarge` (44) for more than 256 keys, `CodeTwice` (70) if two keys have the
+    /// same code, in any ASCII letter case.
     pub fn new(keys: Vec<LayoutKey>) -> Result<Layout, LayoutFault>
         ensures { result ≡ words.layout_of keys.items }
     {
@@ -83,8 +83,8 @@ impl Layout {
         })
     }
 
-    /// The name of the key of key rules that a code stands for, where Shift is held or not. `None` if the layout
-    /// has no such code, or rules can't name the key.
+    /// The name of the key of key rules that a code stands for, where Shift is held or not. `None` if the
+    /// layout has no such code, or rules can't name the key.
     pub(crate) fn name_at(&self, code: &str, shifted: bool) -> Option<&'static str>
         ensures { option_map (λ name. name.now) result ≡ words.name_at self.now code.now shifted }
     {

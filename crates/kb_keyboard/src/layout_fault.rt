@@ -2,8 +2,8 @@
 use kb_base::FaultKind;
 use thiserror::Error;
 
-/// Why a layout of a keyboard isn't taken. The variants are listed in the order in which they are checked; the
-/// cases are our decision.
+/// Why a layout of a keyboard isn't taken. The variants are listed in the order in which they are checked;
+/// the cases are our decision.
 #[derive(Clone, Copy, Debug, PartialEq, Eq, Error)]
 pub enum LayoutFault {
     /// It has more than 256 keys.

@@ -1,5 +1,5 @@
-//! Keyboards: key texts with scan codes, respelled for the layout of a keyboard, and the keystroke that an event of
-//! a browser or a toolkit is.
+//! Keyboards: key texts with scan codes, respelled for the layout of a keyboard, and the keystroke that an
+//! event of a browser or a toolkit is.
 //!
 //! Both name a key by the same rules, so that a rule for the key at a place finds the press of that key.
 #![tactic(auto)]

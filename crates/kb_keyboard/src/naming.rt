@@ -117,12 +117,12 @@ fn name_of<'t>(code: &'t str, key: &'t str, shifted: bool) -> &'t str
     }
 }
 
-/// The key of key rules that the key at a place is, which means or writes this, while Shift is held or not. `None`
-/// if rules can't name it.
+/// The key of key rules that the key at a place is, which means or writes this, while Shift is held or not.
+/// `None` if rules can't name it.
 ///
-/// A key that the layout of the keyboard doesn't change has the name of what it means. Digits have the names of
-/// their places. Any other key has the name of the letter or, without Shift, of the sign that it writes; if rules
-/// have no name for that, as in Cyrillic, the name of its place on a US keyboard.
+/// A key that the layout of the keyboard doesn't change has the name of what it means. Digits have the names
+/// of their places. Any other key has the name of the letter or, without Shift, of the sign that it writes;
+/// if rules have no name for that, as in Cyrillic, the name of its place on a US keyboard.
 #[tactic(auto, unfolding(crate::specs::Naming::key_at))]
 pub(crate) fn key_at(code: &str, key: &str, shifted: bool) -> Option<KeyName>
     ensures { result ≡ words.key_at code.now key.now shifted }

@@ -87,9 +87,10 @@ fn push_both(made: &mut Text, first: &str, second: &str) -> Result<(), NoMemory>
 /// A key text in which each code and each name of a virtual key is the name of its key.
 ///
 /// A word `[CODE]` becomes the name of the key that the layout has at this place ([`Layout::new`]), as
-/// [`crate::keystroke_of`] names it; behind `shift` as it does with Shift. VS Code's names of virtual keys, such as
-/// `oem_1`, become the names that VS Code has for the same keys, whatever the layout. ASCII letter case doesn't
-/// matter. All else stays: a code that the layout hasn't, or a key without a name, stays as it is.
+/// [`crate::keystroke_of`] names it; behind `shift` as it does with Shift. VS Code's names of virtual keys,
+/// such as `oem_1`, become the names that VS Code has for the same keys, whatever the layout. ASCII letter
+/// case doesn't matter. All else stays: a code that the layout hasn't, or a key without a name, stays as it
+/// is.
 ///
 /// Error: `NoMemory`.
 pub fn respell(alloc: Global, text: &str, layout: &Layout) -> Result<Text, NoMemory>
@@ -138,10 +139,10 @@ impl Renewal for Respelling<'_> {
     }
 }
 
-/// A `keybindings.json` or a `package.json`, in which the key texts are respelled for a layout ([`respell`]): those
-/// that are values of members `key`, `mac`, `linux` and `win`. All other bytes stay, and so does all of a file that
-/// isn't UTF-8, or has a comment or a string without its end: loading it has the fault. The moves lead from a place
-/// in the new file back to one in this.
+/// A `keybindings.json` or a `package.json`, in which the key texts are respelled for a layout ([`respell`]):
+/// those that are values of members `key`, `mac`, `linux` and `win`. All other bytes stay, and so does all of
+/// a file that isn't UTF-8, or has a comment or a string without its end: loading it has the fault. The moves
+/// lead from a place in the new file back to one in this.
 ///
 /// Error: `NoMemory`.
 pub fn respell_file(alloc: Global, file: &[u8], layout: &Layout) -> Result<Exchanged, NoMemory>

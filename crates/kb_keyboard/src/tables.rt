@@ -2,7 +2,8 @@
 ghost use Rattle.std.specs.Prelude.{◌≡◌, option_map};
 ghost use Rattle.kb_keyboard.specs.Tables as words;
 
-/// Whether an event with this `key` is no press of a key: a modifier alone, a lock, or a step of an input method.
+/// Whether an event with this `key` is no press of a key: a modifier alone, a lock, or a step of an input
+/// method.
 pub(crate) fn is_silent(key: &str) -> bool
     ensures { result ≡ words.is_silent key.now }
 {

@@ -45,8 +45,8 @@ impl Bundle {
     /// message of a key if it is a text, or an object whose member `message` is one, and the text isn't empty
     /// (VS Code's documentation of extensions). Any other member is no message, and no fault.
     ///
-    /// Errors, in this order: `TooLarge` (44) for more than 16,777,216 bytes; `Text`, with the fault of the text
-    /// (1 to 4); `WrongShape` (41) if the value is no object. `NoMemory` (5) behind the first.
+    /// Errors, in this order: `TooLarge` (44) for more than 16,777,216 bytes; `Text`, with the fault of the
+    /// text (1 to 4); `WrongShape` (41) if the value is no object. `NoMemory` (5) behind the first.
     #[tactic(auto, unfolding(crate::specs::Bundle::bundle_of))]
     pub fn read(alloc: Global, bytes: &[u8]) -> Result<Bundle, Failure<BundleFault>>
         ensures { Gives (λ bundle. view bundle.value) result (words.bundle_of bytes.now) }

@@ -2,9 +2,9 @@
 //! category or a short title is replaced by its message of the bundles `package.nls.LANG.json` and
 //! `package.nls.json`.
 //!
-//! It follows VS Code's documentation of extensions and its `extensionNls.ts`: a key is looked up in the first
-//! bundle that has it. Its value is a text, or an object with a text `message`; where it is anything else, or an
-//! empty text, the key stays.
+//! It follows VS Code's documentation of extensions and its `extensionNls.ts`: a key is looked up in the
+//! first bundle that has it. Its value is a text, or an object with a text `message`; where it is anything
+//! else, or an empty text, the key stays.
 #![tactic(auto)]
 
 pub mod bundle;

@@ -11,9 +11,9 @@ use kb_base::NoMemory;
 use kb_exchange::{Exchanged, exchange_values};
 use std::alloc::Global;
 
-/// The manifest with the messages of the bundles in the places of their keys: each string that is the value of a
-/// member `title`, `category` or `shortTitle`, and is a `%key%` that the bundles have a message for. The bundles
-/// stand in order: the one of the user's language first, then the default one.
+/// The manifest with the messages of the bundles in the places of their keys: each string that is the value
+/// of a member `title`, `category` or `shortTitle`, and is a `%key%` that the bundles have a message for. The
+/// bundles stand in order: the one of the user's language first, then the default one.
 ///
 /// All other bytes stay, comments and white space too. A key without a message stays, and so does all of a
 /// manifest that isn't UTF-8, or has a comment or a string without its end: the load has its fault. The moves
