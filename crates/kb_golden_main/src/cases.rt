@@ -20,6 +20,8 @@ impl CaseRunner for EngineCases {
             }
             "registry" | "boxed" | "spent" => kb_golden_code::run_live_case(alloc, kind, input),
             "assemble" | "disassemble" => kb_golden_assembly::run_case(alloc, kind, input),
+            "localize" | "moves" | "respell" | "respell-file" | "press" =>
+                kb_golden_exchange::run_case(alloc, kind, input),
             "random" => kb_random_code::run_case(alloc, kind, input),
             "transcript" => run_transcript(alloc, input),
             _ => self.calls.run_case(alloc, kind, input),

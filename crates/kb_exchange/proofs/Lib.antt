@@ -1,0 +1,5 @@
+mod SaysLemmas
+mod ExchangeLemmas
+mod ValuesLemmas
+mod MovesLemmas
+mod RenewalLemmas

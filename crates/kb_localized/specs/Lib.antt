@@ -1,0 +1,4 @@
+pub mod BundleFault
+pub mod Bundle
+pub mod Messages
+pub mod Manifest
