@@ -32,7 +32,8 @@ pub record Taken : Type 0 where
 
 abbrev pub taken_by : Front → List ℕ → Taken
 taken_by Wait held = record { received = None; held = held }
-taken_by (Body from to) held = record { received = Some (Message (take (to - from) (drop from held))); held = drop to held }
+taken_by (Body from to) held =
+    record { received = Some (Message (take (to - from) (drop from held))); held = drop to held }
 taken_by (Lost fault to) held = record { received = Some (Fault fault); held = drop to held }
 
 abbrev pub taken : List ℕ → Taken

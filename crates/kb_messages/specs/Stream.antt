@@ -1,5 +1,6 @@
 -- All messages of a stream.
-use Rattle.std.specs.Prelude.{◌≤◌, ℕ, zero, suc, List, [], ◌∷◌, ◌++◌, All, flat_map, map, length, Option, Some, None}
+use Rattle.std.specs.Prelude.{◌≤◌, ℕ, zero, suc, List, [], ◌∷◌, ◌++◌, All, flat_map, map, length}
+use Rattle.std.specs.Prelude.{Option, Some, None}
 use Rattle.kb_messages.specs.declared.incoming.Received.{Received}
 use Rattle.kb_messages.specs.declared.incoming.Received.TheVariants.{Message}
 use Rattle.kb_messages.specs.Reading.{taken}

@@ -54,7 +54,8 @@ impl Incoming {
     /// Takes the next message, or the next bytes that are none, or `None` until more of the stream came.
     /// Error: `NoMemory`, if there is a message; it can be taken later.
     pub fn next(&mut self) -> Result<Option<Received>, NoMemory>
-        ensures ok { IfOk result (λ received. record { received = received; held = self.new } ≡ taken self.old) }
+        ensures ok { IfOk result
+            (λ received. record { received = received; held = self.new } ≡ taken self.old) }
         ensures err { OnErr result (self.new ≡ self.old) }
         ensures refused { IsErr result → IsMessage self.old }
     {

@@ -1,6 +1,7 @@
 //! Theorems about streams, independent of any run.
 ghost use Rattle.std.specs.Prelude.{◌≡◌, ◌++◌, ℕ, List, []};
-ghost use Rattle.kb_messages.specs.Stream.{bytes_of, frames, joined, messages, received_of, taken_all, AreShort};
+ghost use Rattle.kb_messages.specs.Stream.{bytes_of, frames, joined, messages, received_of, taken_all};
+ghost use Rattle.kb_messages.specs.Stream.{AreShort};
 
 /// What is received doesn't depend on the pieces: bytes that come later change nothing of what was received,
 /// and go on where it ended.
