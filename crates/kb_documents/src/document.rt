@@ -127,6 +127,14 @@ impl Document {
         Ok(Document { text, lines, alloc })
     }
 
+    /// Copies a document. Error: `NoMemory`.
+    pub fn copied(&self) -> Result<Document, NoMemory>
+        ensures { IfOk result (λ made. made ≡ self.now) }
+    {
+        let text = Vec::from_slice(self.alloc, self.text())?;
+        Document::of(self.alloc, text)
+    }
+
     /// The bytes of the text.
     pub fn text(&self) -> &[u8]
         ensures { result.now ≡ self.now }
