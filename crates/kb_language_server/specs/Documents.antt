@@ -1,5 +1,6 @@
 -- The open documents, and what is told of them.
-use Rattle.std.specs.Prelude.{ℕ, List, [], ◌∷◌, ◌++◌, Option, Some, None, position, slice_get, slice_set, remove}
+use Rattle.std.specs.Prelude.{ℕ, List, [], ◌∷◌, ◌++◌, Option, Some, None, position}
+use Rattle.std.specs.Prelude.{slice_get, slice_set, remove}
 use Rattle.std.specs.Str.{bytes_eq}
 use Rattle.kb_documents.specs.declared.encoding.Encoding.{Encoding}
 use Rattle.kb_documents.specs.declared.position.Range.{Range}

@@ -90,7 +90,12 @@ fn take_out(all: &mut Vec<Open>, uri: &str)
 }
 
 /// A copy of a document with a change.
-fn with_change(alloc: Global, encoding: Encoding, document: Document, edit: &Edit) -> Result<Document, NoMemory>
+fn with_change(
+    alloc: Global,
+    encoding: Encoding,
+    document: Document,
+    edit: &Edit,
+) -> Result<Document, NoMemory>
     ensures { IfOk result (λ made.
         made ≡ documents.with_change encoding edit.now.range edit.now.text document) }
 {
@@ -105,7 +110,12 @@ fn with_change(alloc: Global, encoding: Encoding, document: Document, edit: &Edi
 }
 
 /// A copy of a document with some changes, one behind the other.
-fn edited(alloc: Global, encoding: Encoding, document: &Document, edits: &[Edit]) -> Result<Document, NoMemory>
+fn edited(
+    alloc: Global,
+    encoding: Encoding,
+    document: &Document,
+    edits: &[Edit],
+) -> Result<Document, NoMemory>
     ensures { IfOk result (λ made. made ≡ documents.edited encoding edits.now document.now) }
 {
     let mut made = document.copied()?;
@@ -173,24 +183,30 @@ impl Server {
         self.documents.as_slice()
     }
 
-    /// Answers a request.
-    pub fn ask(&mut self, request: Request) -> Answer
-        ensures answer { result ≡ answered request self.old.phase }
-        ensures after { self.new ≡ asked request self.old }
+    /// What a request is answered.
+    pub fn answer_to(&self, request: Request) -> Answer
+        ensures { result ≡ answered request self.now.phase }
+    {
+        match (self.phase, request) {
+            (Phase::Fresh, Request::Initialize(encoding)) => Answer::Capabilities(encoding),
+            (Phase::Fresh, _) => Answer::Refused(Refusal::NotInitialized),
+            (Phase::Running, Request::Shutdown) => Answer::Done,
+            (Phase::Running, Request::Other) => Answer::Refused(Refusal::UnknownMethod),
+            _ => Answer::Refused(Refusal::InvalidRequest),
+        }
+    }
+
+    /// Does what a request asks for.
+    pub fn ask(&mut self, request: Request)
+        ensures { self.new ≡ asked request self.old }
     {
         match (self.phase, request) {
             (Phase::Fresh, Request::Initialize(encoding)) => {
                 self.phase = Phase::Running;
                 self.encoding = encoding;
-                Answer::Capabilities(encoding)
             }
-            (Phase::Fresh, _) => Answer::Refused(Refusal::NotInitialized),
-            (Phase::Running, Request::Shutdown) => {
-                self.phase = Phase::ShutDown;
-                Answer::Done
-            }
-            (Phase::Running, Request::Other) => Answer::Refused(Refusal::UnknownMethod),
-            _ => Answer::Refused(Refusal::InvalidRequest),
+            (Phase::Running, Request::Shutdown) => self.phase = Phase::ShutDown,
+            _ => {}
         }
     }
 
@@ -209,7 +225,13 @@ impl Server {
             }
             (Phase::Running, Notification::Change { uri, edits }) => {
                 let (alloc, encoding) = (self.alloc, self.encoding);
-                change_in(alloc, encoding, uri.as_str(), edits.as_slice(), &mut self.documents)?;
+                change_in(
+                    alloc,
+                    encoding,
+                    uri.as_str(),
+                    edits.as_slice(),
+                    &mut self.documents,
+                )?;
                 Ok(Heard::Changed)
             }
             (Phase::Running, Notification::Close { uri }) => {
