@@ -1,5 +1,5 @@
 -- What a server knows of its client, and what follows from a message.
-use Rattle.std.specs.Prelude.{ℕ, List, [], Bool, true, false}
+use Rattle.std.specs.Prelude.{List, [], true, false}
 use Rattle.kb_documents.specs.declared.encoding.Encoding.{Encoding}
 use Rattle.kb_documents.specs.declared.encoding.Encoding.TheVariants.{Utf16}
 use Rattle.kb_language_server.specs.declared.call.Notification.{Notification}
