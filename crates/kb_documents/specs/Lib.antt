@@ -1,0 +1,4 @@
+pub mod Columns
+pub mod Document
+pub mod Lines
+pub mod Places

@@ -1,0 +1,4 @@
+pub mod Conversation
+pub mod Documents
+pub mod Refusal
+pub mod State

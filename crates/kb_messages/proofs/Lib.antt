@@ -1,0 +1,4 @@
+mod FrameLemmas
+mod FrontLemmas
+mod HeaderLemmas
+mod StreamLemmas
