@@ -1,4 +1,4 @@
-//! Bundles of messages: `package.nls.json` and `package.nls.LANG.json`.
+//! Bundles of messages: `package.nls.json`, and the file of a language beside it.
 ghost use Rattle.std.specs.Prelude.{◌≡◌};
 ghost use Rattle.serde_json.specs.View.{view};
 ghost use Rattle.kb_base.specs.Failure.{Gives};
