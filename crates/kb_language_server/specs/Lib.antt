@@ -1,4 +1,0 @@
-pub mod Conversation
-pub mod Documents
-pub mod Refusal
-pub mod State
