@@ -114,6 +114,7 @@ CASES = [
     Case("labels", numbered(HEAD, b"l%08d:\n", END)),
     Case("labels of one name", filled(HEAD, b"a:\n", END), "3:1: DoubleLabel: ", lines_beyond(3)),
     Case("jumps to no label", numbered(HEAD, b"jump q%08d\n", END), "2:6: UnknownName: ", lines_beyond(2)),
+    Case("calls", numbered(HEAD, b"call c%08d\n", END), "65538:6: 44 TooLarge: ", lines_beyond(65_538)),
     Case("handlers of 9,999 instructions", longest_handlers, command="disassemble"),
     Case("1,000 handlers", most_handlers, command="disassemble"),
     Case("one text", with_member(b"texts", b'["', b"x", b'"]'), command="disassemble"),

@@ -12,7 +12,7 @@ use Rattle.kb_code.specs.declared.instr.Instr.TheVariants as i
 use Rattle.kb_code.specs.Instr.{operand_of}
 use Rattle.kb_assembly.specs.declared.fault.LineFault.{LineFault}
 use Rattle.kb_assembly.specs.declared.fault.Mistake.{Mistake}
-use Rattle.kb_assembly.specs.declared.fault.Mistake.TheVariants.{UnknownInstruction, BadNumber, MissingQuotes, UnknownName}
+use Rattle.kb_assembly.specs.declared.fault.Mistake.TheVariants.{UnknownInstruction, BadNumber, MissingQuotes}
 use Rattle.kb_assembly.specs.declared.mnemonic.Mnemonic.{Mnemonic}
 use Rattle.kb_assembly.specs.declared.mnemonic.Mnemonic.TheVariants as m
 use Rattle.kb_assembly.specs.declared.mnemonic.Space.{Space}
@@ -20,7 +20,7 @@ use Rattle.kb_assembly.specs.declared.mnemonic.Space.TheVariants as space
 use Rattle.kb_assembly.specs.declared.names.Names.{Names}
 use Rattle.kb_assembly.specs.declared.words.Word.{Word}
 use Rattle.kb_assembly.specs.Mnemonic.{name_of, named, mnemonics, mnemonic_of, instr_with, space_of}
-use Rattle.kb_assembly.specs.Names.{number_in, after_hash, is_bare, needs_quotes, found, short, name_in, is_number, chosen}
+use Rattle.kb_assembly.specs.Names.{number_in, after_hash, is_bare, needs_quotes, found, lack, short, name_in, is_number, chosen}
 use Rattle.kb_assembly.specs.Words.{placed, is_plain}
 use Rattle.kb_assembly.specs.Line.{bare, hash_in, number_word, named_word, by_hash, fault_at, one_operand, no_operand}
 use Rattle.kb_assembly.specs.Line.{operand_in, first_word, instr_of, written_name, written_word, written_operand, written}
@@ -136,18 +136,18 @@ sound_named : (names : Names) (kind : Space) (word : Word) (n : ℕ) → hash_in
     named_word names kind word ≡ Ok n → IsNamed names kind word n
 sound_named names kind word n hashless e = by (needs_quotes kind) refl word.is_quoted refl e where
   by : (a : Bool) → needs_quotes kind ≡ a → (b : Bool) → word.is_quoted ≡ b →
-      (if a && not b then Err MissingQuotes else or_fault UnknownName (short (found names kind word.text))) ≡ Ok n →
+      (if a && not b then Err MissingQuotes else or_fault (lack (found names kind word.text)) (short (found names kind word.text))) ≡ Ok n →
       IsNamed names kind word n
   by true wants true has e = record {
     no_hash = hashless;
     quotes = λ w. has;
-    found = good_number _ UnknownName n e;
+    found = good_number _ (lack (found names kind word.text)) n e;
   }
   by true wants false has e = absurd (cc)
   by false wants b has e = record {
     no_hash = hashless;
     quotes = λ w. absurd (false≢true (sym wants ∙ w));
-    found = good_number _ UnknownName n e;
+    found = good_number _ (lack (found names kind word.text)) n e;
   }
 
 sound_hash : (names : Names) (kind : Space) (word : Word) (n : ℕ) →
@@ -172,10 +172,10 @@ exact_hash names kind word n (inl p) =
 exact_hash names kind word n (inr is) =
     ap (by_hash names kind word) is.no_hash ∙ by (needs_quotes kind) refl word.is_quoted refl where
       by : (a : Bool) → needs_quotes kind ≡ a → (b : Bool) → word.is_quoted ≡ b →
-          (if a && not b then Err MissingQuotes else or_fault UnknownName (short (found names kind word.text))) ≡ Ok n
-      by true wants true has = ap (or_fault UnknownName) is.found
+          (if a && not b then Err MissingQuotes else or_fault (lack (found names kind word.text)) (short (found names kind word.text))) ≡ Ok n
+      by true wants true has = ap (or_fault (lack (found names kind word.text))) is.found
       by true wants false has = absurd (false≢true (sym has ∙ is.quotes wants))
-      by false wants b has = ap (or_fault UnknownName) is.found
+      by false wants b has = ap (or_fault (lack (found names kind word.text))) is.found
 
 -- what is read is in the grammar
 sound_spelled : (names : Names) (kind : Space) (words : List Word) (n : ℕ) →

@@ -8,14 +8,13 @@ use Rattle.kb_assembly.specs.declared.fault.LineFault.{LineFault}
 use Rattle.kb_assembly.specs.declared.fault.Mistake.{Mistake}
 use Rattle.kb_assembly.specs.declared.fault.Mistake.TheVariants.{UnknownInstruction, MissingOperand}
 use Rattle.kb_assembly.specs.declared.fault.Mistake.TheVariants.{ExtraWord, BadNumber, MissingQuotes}
-use Rattle.kb_assembly.specs.declared.fault.Mistake.TheVariants.{UnknownName}
 use Rattle.kb_assembly.specs.declared.mnemonic.Mnemonic.{Mnemonic}
 use Rattle.kb_assembly.specs.declared.mnemonic.Space.{Space}
 use Rattle.kb_assembly.specs.declared.mnemonic.Space.TheVariants as space
 use Rattle.kb_assembly.specs.declared.names.Names.{Names}
 use Rattle.kb_assembly.specs.declared.words.Word.{Word}
 use Rattle.kb_assembly.specs.Mnemonic.{name_of, named, mnemonic_of, instr_with, space_of}
-use Rattle.kb_assembly.specs.Names.{number_in, after_hash, is_bare, needs_quotes, found, short, chosen}
+use Rattle.kb_assembly.specs.Names.{number_in, after_hash, is_bare, needs_quotes, found, lack, short, chosen}
 use Rattle.kb_assembly.specs.Words.{placed}
 
 -- ---- reading
@@ -33,7 +32,7 @@ number_word word = if word.is_quoted then Err BadNumber else or_fault BadNumber 
 abbrev pub named_word : Names → Space → Word → Result ℕ Mistake
 named_word names kind word =
     if needs_quotes kind && not word.is_quoted then Err MissingQuotes
-    else or_fault UnknownName (short (found names kind word.text))
+    else or_fault (lack (found names kind word.text)) (short (found names kind word.text))
 
 abbrev pub by_hash : Names → Space → Word → Option (List ℕ) → Result ℕ Mistake
 by_hash names kind word (Some digits) = or_fault BadNumber (number_in digits)

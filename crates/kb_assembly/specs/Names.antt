@@ -4,6 +4,8 @@ use Rattle.std.specs.Prelude.{List, [], ◌∷◌, length, Option, Some, None, o
 use Rattle.std.specs.Prelude.{bytes_eq}
 use Rattle.std.specs.Prelude.{slice_get, decimal, is_some}
 use Rattle.std.specs.List.{list_all}
+use Rattle.kb_assembly.specs.declared.fault.Mistake.{Mistake}
+use Rattle.kb_assembly.specs.declared.fault.Mistake.TheVariants.{TooMany, UnknownName}
 use Rattle.kb_assembly.specs.declared.mnemonic.Space.{Space}
 use Rattle.kb_assembly.specs.declared.mnemonic.Space.TheVariants as space
 use Rattle.kb_assembly.specs.declared.table.Label.{Label}
@@ -63,6 +65,11 @@ found names space.Calls name = place_in 0 names.calls name
 found names space.Params name = place_in 0 names.params name
 found names space.Labels name = option_map (λ label. label.place) (label_named names.labels name)
 found names _ name = None
+
+-- why a name stands for no operand: nothing has it, or its number is too large
+abbrev pub lack : Option ℕ → Mistake
+lack None = UnknownName
+lack (Some n) = TooMany
 
 -- a name at a number
 abbrev pub name_in : Names → Space → ℕ → Option (List ℕ)

@@ -38,6 +38,9 @@ pub enum Mistake {
     /// A name that nothing has.
     #[error("nothing has this name")]
     UnknownName,
+    /// A name of a text, a call, a parameter or a label whose number is over 65,535.
+    #[error("an operand is at most 65535, and the number of this name is larger")]
+    TooMany,
     /// A label that an earlier line has already.
     #[error("an earlier line has this label")]
     DoubleLabel,

@@ -46,9 +46,11 @@ fn named_word(names: &Names, space: Space, word: &Word) -> Result<u16, Mistake>
     if needs_quotes(space) && !word.is_quoted {
         return Err(Mistake::MissingQuotes);
     }
-    names
-        .found(space, word.text.as_str())
-        .ok_or(Mistake::UnknownName)
+    let name = word.text.as_str();
+    match names.found(space, name) {
+        Some(number) => Ok(number),
+        None => Err(names.lack(space, name)),
+    }
 }
 
 /// The number of the operand that a word stands for.

@@ -3,8 +3,9 @@ ghost use Rattle.std.specs.Prelude.{◌≡◌, IfOk, option_map, is_some};
 ghost use Rattle.std.specs.List.{list_all};
 ghost use Rattle.kb_assembly.specs.Words.{is_plain};
 ghost use Rattle.kb_assembly.specs.Names.{label_named, label_name, after_hash, is_bare, number_in, wide_in};
-ghost use Rattle.kb_assembly.specs.Names.{found, short, name_in, chosen, needs_quotes};
+ghost use Rattle.kb_assembly.specs.Names.{found, lack, short, name_in, chosen, needs_quotes};
 
+use crate::fault::Mistake;
 use crate::mnemonic::Space;
 use crate::table::{Labels, Table};
 use crate::words::is_plain;
@@ -135,17 +136,34 @@ fn made_label(alloc: Global, labels: &Labels, place: u16) -> Result<Option<&str>
 }
 
 impl Names {
-    /// The number of the operand that a name stands for.
-    pub(crate) fn found(&self, space: Space, name: &str) -> Option<u16>
-        ensures { result ≡ short (found self.now space name.now) }
+    /// The number of a name.
+    fn place(&self, space: Space, name: &str) -> Option<usize>
+        ensures { result ≡ found self.now space name.now }
     {
-        short(match space {
+        match space {
             Space::Texts | Space::Keys => self.texts.place(name),
             Space::Calls => self.calls.place(name),
             Space::Params => self.params.place(name),
             Space::Labels => label_place(&self.labels, name),
             _ => None,
-        })
+        }
+    }
+
+    /// The number of the operand that a name stands for.
+    pub(crate) fn found(&self, space: Space, name: &str) -> Option<u16>
+        ensures { result ≡ short (found self.now space name.now) }
+    {
+        short(self.place(space, name))
+    }
+
+    /// Why a name stands for no operand.
+    pub(crate) fn lack(&self, space: Space, name: &str) -> Mistake
+        ensures { result ≡ lack (found self.now space name.now) }
+    {
+        match self.place(space, name) {
+            Some(_) => Mistake::TooMany,
+            None => Mistake::UnknownName,
+        }
     }
 
     /// A name at an operand's number. Error: `NoMemory`.

@@ -1,6 +1,6 @@
 //! Faults as lines for people: a sentence with the place, and below it the line of the file with carets.
 use crate::found::{Faults, Found, SHOWN, Spot};
-use crate::line_words::word_span;
+use crate::line_words::{word_around, word_span};
 use kb_base::NoMemory;
 
 /// The most bytes of a line that are shown.
@@ -36,6 +36,7 @@ fn span_of(line: &[u8], spot: Spot) -> (usize, usize) {
     match spot {
         Spot::Byte(at) => (at, at),
         Spot::Word(word) => word_span(line, word),
+        Spot::Around(byte) => word_around(line, byte),
     }
 }
 

@@ -10,6 +10,8 @@ pub(crate) enum Spot {
     Byte(usize),
     /// At a word.
     Word(usize),
+    /// At the word that a byte is in.
+    Around(usize),
 }
 
 /// The most faults that are shown.
@@ -37,6 +39,7 @@ fn name_of(mistake: Mistake) -> &'static str {
         Mistake::BadNumber => "BadNumber",
         Mistake::MissingQuotes => "MissingQuotes",
         Mistake::UnknownName => "UnknownName",
+        Mistake::TooMany => "44 TooLarge",
         Mistake::DoubleLabel => "DoubleLabel",
         Mistake::NoHandler => "NoHandler",
         Mistake::OutOfPlace => "OutOfPlace",
@@ -45,19 +48,23 @@ fn name_of(mistake: Mistake) -> &'static str {
     }
 }
 
+/// Where a mistake is. A whole word is open or no text, though that is only seen at its end.
+fn spot_of(fault: LineFault) -> Spot {
+    match fault.mistake {
+        Mistake::OpenQuotes | Mistake::NotUtf8 => Spot::Around(fault.at),
+        mistake if mistake.is_of_bytes() => Spot::Byte(fault.at),
+        _ => Spot::Word(fault.at),
+    }
+}
+
 impl Found {
     /// A mistake of a line. Error: `NoMemory`.
     pub(crate) fn mistake(alloc: Global, line: usize, fault: LineFault) -> Result<Found, NoMemory> {
         let mistake = fault.mistake;
         let name = name_of(mistake);
-        let spot = if mistake.is_of_bytes() {
-            Spot::Byte(fault.at)
-        } else {
-            Spot::Word(fault.at)
-        };
         Ok(Found {
             line,
-            spot,
+            spot: spot_of(fault),
             sentence: Text::from_string(format!(in alloc; "{name}: {mistake}")?),
         })
     }

@@ -1,3 +1,5 @@
 pub mod Checking
+pub mod Format
 pub mod Marks
+pub mod Page
 pub mod Whose

@@ -21,8 +21,7 @@ fn shown_text(alloc: Global, counts: &Counts) -> Result<String, NoMemory> {
     list_number(counts.errors, "error", &mut list)?;
     list_number(counts.warnings, "warning", &mut list)?;
     list_number(counts.notes, "note", &mut list)?;
-    let warnings_and_notes = counts.warnings.saturating_add(counts.notes);
-    match counts.errors.saturating_add(warnings_and_notes) {
+    match counts.shown() {
         0 => String::from_str(alloc, "no problem"),
         1 => format!(in alloc; "1 problem: {list}"),
         number => format!(in alloc; "{number} problems: {list}"),
@@ -55,11 +54,6 @@ fn write_unknown(unknown: &[&str], text: &mut String) -> Result<(), NoMemory> {
     Ok(())
 }
 
-/// Whether a problem is shown.
-fn is_any_shown(counts: &Counts) -> bool {
-    counts.errors > 0 || counts.warnings > 0 || counts.notes > 0
-}
-
 /// Writes the last line behind a text, if there is a problem, or a name that no file and no extension has.
 pub(crate) fn write_last_line(
     alloc: Global,
@@ -69,7 +63,7 @@ pub(crate) fn write_last_line(
 ) -> Result<(), NoMemory> {
     let shown = shown_text(alloc, counts)?;
     let hidden = hidden_text(alloc, counts)?;
-    if hidden.is_empty() && unknown.is_empty() && !is_any_shown(counts) {
+    if hidden.is_empty() && unknown.is_empty() && counts.shown() == 0 {
         return Ok(());
     }
     text.push_str(shown.as_str())?;

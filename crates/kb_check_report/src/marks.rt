@@ -128,6 +128,23 @@ pub(crate) struct Counts {
     pub(crate) elsewhere: usize,
 }
 
+impl Counts {
+    /// How many problems are shown.
+    pub(crate) fn shown(&self) -> usize {
+        let others = self.warnings.saturating_add(self.notes);
+        self.errors.saturating_add(others)
+    }
+
+    /// The same with so many that are shown. Those that are left out, since others say them, are warnings.
+    pub(crate) fn of_so_many(self, shown: usize) -> Counts {
+        let left_out = self.shown().saturating_sub(shown);
+        Counts {
+            warnings: self.warnings.saturating_sub(left_out),
+            ..self
+        }
+    }
+}
+
 /// How many problems have a mark.
 fn count(mark: Mark, marks: &[Mark]) -> usize
     ensures { result ≡ count mark marks.now }

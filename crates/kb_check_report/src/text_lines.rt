@@ -93,7 +93,7 @@ fn first_shown(bytes: &[u8], begin: usize, at: usize) -> usize {
 }
 
 /// The text of a part of a file, up to the first byte that belongs to no text.
-fn text_of(bytes: &[u8]) -> &str {
+pub(crate) fn text_of(bytes: &[u8]) -> &str {
     match str::from_utf8(bytes) {
         Ok(text) => text,
         Err(error) => match bytes.get(..error.valid_up_to()) {

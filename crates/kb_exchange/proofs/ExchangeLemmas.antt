@@ -4,7 +4,8 @@ use Rattle.std.proofs.lemmas.Bool.{le-leb}
 use Rattle.std.proofs.lemmas.List.{take_all}
 use Rattle.kb_exchange.specs.declared.exchanging.Exchange.{Exchange}
 use Rattle.kb_exchange.specs.Exchange.{exchanged}
-use Rattle.kb_exchange.specs.Span.{part_of, span}
+use Rattle.kb_exchange.specs.Span.{span}
+use Rattle.kb_places.specs.Place.{part_of}
 
 pub whole_part : (text : List ℕ) → part_of text (span 0 (length text)) ≡ text
 unfolding part_of

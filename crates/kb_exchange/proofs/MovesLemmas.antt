@@ -11,11 +11,12 @@ use Rattle.std.proofs.lemmas.Bool.{le-leb, le-ltb, lt-leb, ltb-false}
 use borrow.Author.Tests.{ltb-true}
 use Rattle.kb_exchange.specs.declared.exchanging.Exchange.{Exchange}
 use Rattle.kb_exchange.specs.declared.moves.Move.{Move}
-use Rattle.kb_exchange.specs.declared.span.Span.{Span}
+use Rattle.kb_places.specs.declared.span.Span.{Span}
 use Rattle.kb_exchange.specs.Exchange.{exchanged, exchanged_from}
 use Rattle.kb_exchange.specs.Moves.{AreSorted, IsBehind, KeepsOthers, behind, last_begun, moved, moves_from}
 use Rattle.kb_exchange.specs.Moves.{moves_of}
-use Rattle.kb_exchange.specs.Span.{AreInOrder, part_of, span}
+use Rattle.kb_exchange.specs.Span.{AreInOrder, span}
+use Rattle.kb_places.specs.Place.{part_of}
 
 told : (t : Bool) → (t ≡ true) ⊎ (t ≡ false)
 told true = inl refl

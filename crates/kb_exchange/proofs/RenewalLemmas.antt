@@ -1,9 +1,10 @@
 -- Of parts in order, those that are exchanged are in order.
 use Rattle.std.proofs.Common.{◌≡◌, ◌≤◌, ℕ, List, [], ◌∷◌, Option, Some, None, arith, length, map, subst, sym}
 use Rattle.kb_exchange.specs.declared.exchanging.Exchange.{Exchange}
-use Rattle.kb_exchange.specs.declared.span.Span.{Span}
+use Rattle.kb_places.specs.declared.span.Span.{Span}
 use Rattle.kb_exchange.specs.Renewal.{exchange_if, exchanges_of}
-use Rattle.kb_exchange.specs.Span.{AreInOrder, part_of}
+use Rattle.kb_exchange.specs.Span.{AreInOrder}
+use Rattle.kb_places.specs.Place.{part_of}
 
 -- parts that begin later begin from an earlier index on too
 earlier : (before from to : ℕ) (es : List Exchange) → before ≤ from → AreInOrder from to (map (λ e. e.old) es)

@@ -13,7 +13,7 @@ use Rattle.kb_jsonc.specs.Pieces.{string_len}
 use Rattle.kb_jsonc.specs.Text.{plain_text}
 use Rattle.kb_exchange.specs.declared.members.Before.{Before}
 use Rattle.kb_exchange.specs.declared.members.Before.TheVariants as before
-use Rattle.kb_exchange.specs.declared.span.Span.{Span}
+use Rattle.kb_places.specs.declared.span.Span.{Span}
 use Rattle.kb_exchange.specs.Span.{AreInOrder, span}
 use Rattle.kb_exchange.specs.Tokens.{Token, string, sign, tokens_past, tokens_from}
 use Rattle.kb_exchange.specs.Values.{behind_byte, is_named, is_value, member_value, next_before, value_behind, values_among}

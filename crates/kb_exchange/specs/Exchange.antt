@@ -1,7 +1,8 @@
 -- A text with some of its parts exchanged.
 use Rattle.std.specs.Prelude.{ℕ, List, [], ◌∷◌, ◌++◌, length}
 use Rattle.kb_exchange.specs.declared.exchanging.Exchange.{Exchange}
-use Rattle.kb_exchange.specs.Span.{span, part_of}
+use Rattle.kb_exchange.specs.Span.{span}
+use Rattle.kb_places.specs.Place.{part_of}
 
 -- the text from an index on: what stands between the parts is kept
 abbrev pub exchanged_from : List ℕ → ℕ → List Exchange → List ℕ

@@ -5,7 +5,8 @@ use Rattle.std.specs.Option.{option_or}
 use Rattle.std.specs.List.Sorted.{IsNonDecreasingBy}
 use Rattle.kb_exchange.specs.declared.exchanging.Exchange.{Exchange}
 use Rattle.kb_exchange.specs.declared.moves.Move.{Move}
-use Rattle.kb_exchange.specs.Span.{span, part_of}
+use Rattle.kb_exchange.specs.Span.{span}
+use Rattle.kb_places.specs.Place.{part_of}
 
 -- the part that stands for an exchange, where the new text goes on with it at an index
 abbrev pub moved : Exchange → ℕ → Move

@@ -1,8 +1,8 @@
 -- The strings of a file that are exchanged.
 use Rattle.std.specs.Prelude.{ℕ, List, [], ◌∷◌, Option, Some, None}
 use Rattle.kb_exchange.specs.declared.exchanging.Exchange.{Exchange}
-use Rattle.kb_exchange.specs.declared.span.Span.{Span}
-use Rattle.kb_exchange.specs.Span.{part_of}
+use Rattle.kb_places.specs.declared.span.Span.{Span}
+use Rattle.kb_places.specs.Place.{part_of}
 use Rattle.kb_exchange.specs.Values.{values_of}
 
 -- an exchange of a part before the others, if there is something for it

@@ -3,7 +3,7 @@ use Rattle.std.specs.Prelude.{ℕ, zero, suc, ◌+◌, ◌==◌, if◌then◌els
 use Rattle.std.specs.Prelude.{option_map, unwrap_or}
 use Rattle.kb_base.specs.Blank.{is_blank}
 use Rattle.kb_jsonc.specs.Pieces.{string_len}
-use Rattle.kb_exchange.specs.declared.span.Span.{Span}
+use Rattle.kb_places.specs.declared.span.Span.{Span}
 use Rattle.kb_exchange.specs.Span.{span}
 
 -- a string with its quotes, by its place, or another byte

@@ -5,10 +5,10 @@ use Rattle.std.specs.Str.{is_utf8}
 use Rattle.kb_base.specs.Blank.{is_blank}
 use Rattle.kb_jsonc.specs.declared.fault.JsoncFault.{JsoncFault}
 use Rattle.kb_jsonc.specs.Text.{plain_text}
-use Rattle.kb_exchange.specs.declared.span.Span.{Span}
+use Rattle.kb_places.specs.declared.span.Span.{Span}
 use Rattle.kb_exchange.specs.declared.members.Before.{Before}
 use Rattle.kb_exchange.specs.declared.members.Before.TheVariants as before
-use Rattle.kb_exchange.specs.Span.{part_of}
+use Rattle.kb_places.specs.Place.{part_of}
 use Rattle.kb_exchange.specs.Says.{says}
 use Rattle.kb_exchange.specs.Tokens.{Token, string, sign, tokens}
 

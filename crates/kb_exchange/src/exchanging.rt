@@ -5,8 +5,8 @@ ghost use Rattle.kb_exchange.specs.Moves.{moves_of, KeepsOthers};
 ghost use Rattle.kb_exchange.specs.Span.{AreInOrder};
 
 use crate::moves::{Move, Moves};
-use crate::span::{Span, part_of};
 use kb_base::{NoMemory, Seq, Text};
+use kb_places::{Span, part_of};
 use std::alloc::Global;
 
 /// A part of a text, and what is to stand in its place.

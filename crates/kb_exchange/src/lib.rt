@@ -9,12 +9,10 @@ pub mod exchanging;
 pub mod members;
 pub mod moves;
 pub mod renewal;
-pub mod span;
 pub mod strings;
 
 pub use exchanging::{Exchange, Exchanged, exchange_all};
 pub use members::values;
 pub use moves::{Move, Moves};
 pub use renewal::{Renewal, exchange_values};
-pub use span::{Span, part_of};
 pub use strings::{says, string_of, text_of};

@@ -4,10 +4,10 @@ ghost use Rattle.kb_base.specs.Blank.{is_blank};
 ghost use Rattle.kb_exchange.specs.Span.{AreInOrder};
 ghost use Rattle.kb_exchange.specs.Values as words;
 
-use crate::span::{Span, part_of};
 use crate::strings::says;
 use kb_base::{Failure, NoMemory, is_blank};
 use kb_jsonc::{plain, string_len};
+use kb_places::{Span, part_of};
 use std::alloc::{AllocError, Global};
 
 /// What the last tokens before an index are, as far as they tell whether a string there is the value of a

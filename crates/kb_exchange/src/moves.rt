@@ -2,8 +2,8 @@
 ghost use Rattle.std.specs.Prelude.{◌≡◌, ◌-◌, ◌^◌, min};
 ghost use Rattle.kb_exchange.specs.Moves as words;
 
-use crate::span::Span;
 use kb_base::Seq;
+use kb_places::Span;
 use std::marker::Model;
 
 /// A part that was exchanged: where it was, and where what stands in its place is.

@@ -7,8 +7,8 @@ ghost use Rattle.kb_exchange.specs.Span.{AreInOrder};
 
 use crate::exchanging::{Exchange, Exchanged, exchange_all};
 use crate::members::values;
-use crate::span::{Span, part_of};
 use kb_base::{NoMemory, Text};
+use kb_places::{Span, part_of};
 use std::alloc::Global;
 
 /// What tells which strings are exchanged, and for what.

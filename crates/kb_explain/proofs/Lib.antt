@@ -1,5 +1,6 @@
 pub mod SeenLemmas
 pub mod CauseLemmas
+pub mod DisabledLemmas
 pub mod OverlapLemmas
 pub mod PaletteLemmas
 pub mod PressLemmas

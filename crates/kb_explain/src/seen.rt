@@ -1,7 +1,7 @@
 //! What the focus sees, key by key.
-ghost use Rattle.std.specs.Prelude.{◌≡◌, All, IfOk, IfSome, OnOk, length, option_map};
+ghost use Rattle.std.specs.Prelude.{◌≡◌, All, IfOk, IfSome, OnOk, find, length, option_map};
 ghost use Rattle.kb_context.specs.Scopes.{seat_from};
-ghost use Rattle.kb_explain.specs.Seen.{holder, IsSeen};
+ghost use Rattle.kb_explain.specs.Seen.{has_key, holder, IsSeen};
 
 use kb_base::NoMemory;
 use kb_context::{ContextValue, Scope, Scopes};
@@ -53,6 +53,20 @@ pub fn scope_of<'s>(scopes: &'s Scopes, key: &str) -> Option<&'s str>
         },
         None => None,
     }
+}
+
+/// The first scope of the layout that has a key, whether the focus sees it or not.
+pub fn scope_with<'s>(scopes: &'s Scopes, key: &str) -> Option<&'s Scope>
+    ensures { option_map (λ scope. scope.now) result
+        ≡ find (λ scope. has_key scope key.now) scopes.entry.now.seen.scopes }
+{
+    let all = scopes.scopes();
+    for scope in all {
+        if scope.keys.contains_key(key) {
+            return Some(scope);
+        }
+    }
+    None
 }
 
 /// What the focus sees of a key, if it sees it.

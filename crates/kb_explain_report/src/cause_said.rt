@@ -2,8 +2,8 @@
 use crate::clauses::write_literal;
 use crate::value_said::{value_json, value_text};
 use kb_base::NoMemory;
-use kb_context::Scopes;
-use kb_explain::{Cause, Literal, scope_of};
+use kb_context::{ContextValue, Scopes};
+use kb_explain::{Cause, Literal, scope_of, scope_with};
 use kb_when::Leaf;
 use serde_json::{Value, json};
 use std::alloc::Global;
@@ -17,10 +17,50 @@ fn keys_of(atom: &Leaf) -> (&str, Option<&str>) {
     }
 }
 
+/// The name of the scope that has the focus.
+fn focus_of(scopes: &Scopes) -> &str {
+    match scopes.scopes().get(scopes.focused()) {
+        Some(scope) => scope.name.as_str(),
+        None => "",
+    }
+}
+
+/// A scope that has a key which the focus doesn't see, with its value there, if there is one.
+fn elsewhere<'s>(scopes: &'s Scopes, key: &str) -> Option<(&'s str, &'s ContextValue)> {
+    let scope = scope_with(scopes, key)?;
+    let value = scope.keys.get(key)?;
+    Some((scope.name.as_str(), value))
+}
+
+/// That the focus doesn't see a key, with a scope that has it.
+fn unseen_text(alloc: Global, key: &str, scopes: &Scopes) -> Result<String, NoMemory> {
+    match elsewhere(scopes, key) {
+        Some((scope, value)) => {
+            let value = value_text(alloc, value)?;
+            let focus = focus_of(scopes);
+            format!(in alloc;
+                "{key} is {value} in scope {scope}, which the focus {focus} doesn't see"
+            )
+        }
+        None => format!(in alloc; "{key} has no value"),
+    }
+}
+
+/// The same as JSON.
+fn unseen_json(alloc: Global, key: &str, scopes: &Scopes) -> Result<Value, NoMemory> {
+    match elsewhere(scopes, key) {
+        Some((scope, value)) => {
+            let value = value_json(alloc, value)?;
+            json!(in alloc; {"key": key, "unseen": {"value": value, "scope": scope}})
+        }
+        None => json!(in alloc; {"key": key}),
+    }
+}
+
 /// What the focus sees of a key.
 fn key_text(alloc: Global, key: &str, scopes: &Scopes) -> Result<String, NoMemory> {
     let Some(value) = scopes.get(key) else {
-        return format!(in alloc; "{key} has no value");
+        return unseen_text(alloc, key, scopes);
     };
     let value = value_text(alloc, value)?;
     match scope_of(scopes, key) {
@@ -32,7 +72,7 @@ fn key_text(alloc: Global, key: &str, scopes: &Scopes) -> Result<String, NoMemor
 /// What the focus sees of a key, as JSON.
 fn key_json(alloc: Global, key: &str, scopes: &Scopes) -> Result<Value, NoMemory> {
     let Some(value) = scopes.get(key) else {
-        return json!(in alloc; {"key": key});
+        return unseen_json(alloc, key, scopes);
     };
     let value = value_json(alloc, value)?;
     match scope_of(scopes, key) {
@@ -48,9 +88,22 @@ fn literal_text(alloc: Global, literal: &Literal<'_>) -> Result<String, NoMemory
     Ok(text)
 }
 
+/// Whether an atom compares with a pattern that isn't supported.
+fn is_unread(atom: &Leaf) -> bool {
+    match atom {
+        Leaf::Matches(_, pattern) => pattern.is_unread(),
+        _ => false,
+    }
+}
+
 /// Why a literal doesn't hold, in words.
 fn literal_said(alloc: Global, literal: &Literal<'_>, scopes: &Scopes) -> Result<String, NoMemory> {
     let said = literal_text(alloc, literal)?;
+    if is_unread(literal.atom) {
+        return format!(in alloc;
+            "{said} never holds: its pattern isn't supported (keycheck check says why)"
+        );
+    }
     let (key, list) = keys_of(literal.atom);
     let first = key_text(alloc, key, scopes)?;
     match list {
@@ -80,6 +133,9 @@ fn literal_json(alloc: Global, literal: &Literal<'_>, scopes: &Scopes) -> Result
     let said = said.as_str();
     let (key, list) = keys_of(literal.atom);
     let first = key_json(alloc, key, scopes)?;
+    if is_unread(literal.atom) {
+        return json!(in alloc; {"literal": said, "reads": [first], "unread": true});
+    }
     match list {
         Some(list) => {
             let second = key_json(alloc, list, scopes)?;

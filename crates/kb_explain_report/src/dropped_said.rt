@@ -36,14 +36,64 @@ fn keys_of<'v>(element: &'v Value, origin: Origin, platform: Platform) -> Option
     element.get("key")?.as_str()
 }
 
-/// Whether a text of keystrokes may be meant for these: it begins with them, or it can't be read.
-fn may_be_meant(alloc: Global, keys: Option<&str>, strokes: &[Keystroke]) -> bool {
+/// A keystroke's text with another key behind its modifiers.
+fn with_key(alloc: Global, text: &str, key: &str) -> Result<String, NoMemory> {
+    let mut made = String::new(alloc);
+    let mut last = None;
+    for part in text.split('+') {
+        if let Some(before) = last {
+            made.push_str(before)?;
+            made.push('+')?;
+        }
+        last = Some(part);
+    }
+    made.push_str(key)?;
+    Ok(made)
+}
+
+/// Whether a keystroke's text may be meant for a keystroke: it is read as that one; or it can't be read, and
+/// has its modifiers.
+fn may_be_stroke(alloc: Global, text: &str, stroke: Keystroke) -> Result<bool, NoMemory> {
+    if let Ok(read) = Keystroke::parse(text) {
+        return Ok(read == stroke);
+    }
+    let other = with_key(alloc, text, stroke.key.as_str())?;
+    Ok(Keystroke::parse(other.as_str()) == Ok(stroke))
+}
+
+/// Whether a text that can't be read may be meant for keystrokes, by its parts between spaces.
+fn may_be_spelled(alloc: Global, keys: &str, strokes: &[Keystroke]) -> Result<bool, NoMemory> {
+    let mut left = strokes;
+    for text in keys.split(' ') {
+        if text.is_empty() {
+            continue;
+        }
+        match left {
+            [stroke, rest @ ..] => {
+                if !may_be_stroke(alloc, text, *stroke)? {
+                    return Ok(false);
+                }
+                left = rest;
+            }
+            [] => return Ok(true),
+        }
+    }
+    Ok(left.is_empty())
+}
+
+/// Whether a text of keystrokes may be meant for these: it begins with them, or it can't be read and its
+/// spelling could mean them.
+fn may_be_meant(
+    alloc: Global,
+    keys: Option<&str>,
+    strokes: &[Keystroke],
+) -> Result<bool, NoMemory> {
     let Some(keys) = keys else {
-        return true;
+        return Ok(true);
     };
     match Chord::parse(alloc, keys) {
-        Ok(chord) => chord.begins_with(strokes),
-        Err(_) => true,
+        Ok(chord) => Ok(chord.begins_with(strokes)),
+        Err(_) => may_be_spelled(alloc, keys, strokes),
     }
 }
 
@@ -120,7 +170,8 @@ fn say_of_source<W: Write>(
             Some(element) => keys_of(element, warning.origin, named.files.platform),
             None => None,
         };
-        if may_be_meant(alloc, keys, strokes) {
+        let is_meant = may_be_meant(alloc, keys, strokes)?;
+        if is_meant {
             say_one(alloc, named, warning, keys, form, out)?;
         }
     }
@@ -206,7 +257,8 @@ fn say_of_extensions<W: Write>(
     Ok(())
 }
 
-/// Writes a line for each element that was dropped and whose keystrokes begin with these or can't be read.
+/// Writes a line for each element that was dropped and whose keystrokes begin with these, or can't be read
+/// and have their modifiers.
 #[tactic(auto, using(crate::proofs::SaidLemmas::more))]
 pub(crate) fn say_dropped<W: Write>(
     alloc: Global,

@@ -1,13 +1,15 @@
 //! Why a key press does what it does, said.
-ghost use Rattle.std.specs.Prelude.{◌≡◌, ◌++◌, ◌∷◌, [], All, IfOk, List, OnOk, map, option_map, string_bytes};
+ghost use Rattle.std.specs.Prelude.{◌≡◌, ◌++◌, ◌∷◌, [], ◌&&◌, All, IfOk, List, OnOk, map, not, option_map};
+ghost use Rattle.std.specs.Prelude.{string_bytes};
 ghost use Rattle.serde_json.specs.View.{view};
 ghost use Rattle.kb_bindings.specs.Sources.{enablement, rules_of};
 ghost use Rattle.kb_context.specs.Scopes.{context};
 ghost use Rattle.kb_explain.specs.Press.{passed_over, IsRightlyPassed};
-ghost use Rattle.kb_explain_report.specs.PressSaid.{SaysPress};
+ghost use Rattle.kb_explain_report.specs.PressSaid.{SaysPress, SaysReasons, SaysRest};
 ghost use Rattle.kb_explain_report.specs.RulesSaid.{IsStepJson, IsStepText, SaysStep};
 ghost use Rattle.kb_explain_report.specs.RulesSaid as said;
-ghost use Rattle.kb_explain_report.specs.RulesSaid.{start_words, step_command, step_word, step_words};
+ghost use Rattle.kb_explain_report.specs.RulesSaid.{any_on, lack_words, start_words, step_command, step_word};
+ghost use Rattle.kb_explain_report.specs.RulesSaid.{step_words, waits};
 ghost use Rattle.kb_explain_report.specs.Said.{WritesMore};
 ghost use Rattle.kb_report.specs.Output.{WritesLine};
 ghost use Rattle.kb_keys.specs.Chord.{chord_spelling};
@@ -17,6 +19,7 @@ ghost use Rattle.kb_resolve.specs.Pressed.{step_of};
 ghost use Rattle.kb_resolve.specs.Resolver.{resolution_by};
 
 use crate::cause_said::{cause_json, cause_said};
+use crate::disabled_said::say_disabled;
 use crate::dropped_said::say_dropped;
 use crate::removed_said::say_removed;
 use crate::rule_said::{Named, place_text, rule_json, rule_text};
@@ -30,6 +33,7 @@ use kb_rules::Rule;
 use serde_json::{Value, json};
 use std::alloc::Global;
 use std::io::Write;
+use std::rc::Rc;
 
 /// The situation of a press: the keystrokes of the open chord with the key, what the focus sees, and the
 /// files.
@@ -111,20 +115,39 @@ fn start_text(alloc: Global, command: &str) -> Result<String, NoMemory>
     format!(in alloc; "starts {command}")
 }
 
-/// What a press does, in words.
-fn does_text(alloc: Global, does: Pressed<'_>) -> Result<String, NoMemory>
-    ensures { IfOk result (λ made. string_bytes made ≡ step_words (step_of does.entry)) }
+/// Whether the keystrokes of a rule begin with these.
+fn has_rule(rules: &[Rc<Rule>], strokes: &[Keystroke]) -> bool
+    ensures { result ≡ any_on strokes.now (map (λ r. r.value) rules.now) }
 {
+    for rule in rules {
+        if rule.chord.begins_with(strokes) {
+            return true;
+        }
+    }
+    false
+}
+
+/// Why a press starts nothing: no rule has the keystrokes, or none of them holds.
+fn lack_text(has_rule: bool) -> &'static str
+    ensures { result.now ≡ lack_words has_rule }
+{
+    if has_rule {
+        "no rule holds"
+    } else {
+        "no rule in force has these keystrokes"
+    }
+}
+
+/// What a press does, in words.
+fn does_text(alloc: Global, does: Pressed<'_>, has_rule: bool) -> Result<String, NoMemory>
+    ensures { IfOk result (λ made. string_bytes made ≡ step_words has_rule (step_of does.entry)) }
+{
+    let lack = lack_text(has_rule);
     match does {
         Pressed::Start(rule) => start_text(alloc, rule.command.as_str()),
         Pressed::More => String::from_str(alloc, "waits for more keystrokes"),
-        Pressed::Left => {
-            String::from_str(
-                alloc,
-                "starts nothing and ends the chord, since no rule holds",
-            )
-        }
-        Pressed::Unbound => String::from_str(alloc, "starts nothing, since no rule holds"),
+        Pressed::Left => format!(in alloc; "starts nothing and ends the chord, since {lack}"),
+        Pressed::Unbound => format!(in alloc; "starts nothing, since {lack}"),
     }
 }
 
@@ -155,6 +178,13 @@ fn does_words<'s>(does: Pressed<'s>) -> (&'static str, &'s str)
     }
 }
 
+/// Whether a press only opens or keeps a chord.
+fn is_more(does: Pressed<'_>) -> bool
+    ensures { result ≡ waits (step_of does.entry) }
+{
+    matches!(does, Pressed::More)
+}
+
 /// Keystrokes as a text.
 fn keys_text(alloc: Global, strokes: &[Keystroke]) -> Result<String, NoMemory>
     ensures { IfOk result (λ made. string_bytes made ≡ chord_spelling strokes.now) }
@@ -165,11 +195,17 @@ fn keys_text(alloc: Global, strokes: &[Keystroke]) -> Result<String, NoMemory>
 }
 
 /// What a press of these keystrokes does, in words.
-fn step_text(alloc: Global, strokes: &[Keystroke], does: Pressed<'_>) -> Result<String, NoMemory>
-    ensures { IfOk result (λ made. IsStepText strokes.now (step_of does.entry) (string_bytes made)) }
+fn step_text(
+    alloc: Global,
+    strokes: &[Keystroke],
+    does: Pressed<'_>,
+    has_rule: bool,
+) -> Result<String, NoMemory>
+    ensures { IfOk result (λ made.
+        IsStepText has_rule strokes.now (step_of does.entry) (string_bytes made)) }
 {
     let keys = keys_text(alloc, strokes)?;
-    let said = does_text(alloc, does)?;
+    let said = does_text(alloc, does, has_rule)?;
     let line = format!(in alloc; "{keys}: {said}")?;
     Ok(line)
 }
@@ -184,20 +220,43 @@ fn step_json(alloc: Global, strokes: &[Keystroke], does: Pressed<'_>) -> Result<
     json!(in alloc; {"keys": keys, "does": word, "command": command})
 }
 
+/// Whether the keystrokes of a rule in force begin with these.
+fn is_bound(named: &Named<'_>, strokes: &[Keystroke]) -> bool
+    ensures { result ≡ any_on strokes.now (rules_of named.now.bindings.now) }
+{
+    has_rule(named.bindings.resolver().rules(), strokes)
+}
+
+/// What a press of these keystrokes does, and whether a rule in force has them, in words.
+fn does_said(
+    alloc: Global,
+    named: &Named<'_>,
+    strokes: &[Keystroke],
+    does: Pressed<'_>,
+) -> Result<String, NoMemory>
+    ensures { IfOk result (λ made. IsStepText (any_on strokes.now (rules_of named.now.bindings.now))
+        strokes.now (step_of does.entry) (string_bytes made)) }
+{
+    let is_bound = is_bound(named, strokes);
+    step_text(alloc, strokes, does, is_bound)
+}
+
 /// Writes what the press does.
 fn say_does<W: Write>(
     alloc: Global,
+    named: &Named<'_>,
     strokes: &[Keystroke],
     does: Pressed<'_>,
     form: Form,
     out: &mut W,
 ) -> Result<(), Stop>
-    ensures { OnOk result (WritesLine (SaysStep form strokes.now (step_of does.entry))
+    ensures { OnOk result (WritesLine
+        (SaysStep form (any_on strokes.now (rules_of named.now.bindings.now)) strokes.now (step_of does.entry))
         (W.contents out.old) (W.contents out.new)) }
 {
     match form {
         Form::Text => {
-            say_text(step_text(alloc, strokes, does)?, out)?;
+            say_text(does_said(alloc, named, strokes, does)?, out)?;
             Ok(())
         }
         Form::Json => {
@@ -338,14 +397,54 @@ fn say_explained<W: Write>(
     Ok(())
 }
 
+/// Writes why a press does what it does: a line for each rule whose keystrokes begin with those that are
+/// pressed, from the bottom up to the one that is taken; then those that a removal took; those whose
+/// extension isn't enabled; and last those that were dropped.
+fn say_reasons<W: Write>(
+    alloc: Global,
+    situation: &Situation<'_>,
+    explained: &Explained<'_>,
+    form: Form,
+    out: &mut W,
+) -> Result<(), Stop>
+    ensures { OnOk result (SaysReasons form situation.now.named situation.now.strokes.now
+        (W.contents out.old) (W.contents out.new)) }
+{
+    say_explained(alloc, situation, explained, form, out)?;
+    say_removed(alloc, &situation.named, situation.strokes, form, out)?;
+    say_disabled(alloc, &situation.named, situation.strokes, form, out)?;
+    say_dropped(alloc, &situation.named, situation.strokes, form, out)?;
+    Ok(())
+}
+
+/// Writes why a press does what it does, unless it only opens or keeps a chord and that is left out.
+fn say_rest<W: Write>(
+    alloc: Global,
+    situation: &Situation<'_>,
+    press: &Press<'_>,
+    why_it_waits: bool,
+    form: Form,
+    out: &mut W,
+) -> Result<(), Stop>
+    ensures { OnOk result (SaysRest (not why_it_waits && waits (step_of press.now.does))
+        form situation.now.named situation.now.strokes.now (W.contents out.old) (W.contents out.new)) }
+{
+    if !why_it_waits && is_more(press.does) {
+        return Ok(());
+    }
+    say_reasons(alloc, situation, &press.explained, form, out)
+}
+
 /// Writes what a press does and why: a line for what it does; then a line for each rule whose keystrokes
 /// begin with those that are pressed, from the bottom up to the one that is taken; then those that a removal
-/// took; and last those that were dropped. [`explained_press`] has what is more than printed text.
+/// took; those whose extension isn't enabled; and last those that were dropped. Of a press that only opens or
+/// keeps a chord it can be left out why. [`explained_press`] has what is more than printed text.
 ///
 /// Errors: refused memory, or a write that failed.
 pub fn say_press<W: Write>(
     alloc: Global,
     situation: &Situation<'_>,
+    why_it_waits: bool,
     form: Form,
     out: &mut W,
 ) -> Result<(), Stop>
@@ -353,15 +452,20 @@ pub fn say_press<W: Write>(
     // both stand.
     ensures { OnOk result ((before : List Keystroke) → (stroke : Keystroke)
         → situation.now.strokes.now ≡ before ++ stroke ∷ []
-        → SaysPress form situation.now.named situation.now.strokes.now
+        → SaysPress form situation.now.named situation.now.strokes.now why_it_waits
         (step before stroke (context situation.now.scopes.now.seen)
         (enablement situation.now.named.bindings.now) (rules_of situation.now.named.bindings.now))
         (W.contents out.old) (W.contents out.new)) }
 {
     let press = explained_press(alloc, situation)?;
-    say_does(alloc, situation.strokes, press.does, form, out)?;
-    say_explained(alloc, situation, &press.explained, form, out)?;
-    say_removed(alloc, &situation.named, situation.strokes, form, out)?;
-    say_dropped(alloc, &situation.named, situation.strokes, form, out)?;
+    say_does(
+        alloc,
+        &situation.named,
+        situation.strokes,
+        press.does,
+        form,
+        out,
+    )?;
+    say_rest(alloc, situation, &press, why_it_waits, form, out)?;
     Ok(())
 }

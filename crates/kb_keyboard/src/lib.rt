@@ -12,7 +12,8 @@ pub mod respelling;
 mod tables;
 
 pub use event::{Held, KeyEvent, Pressed, keystroke_of};
-pub use kb_exchange::{Exchanged, Move, Moves, Span};
+pub use kb_exchange::{Exchanged, Move, Moves};
+pub use kb_places::Span;
 pub use layout::{Layout, LayoutKey};
 pub use layout_fault::LayoutFault;
 pub use respelling::{respell, respell_file};

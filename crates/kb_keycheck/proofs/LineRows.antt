@@ -1,5 +1,5 @@
 -- The meaning of the command line alone, evaluated on words that are written out, wherever the names of the
--- platforms, of the lints and of the severities stand.
+-- platforms, of the lints, of the severities and of the formats stand.
 use Rattle.std.proofs.Common.{◌≡◌, refl, true, List, [], ◌∷◌, ℕ}
 use Rattle.std.specs.Borrow.{Bor}
 use Rattle.std.specs.Prelude.{Option, Some, None, codes, option_map}
@@ -13,7 +13,7 @@ use Rattle.kb_keycheck.specs.declared.request.Direction.TheVariants.{Disassemble
 use Rattle.kb_keycheck.specs.declared.request.Subcommand.TheVariants.{Ask, Check, Translate}
 use Rattle.kb_keycheck.specs.declared.request.Topic.TheVariants.{Press}
 
-module _ (platforms levels : Bor (List (Bor Text))) (all one : ℕ × ℕ) where
+module _ (platforms levels formats : Bor (List (Bor Text))) (all one : ℕ × ℕ) where
   abbrev lints : Bor (List (Bor Text))
   lints = record {
     ref_ptr = all;
@@ -21,7 +21,7 @@ module _ (platforms levels : Bor (List (Bor Text))) (all one : ℕ × ℕ) where
   }
 
   abbrev app : App
-  app = keycheck_app platforms lints levels
+  app = keycheck_app platforms lints levels formats
 
   -- the name of the command
   abbrev command : List Text → Option Text

@@ -14,6 +14,9 @@ use Rattle.clap.specs.declared.error.Error.{Error}
 use Rattle.clap.specs.declared.error.kind.ErrorKind.TheVariants.{OutOfMemory}
 use Rattle.clap.specs.declared.parser.matches.ArgMatches.{ArgMatches}
 use Rattle.clap.specs.Simple.{app_of}
+use Rattle.kb_check_report.specs.Format.{format_named, format_of}
+use Rattle.kb_check_report.specs.declared.format.Format.{Format}
+use Rattle.kb_check_report.specs.declared.format.Format.TheVariants as format
 use Rattle.kb_cli.specs.CommandLine.{Gives, NamesPlatforms, dirs_rule, platform_rule, valued_rule}
 use Rattle.kb_problems.specs.Severity.{severity_named}
 use Rattle.kb_problems.specs.declared.severity.Severity.{Severity}
@@ -56,6 +59,15 @@ NamesLevels names = map (λ name. name.now) names.now ≡ codes "error" ∷ code
 abbrev pub level_rule : Bor (List (Bor Text)) → Rule
 level_rule levels = record (valued_rule (codes "level")) { parser = Some (Names levels) }
 
+-- these are the names of the formats
+abbrev pub NamesFormats : Bor (List (Bor Text)) → Type 0
+NamesFormats names = map (λ name. name.now) names.now
+    ≡ codes "text" ∷ codes "json" ∷ codes "github" ∷ codes "sarif" ∷ codes "diff" ∷ []
+
+-- `--format FORMAT`, where FORMAT is one of these names
+abbrev pub format_rule : Bor (List (Bor Text)) → Rule
+format_rule formats = record (valued_rule (codes "format")) { parser = Some (Names formats) }
+
 -- a word that must be there
 abbrev pub word_rule : Text → Rule
 word_rule name = record (new_rule name) { value_names = 1; required = true }
@@ -80,20 +92,30 @@ with_script a platforms = with_files (with_rule a (valued_rule (codes "script"))
 abbrev pub only_rule : Rule
 only_rule = record (valued_rule (codes "only")) { action = Some Append }
 
--- `check [--only NAME]... [--level LEVEL] [--allow NAME]... [--warn NAME]... [--commands F] FILES`
-abbrev pub check_app : Bor (List (Bor Text)) → Bor (List (Bor Text)) → Bor (List (Bor Text)) → App
-check_app platforms lints levels = with_files (with_rule (with_rule (with_rule (with_rule (with_rule
-    (new_app (codes "check")) only_rule) (level_rule levels)) (lints_rule (codes "allow") lints))
-    (lints_rule (codes "warn") lints)) (valued_rule (codes "commands"))) platforms
+-- `check [--only NAME]... [--level LEVEL] [--allow NAME]... [--warn NAME]... [--commands F] [--format FORMAT]
+-- FILES`
+abbrev pub check_app : Bor (List (Bor Text)) → Bor (List (Bor Text)) → Bor (List (Bor Text))
+    → Bor (List (Bor Text)) → App
+check_app platforms lints levels formats = with_files (with_rule (with_rule (with_rule (with_rule (with_rule
+    (with_rule (new_app (codes "check")) only_rule) (level_rule levels)) (lints_rule (codes "allow") lints))
+    (lints_rule (codes "warn") lints)) (valued_rule (codes "commands"))) (format_rule formats)) platforms
 
 -- `explain KEY FILES [--script F]`
 abbrev pub explain_app : Bor (List (Bor Text)) → App
 explain_app platforms =
     with_script (with_rule (new_app (codes "explain")) (word_rule (codes "key"))) platforms
 
--- `list [--key KEY] FILES [--script F]`
+-- `--unbound`
+abbrev pub unbound_rule : Rule
+unbound_rule = record (new_rule (codes "unbound")) {
+  long = Some (codes "unbound");
+  action = Some SetTrue;
+}
+
+-- `list [--key KEY] [--command ID] [--unbound] FILES [--script F]`
 abbrev pub list_app : Bor (List (Bor Text)) → App
-list_app platforms = with_script (with_rule (new_app (codes "list")) (valued_rule (codes "key"))) platforms
+list_app platforms = with_script (with_rule (with_rule (with_rule (new_app (codes "list"))
+    (valued_rule (codes "key"))) (valued_rule (codes "command"))) unbound_rule) platforms
 
 -- `context FILES [--script F]`
 abbrev pub context_app : Bor (List (Bor Text)) → App
@@ -103,6 +125,10 @@ context_app platforms = with_script (new_app (codes "context")) platforms
 abbrev pub palette_app : Bor (List (Bor Text)) → App
 palette_app platforms = with_script (with_rule (with_rule (new_app (codes "palette"))
     (word_rule (codes "query"))) (valued_rule (codes "command"))) platforms
+
+-- `log SCRIPT FILES`
+abbrev pub log_app : Bor (List (Bor Text)) → App
+log_app platforms = with_files (with_rule (new_app (codes "log")) (word_rule (codes "script"))) platforms
 
 -- `handlers [--json] DIR...`
 abbrev pub handlers_app : App
@@ -122,12 +148,13 @@ bare_app = record (new_app (codes "keycheck")) {
   top = record (new_app (codes "keycheck")).top { has_version = true; subcommand_required = true };
 }
 
-abbrev pub keycheck_app : Bor (List (Bor Text)) → Bor (List (Bor Text)) → Bor (List (Bor Text)) → App
-keycheck_app platforms lints levels = with_subcommand (with_subcommand (with_subcommand (with_subcommand
-    (with_subcommand (with_subcommand (with_subcommand (with_subcommand bare_app
-    (check_app platforms lints levels).top) (explain_app platforms).top) (list_app platforms).top)
-    (context_app platforms).top) (palette_app platforms).top) handlers_app.top) assemble_app.top)
-    disassemble_app.top
+abbrev pub keycheck_app : Bor (List (Bor Text)) → Bor (List (Bor Text)) → Bor (List (Bor Text))
+    → Bor (List (Bor Text)) → App
+keycheck_app platforms lints levels formats = with_subcommand (with_subcommand (with_subcommand
+    (with_subcommand (with_subcommand (with_subcommand (with_subcommand (with_subcommand (with_subcommand
+    bare_app (check_app platforms lints levels formats).top) (explain_app platforms).top)
+    (list_app platforms).top) (context_app platforms).top) (palette_app platforms).top)
+    (log_app platforms).top) handlers_app.top) assemble_app.top) disassemble_app.top
 
 -- ---- what the words mean
 
@@ -139,8 +166,8 @@ Matched app words r = MatchResult r
     (λ m. (fault_of app words ≡ []) × (subcommand_rows_of m ≡ subcommand_of app words))
     (λ e. HasKind (fault_of app words) e × (takes app words ≡ true → kind_of e ≡ OutOfMemory))
 
--- the same of the program's command, wherever the names of the platforms, of the lints and of the severities
--- stand
+-- the same of the program's command, wherever the names of the platforms, of the lints, of the severities and
+-- of the formats stand
 pub record IsMatched (words : List Text) (r : Result ArgMatches Error) : Type 0 where
   pub platforms : Bor (List (Bor Text))
   pub are_platforms : NamesPlatforms platforms
@@ -148,7 +175,9 @@ pub record IsMatched (words : List Text) (r : Result ArgMatches Error) : Type 0 
   pub are_lints : NamesLints lints
   pub levels : Bor (List (Bor Text))
   pub are_levels : NamesLevels levels
-  pub by_clap : Matched (keycheck_app platforms lints levels) words r
+  pub formats : Bor (List (Bor Text))
+  pub are_formats : NamesFormats formats
+  pub by_clap : Matched (keycheck_app platforms lints levels formats) words r
 
 -- the names of the commands
 abbrev pub subcommand_name : Subcommand → Text
@@ -157,14 +186,15 @@ subcommand_name (command.Ask topic.Press) = codes "explain"
 subcommand_name (command.Ask topic.Rules) = codes "list"
 subcommand_name (command.Ask topic.Context) = codes "context"
 subcommand_name (command.Ask topic.Palette) = codes "palette"
+subcommand_name (command.Ask topic.Log) = codes "log"
 subcommand_name command.Handlers = codes "handlers"
 subcommand_name (command.Translate direction.Assemble) = codes "assemble"
 subcommand_name (command.Translate direction.Disassemble) = codes "disassemble"
 
 abbrev pub subcommands : List Subcommand
 subcommands = command.Check ∷ command.Ask topic.Press ∷ command.Ask topic.Rules ∷ command.Ask topic.Context
-    ∷ command.Ask topic.Palette ∷ command.Handlers ∷ command.Translate direction.Assemble
-    ∷ command.Translate direction.Disassemble ∷ []
+    ∷ command.Ask topic.Palette ∷ command.Ask topic.Log ∷ command.Handlers
+    ∷ command.Translate direction.Assemble ∷ command.Translate direction.Disassemble ∷ []
 
 abbrev pub subcommand_named : Text → Option Subcommand
 subcommand_named name = find (λ c. bytes_eq name (subcommand_name c)) subcommands
@@ -183,6 +213,11 @@ pub record IsGiven (rows : List Row) (given : Given) : Type 0 where
 abbrev pub level_given : Option Text → Severity
 level_given name = unwrap_or (option_and_then severity_named name) Warning
 
+-- the format of the name that the option gives, or by the flag if it is not given
+abbrev pub IsFormat : List Row → Option Text → Format → Type 0
+IsFormat rows (Some name) written = written ≡ unwrap_or (format_named name) format.Text
+IsFormat rows None written = (f : Form) × IsForm rows f × (written ≡ format_of f)
+
 -- what the arguments of `check` look for, and what they show
 pub record AreWishes (rows : List Row) (wishes : Wishes) : Type 0 where
   pub allowed : map (λ name. name.now) wishes.allowed.items ≡ unwrap_or (all_of (codes "allow") rows) []
@@ -190,6 +225,7 @@ pub record AreWishes (rows : List Row) (wishes : Wishes) : Type 0 where
   pub only : map (λ name. name.now) wishes.only.items ≡ unwrap_or (all_of (codes "only") rows) []
   pub level : wishes.level ≡ level_given (first_of (codes "level") rows)
   pub commands : option_map (λ s. s.now) wishes.commands ≡ first_of (codes "commands") rows
+  pub written : IsFormat rows (first_of (codes "format") rows) wishes.format
 
 -- the path of the file to translate
 abbrev pub path_in : List Row → Text
@@ -198,11 +234,16 @@ path_in rows = unwrap_or (first_of (codes "file") rows) []
 -- the question that the arguments of a command ask
 abbrev pub IsAsked : Topic → List Row → Question → Type 0
 IsAsked topic.Press rows (question.Press keys) = keys.now ≡ unwrap_or (first_of (codes "key") rows) []
-IsAsked topic.Rules rows (question.Rules keys) = option_map (λ s. s.now) keys ≡ first_of (codes "key") rows
+IsAsked topic.Rules rows question.Unbound = one_of (codes "unbound") rows ≡ Some (codes "false") → ⊥
+IsAsked topic.Rules rows (question.Rules keys id) =
+    (one_of (codes "unbound") rows ≡ Some (codes "true") → ⊥)
+    × (option_map (λ s. s.now) keys ≡ first_of (codes "key") rows)
+    × (option_map (λ s. s.now) id ≡ first_of (codes "command") rows)
 IsAsked topic.Context rows question.Context = Unit {0}
 IsAsked topic.Palette rows (question.Palette query id) =
     (query.now ≡ unwrap_or (first_of (codes "query") rows) [])
     × (option_map (λ s. s.now) id ≡ first_of (codes "command") rows)
+IsAsked topic.Log rows question.Log = Unit {0}
 IsAsked asked rows q = ⊥
 
 -- ---- for private functions

@@ -131,9 +131,11 @@ pub record AreRefused (held : List ℕ → Held) (given : Options) (fault : Load
 -- the text of the keystrokes of a question
 abbrev pub keys_asked : Question → Option Text
 keys_asked (question.Press keys) = Some keys.now
-keys_asked (question.Rules keys) = option_map (λ s. s.now) keys
+keys_asked (question.Rules keys id) = option_map (λ s. s.now) keys
+keys_asked question.Unbound = None
 keys_asked question.Context = None
 keys_asked (question.Palette query id) = None
+keys_asked question.Log = None
 
 -- the keystrokes of a text
 abbrev pub strokes_in : Option Text → Strokes

@@ -50,5 +50,5 @@ pub(crate) fn check_files<'m, F: FileSource, W: Write + Drop>(
     let extensions = extension_sources(alloc, &read)?;
     let sources = sources(&read, extensions.as_slice());
     let choices = choices_of(wishes, commands.as_slice());
-    Ok(check(alloc, &sources, &choices, given.form, out)?)
+    Ok(check(alloc, &sources, &choices, wishes.format, out)?)
 }

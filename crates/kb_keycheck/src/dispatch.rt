@@ -17,9 +17,10 @@ use crate::request::{
 use crate::translating::{translate, translation_status};
 use clap::ArgMatches;
 use kb_base::Text;
-use kb_cli::all_texts;
+use kb_cli::{all_texts, text_given};
 use kb_disk::FileSource;
 use kb_handler_report::{check_extensions, status_of};
+use kb_problems::key_sentence;
 use std::alloc::Global;
 use std::fmt::Display;
 use std::io;
@@ -78,6 +79,18 @@ fn check_handlers<F: FileSource, W: Write + Drop>(
     check_extensions(alloc, files, dirs.as_slice(), form, out)
 }
 
+/// What a check says that has no file.
+const NO_FILE: &str =
+    "no file is named: give --layout F, --defaults F, --user F, or directories of extensions";
+
+/// Whether the matches of a command name no file of a load.
+fn names_no_file(matches: &ArgMatches<'_>) -> bool {
+    text_given(matches, "layout").is_none()
+        && text_given(matches, "defaults").is_none()
+        && text_given(matches, "user").is_none()
+        && text_given(matches, "dir").is_none()
+}
+
 /// Does `check`, says why it stopped, if it did, and returns the exit status.
 #[tactic(auto, using(crate::proofs::DoesLemmas::statuses))]
 fn obey_check<R: Eprint, F: FileSource + Reasons, W: Write + Drop>(
@@ -90,6 +103,9 @@ fn obey_check<R: Eprint, F: FileSource + Reasons, W: Write + Drop>(
     ensures does { Checks (F.held files.now) (rows_of (found_of matches.now)) result }
     ensures table { result ≤ 4 }
 {
+    if names_no_file(matches) {
+        let _ = rt.eprintln(NO_FILE);
+    }
     let end = check(alloc, matches, files, out);
     say_stop(rt, alloc, files, &end);
     check_status(&end)
@@ -112,7 +128,11 @@ fn obey_question<R: Eprint, F: FileSource + Reasons, W: Write + Drop>(
     let mut mistakes = Mistakes::none(alloc);
     let end = answer(alloc, topic, matches, files, &mut mistakes, out);
     say_mistakes(rt, &mistakes);
-    say_stop(rt, alloc, files, &end);
+    if let Some(line) = keys_line(alloc, matches, &end) {
+        let _ = rt.eprintln(line.as_str());
+    } else {
+        say_stop(rt, alloc, files, &end);
+    }
     answer_status(&end)
 }
 
@@ -198,6 +218,22 @@ fn say_mistakes<R: Eprint>(rt: &R, mistakes: &Mistakes) {
     for line in mistakes.text().lines() {
         let _ = rt.eprintln(format_args!("script: {line}"));
     }
+}
+
+/// The line that says why the keystrokes of a command line can't be read, with the key that may be meant, if
+/// that is why a run stopped, and if there is memory for it.
+fn keys_line<T>(
+    alloc: Global,
+    matches: &ArgMatches<'_>,
+    end: &Result<T, Stop<'_>>,
+) -> Option<String> {
+    let Err(Stop::Keys(fault)) = end else {
+        return None;
+    };
+    let kind = fault.kind();
+    let text = text_given(matches, "key").unwrap_or("");
+    let sentence = key_sentence(alloc, kind, text).ok()?;
+    format!(in alloc; "the keystrokes can't be read, for {kind}: {sentence}").ok()
 }
 
 /// Why a run that stopped could not read a file, if that is why.

@@ -1,28 +1,27 @@
 //! `explain`, `list`, `context` and `palette`: what a loaded session says.
-ghost use Rattle.std.specs.Prelude.{◌≡◌, ◌++◌, ◌∷◌, [], IfErr, IfOk, OnOk, map, option_map};
+ghost use Rattle.std.specs.Prelude.{◌≡◌, [], IfErr, IfOk, map, option_map};
 ghost use Rattle.std.specs.Io.Buffered.{writer_buffer};
 ghost use Rattle.kb_files.specs.Inputs.{files_of};
 ghost use Rattle.kb_check.specs.Problems.{files_in};
 ghost use Rattle.kb_core.specs.Native.{natives};
 ghost use Rattle.kb_files.specs.Extensions.{extension_bytes};
 ghost use Rattle.kb_session.specs.Session.{Loads};
-ghost use Rattle.kb_session.specs.State.{happens, next};
 ghost use Rattle.kb_source_files.specs.SourceFiles.{bytes_of_extension};
-ghost use Rattle.kb_stream.specs.Fold.{after_all};
 ghost use Rattle.kb_keycheck.specs.Ends.{AreAccepted, AreLoaded, IsBehindLoad, StopsAnswering, StopsOver};
 ghost use Rattle.kb_keycheck.specs.Ends.{keys_asked, strokes_in};
 ghost use Rattle.kb_files.specs.SourceFiles as owned;
 
 use crate::ending::Stop;
 use crate::files::{extension_sources, sources};
+use crate::logging::log_any;
 use crate::mistakes::Mistakes;
+use crate::pressing::explain;
 use crate::request::{Given, Question};
-use kb_base::{Failure, NoMemory};
+use kb_base::Failure;
 use kb_disk::{FileSource, Options, file_named, read_files};
 use kb_engine::{Cost, PlainCommand, commands};
 use kb_explain_report::{
-    Named, RulePlaces, Situation, say_command, say_commands, say_context, say_press, say_rules,
-    say_trace,
+    Listed, Named, RulePlaces, say_command, say_commands, say_context, say_rules, say_unbound,
 };
 use kb_files::{ExtensionFiles, Inputs, LoadFault};
 use kb_keys::{Chord, KeyFault, Keystroke};
@@ -31,8 +30,7 @@ use kb_run::script_stop;
 use kb_script::stream_script;
 use kb_session::Session;
 use kb_source_files::SourceFiles;
-use kb_trace::Event;
-use std::alloc::{AllocError, Global};
+use std::alloc::Global;
 use std::io::{BufWriter, Read, Write};
 
 /// A question with its keystrokes, and how the answer is written.
@@ -49,8 +47,8 @@ fn keys_of<'m>(question: Question<'m>) -> Option<&'m str>
 {
     match question {
         Question::Press(keys) => Some(keys),
-        Question::Rules(keys) => keys,
-        Question::Context | Question::Palette(_, _) => None,
+        Question::Rules(keys, _) => keys,
+        Question::Unbound | Question::Context | Question::Palette(_, _) | Question::Log => None,
     }
 }
 
@@ -124,132 +122,13 @@ fn play_any<'a, S: Read + Drop>(
     }
 }
 
-/// The presses of keys.
-fn presses(alloc: Global, strokes: &[Keystroke]) -> Result<Vec<Event>, NoMemory>
-    ensures { IfOk result (λ events. map happens events.items
-        ≡ map (λ stroke. happens (Event.Key stroke)) strokes.now) }
-{
-    let mut events = Vec::new(alloc);
-    for stroke in strokes {
-        events.push(Event::Key(*stroke)).map_err(NoMemory::from)?;
-    }
-    Ok(events)
-}
-
-/// Presses keys. A session whose handlers are verified stops only for refused memory.
-fn press_all(
-    alloc: Global,
-    session: &mut Session<PlainCommand>,
-    strokes: &[Keystroke],
-) -> Result<(), NoMemory>
-    ensures { OnOk result (session.new
-        ≡ after_all next (map (λ stroke. happens (Event.Key stroke)) strokes.now) session.old) }
-{
-    let events = presses(alloc, strokes)?;
-    match session.run(events) {
-        Ok(()) => Ok(()),
-        Err(_) => Err(AllocError),
-    }
-}
-
-/// The keystrokes of the open chord with one more.
-fn strokes_with(
-    alloc: Global,
-    pressed: &[Keystroke],
-    stroke: Keystroke,
-) -> Result<Vec<Keystroke>, NoMemory>
-    ensures { IfOk result (λ made. made.items ≡ pressed.now ++ stroke ∷ []) }
-{
-    let mut strokes = Vec::from_slice(alloc, pressed)?;
-    strokes.push(stroke).map_err(NoMemory::from)?;
-    Ok(strokes)
-}
-
-/// Writes why a press does what it does that completes these keystrokes.
-#[tactic(auto, using(crate::proofs::EndLemmas::said_behind))]
-fn explain_press<'s, 'a, W: Write>(
-    alloc: Global,
-    session: &'s Session<PlainCommand>,
-    files: &'s SourceFiles<'s>,
-    places: &'s RulePlaces,
-    strokes: &'s [Keystroke],
-    form: Form,
-    out: &mut W,
-) -> Result<(), Stop<'a>>
-    ensures { IfErr result IsBehindLoad }
-{
-    let situation = Situation {
-        strokes,
-        scopes: session.core().scopes(),
-        named: Named {
-            bindings: session.bindings(),
-            files,
-            places,
-        },
-    };
-    Ok(say_press(alloc, &situation, form, out)?)
-}
-
-/// Presses a key, and writes what the trace gains.
-#[tactic(auto, using(crate::proofs::EndLemmas::said_behind))]
-fn press_last<'a, W: Write>(
-    alloc: Global,
-    session: &mut Session<PlainCommand>,
-    stroke: Keystroke,
-    form: Form,
-    out: &mut W,
-) -> Result<(), Stop<'a>>
-    ensures { IfErr result IsBehindLoad }
-{
-    session.truncate_trace(0);
-    press_all(alloc, session, &[stroke])?;
-    Ok(say_trace(alloc, session.trace(), form, out)?)
-}
-
-/// Writes why a press of a key does what it does.
-fn explain_next<'a, W: Write>(
-    alloc: Global,
-    session: &Session<PlainCommand>,
-    files: &SourceFiles<'_>,
-    stroke: Keystroke,
-    form: Form,
-    out: &mut W,
-) -> Result<(), Stop<'a>>
-    ensures { IfErr result IsBehindLoad }
-{
-    let places = RulePlaces::of(alloc, files)?;
-    let strokes = strokes_with(alloc, session.pressed(), stroke)?;
-    let strokes = strokes.as_slice();
-    explain_press(alloc, session, &*files, &places, strokes, form, out)
-}
-
-/// Presses all of these keystrokes but the last, writes why the last does what it does, presses it, and
-/// writes what the trace gains.
-fn explain<'a, W: Write>(
-    alloc: Global,
-    session: &mut Session<PlainCommand>,
-    files: &SourceFiles<'_>,
-    strokes: &[Keystroke],
-    form: Form,
-    out: &mut W,
-) -> Result<(), Stop<'a>>
-    ensures { IfErr result IsBehindLoad }
-{
-    let Some((last, before)) = strokes.split_last() else {
-        return Ok(());
-    };
-    press_all(alloc, session, before)?;
-    explain_next(alloc, session, files, *last, form, out)?;
-    press_last(alloc, session, *last, form, out)
-}
-
-/// Writes the rules in force.
+/// Writes the rules in force that are listed.
 #[tactic(auto, using(crate::proofs::EndLemmas::said_behind))]
 fn list<'a, W: Write>(
     alloc: Global,
     session: &Session<PlainCommand>,
     files: &SourceFiles<'_>,
-    strokes: &[Keystroke],
+    listed: Listed<'_>,
     form: Form,
     out: &mut W,
 ) -> Result<(), Stop<'a>>
@@ -261,7 +140,7 @@ fn list<'a, W: Write>(
         files: &*files,
         places: &places,
     };
-    Ok(say_rules(alloc, &named, strokes, form, out)?)
+    Ok(say_rules(alloc, &named, listed, form, out)?)
 }
 
 /// Writes which commands the palette lists for a query, and why not, of one command or of all.
@@ -302,15 +181,23 @@ fn answer<'a, W: Write>(
     } = asked;
     match question {
         Question::Press(_) => explain(alloc, session, files, strokes, form, out),
-        Question::Rules(_) => list(alloc, session, files, strokes, form, out),
+        Question::Rules(_, command) => {
+            let listed = Listed { strokes, command };
+            list(alloc, session, files, listed, form, out)
+        }
+        Question::Unbound => Ok(say_unbound(alloc, session.bindings(), form, out)?),
         Question::Context => Ok(say_context(alloc, session.core().scopes(), form, out)?),
         Question::Palette(query, command) => palette(alloc, session, query, command, form, out),
+        Question::Log => Ok(()),
     }
 }
 
 /// The files that the rules in force were read from: behind a reload by the script without the user's rules,
 /// which the script has. A session has one list of unread patterns for the load, and one for each reload.
-fn files_in_force<'s>(files: &SourceFiles<'s>, session: &Session<PlainCommand>) -> SourceFiles<'s> {
+pub(crate) fn files_in_force<'s>(
+    files: &SourceFiles<'s>,
+    session: &Session<PlainCommand>,
+) -> SourceFiles<'s> {
     let user = if session.unread().len() > 1 {
         None
     } else {
@@ -337,6 +224,9 @@ fn answer_behind<'a, S: Read + Drop, W: Write>(
 ) -> Result<(), Stop<'a>>
     ensures { IfErr result IsBehindLoad }
 {
+    if let Question::Log = asked.question {
+        return log_any(alloc, script, session, files, asked.form, out);
+    }
     play_any(alloc, script, session, mistakes)?;
     let in_force = files_in_force(files, session);
     answer(alloc, session, &in_force, asked, out)

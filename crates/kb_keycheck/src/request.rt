@@ -1,11 +1,12 @@
 //! What a command line asks for.
-ghost use Rattle.std.specs.Prelude.{◌≡◌, [], IfOk, option_map, unwrap_or};
+ghost use Rattle.std.specs.Prelude.{◌≡◌, [], IfOk, codes, option_map, unwrap_or};
 ghost use Rattle.clap.specs.Words.{first_of, found_of, rows_of};
-ghost use Rattle.kb_keycheck.specs.CommandLine.{AreWishes, IsAsked, IsForm, IsGiven, level_given};
-ghost use Rattle.kb_keycheck.specs.CommandLine.{path_in, subcommand_named};
+ghost use Rattle.kb_keycheck.specs.CommandLine.{AreWishes, IsAsked, IsForm, IsFormat, IsGiven};
+ghost use Rattle.kb_keycheck.specs.CommandLine.{level_given, path_in, subcommand_named};
 
 use clap::ArgMatches;
 use kb_base::NoMemory;
+use kb_check_report::Format;
 use kb_cli::{all_texts, options_in, text_given};
 use kb_disk::Options;
 use kb_problems::Severity;
@@ -23,6 +24,8 @@ pub enum Topic {
     Context,
     /// `palette`: what the palette lists.
     Palette,
+    /// `log`: what each press of a script does and why.
+    Log,
 }
 
 /// Which file of handlers is made of which.
@@ -52,12 +55,16 @@ pub enum Subcommand {
 pub enum Question<'m> {
     /// Why these keystrokes do what they do.
     Press(&'m str),
-    /// Which rules are in force, of these keystrokes or all.
-    Rules(Option<&'m str>),
+    /// Which rules are in force, of these keystrokes or all, that start this command or any.
+    Rules(Option<&'m str>, Option<&'m str>),
+    /// Which commands of the palette no rule in force starts.
+    Unbound,
     /// What the focus sees.
     Context,
     /// What the palette lists for a query, of one command or all.
     Palette(&'m str, Option<&'m str>),
+    /// What each press of the script does and why.
+    Log,
 }
 
 /// The files that a command line names, and how lines are written.
@@ -82,6 +89,8 @@ pub struct Wishes<'m> {
     pub level: Severity,
     /// The file that lists commands that are known besides.
     pub commands: Option<&'m str>,
+    /// How problems are written.
+    pub format: Format,
 }
 
 /// The command of this name.
@@ -94,6 +103,7 @@ pub(crate) fn subcommand_named(name: &str) -> Option<Subcommand>
         "list" => Some(Subcommand::Ask(Topic::Rules)),
         "context" => Some(Subcommand::Ask(Topic::Context)),
         "palette" => Some(Subcommand::Ask(Topic::Palette)),
+        "log" => Some(Subcommand::Ask(Topic::Log)),
         "handlers" => Some(Subcommand::Handlers),
         "assemble" => Some(Subcommand::Translate(Direction::Assemble)),
         "disassemble" => Some(Subcommand::Translate(Direction::Disassemble)),
@@ -148,6 +158,17 @@ fn level_of(name: Option<&str>) -> Severity
     }
 }
 
+/// How the problems of `check` are written. `clap` refuses every other name.
+fn format_asked(matches: &ArgMatches<'_>) -> Format
+    ensures { IsFormat (rows_of (found_of matches.now))
+        (first_of (codes "format") (rows_of (found_of matches.now))) result }
+{
+    match text_given(matches, "format") {
+        Some(name) => Format::named(name).unwrap_or(Format::Text),
+        None => Format::from(form_asked(matches)),
+    }
+}
+
 /// What the matches of `check` look for, and what they show.
 ///
 /// Errors: `NoMemory` from the lists of names.
@@ -160,7 +181,18 @@ pub(crate) fn wishes_in<'a>(alloc: Global, matches: &ArgMatches<'a>) -> Result<W
         only: all_texts(alloc, matches, "only")?,
         level: level_of(text_given(matches, "level")),
         commands: text_given(matches, "commands"),
+        format: format_asked(matches),
     })
+}
+
+/// The question that the matches of `list` ask.
+fn rules_asked<'a>(matches: &ArgMatches<'a>) -> Question<'a>
+    ensures { IsAsked Topic.Rules (rows_of (found_of matches.now)) result }
+{
+    if matches.get_flag("unbound") {
+        return Question::Unbound;
+    }
+    Question::Rules(text_given(matches, "key"), text_given(matches, "command"))
 }
 
 /// The question that the matches of a command ask.
@@ -169,11 +201,12 @@ pub(crate) fn question_in<'a>(topic: Topic, matches: &ArgMatches<'a>) -> Questio
 {
     match topic {
         Topic::Press => Question::Press(text_or_empty(matches, "key")),
-        Topic::Rules => Question::Rules(text_given(matches, "key")),
+        Topic::Rules => rules_asked(matches),
         Topic::Context => Question::Context,
         Topic::Palette => Question::Palette(
             text_or_empty(matches, "query"),
             text_given(matches, "command"),
         ),
+        Topic::Log => Question::Log,
     }
 }

@@ -2,17 +2,19 @@
 ghost use Rattle.std.specs.Prelude.{◌≡◌, false, IfOk, codes, map};
 ghost use Rattle.clap.specs.Words.{App, Rule, kind_of, new_app, rule_of, with_rule, with_subcommand};
 ghost use Rattle.kb_cli.specs.CommandLine.{NamesPlatforms};
-ghost use Rattle.kb_keycheck.specs.CommandLine.{IsCommand, IsMatched, Matched, NamesLevels, NamesLints};
+ghost use Rattle.kb_keycheck.specs.CommandLine.{IsCommand, IsMatched, Matched, NamesFormats, NamesLevels};
+ghost use Rattle.kb_keycheck.specs.CommandLine.{NamesLints, format_rule};
 ghost use Rattle.kb_keycheck.specs.CommandLine.{assemble_app, bare_app, check_app, context_app};
 ghost use Rattle.kb_keycheck.specs.CommandLine.{disassemble_app};
 ghost use Rattle.kb_keycheck.specs.CommandLine.{explain_app, handlers_app, json_rule, keycheck_app};
-ghost use Rattle.kb_keycheck.specs.CommandLine.{level_rule, only_rule};
-ghost use Rattle.kb_keycheck.specs.CommandLine.{lints_rule, list_app, palette_app, some_dirs_rule};
+ghost use Rattle.kb_keycheck.specs.CommandLine.{level_rule, only_rule, unbound_rule};
+ghost use Rattle.kb_keycheck.specs.CommandLine.{lints_rule, list_app, log_app, palette_app, some_dirs_rule};
 ghost use Rattle.kb_keycheck.specs.CommandLine.{with_files, with_script, word_rule};
 
 use clap::error::ErrorKind;
 use clap::{Arg, ArgAction, ArgMatches, Command, Error};
 use kb_base::NoMemory;
+use kb_check_report::FORMAT_NAMES;
 use kb_cli::{VERSION, dirs_argument, file_option, platform_names, platform_option, valued_option};
 use kb_problems::{LINT_NAMES, SEVERITY_NAMES};
 use std::alloc::Global;
@@ -29,6 +31,13 @@ fn level_names<'a>() -> &'a [&'a str]
     ensures { NamesLevels result }
 {
     SEVERITY_NAMES.as_slice()
+}
+
+/// The names of the formats.
+fn format_names<'a>() -> &'a [&'a str]
+    ensures { NamesFormats result }
+{
+    FORMAT_NAMES.as_slice()
 }
 
 /// The option `--json`.
@@ -72,6 +81,20 @@ fn level_option<'a>(alloc: Global, levels: &'a [&'a str]) -> Arg<'a>
         .value_name("LEVEL")
         .value_parser(levels)
         .help("Show problems that are this bad or worse [default: warning]")
+}
+
+/// The option `--format FORMAT`, where FORMAT is one of these names.
+fn format_option<'a>(alloc: Global, formats: &'a [&'a str]) -> Arg<'a>
+    ensures rule { rule_of result ≡ format_rule formats.entry }
+    ensures local { result.global ≡ false }
+{
+    Arg::new(alloc, "format")
+        .long("format")
+        .value_name("FORMAT")
+        .value_parser(formats)
+        .help(
+            "How problems are written: github and sarif for services, diff as what patch -p0 takes",
+        )
 }
 
 /// A word that must be there.
@@ -166,9 +189,10 @@ fn check<'a>(
     platforms: &'a [&'a str],
     lints: &'a [&'a str],
     levels: &'a [&'a str],
+    formats: &'a [&'a str],
 ) -> Result<Command<'a>, NoMemory>
     ensures { IfOk result (λ made.
-        IsCommand (check_app platforms.entry lints.entry levels.entry) made) }
+        IsCommand (check_app platforms.entry lints.entry levels.entry formats.entry) made) }
 {
     let command = command(
         alloc,
@@ -188,7 +212,8 @@ fn check<'a>(
         level_option(alloc, levels),
     )?;
     let command = with(with(command, allow)?, warn)?;
-    with_files(alloc, with(command, commands)?, platforms)
+    let command = with(with(command, commands)?, format_option(alloc, formats))?;
+    with_files(alloc, command, platforms)
 }
 
 /// `explain`.
@@ -203,6 +228,17 @@ fn explain<'a>(alloc: Global, platforms: &'a [&'a str]) -> Result<Command<'a>, N
         "The keystrokes to press, as in a rule's \"key\"; the last one is explained",
     );
     with_script(alloc, with(command, key)?, platforms)
+}
+
+/// The option `--unbound`.
+fn unbound_option<'a>(alloc: Global) -> Arg<'a>
+    ensures rule { rule_of result ≡ unbound_rule }
+    ensures local { result.global ≡ false }
+{
+    Arg::new(alloc, "unbound")
+        .long("unbound")
+        .action(ArgAction::SetTrue)
+        .help("The commands of the palette that no rule starts, in place of rules")
 }
 
 /// `list`.
@@ -220,7 +256,9 @@ fn list<'a>(alloc: Global, platforms: &'a [&'a str]) -> Result<Command<'a>, NoMe
         "KEY",
         "Only rules whose keystrokes begin with these, as in a rule's \"key\"",
     );
-    with_script(alloc, with(command, key)?, platforms)
+    let id = valued_option(alloc, "command", "ID", "Only rules that start this command");
+    let command = with(with(with(command, key)?, id)?, unbound_option(alloc))?;
+    with_script(alloc, command, platforms)
 }
 
 /// `context`.
@@ -252,6 +290,24 @@ fn palette<'a>(alloc: Global, platforms: &'a [&'a str]) -> Result<Command<'a>, N
         "Only this command, contributed or not",
     );
     with_script(alloc, with(with(command, query)?, id)?, platforms)
+}
+
+/// `log`.
+fn log<'a>(alloc: Global, platforms: &'a [&'a str]) -> Result<Command<'a>, NoMemory>
+    ensures { IfOk result (λ made. IsCommand (log_app platforms.entry) made) }
+{
+    let command = command(
+        alloc,
+        "log",
+        "Says of each key press of a script what it does, and why.",
+    );
+    let script = word(
+        alloc,
+        "script",
+        "SCRIPT",
+        "The script; /dev/stdin is standard input",
+    );
+    with_files(alloc, with(command, script)?, platforms)
 }
 
 /// `handlers`.
@@ -325,21 +381,25 @@ fn with_subcommand<'a>(
     command.subcommand(subcommand)
 }
 
-/// The command of the program, with the names of the platforms, of the lints and of the severities.
+/// The command of the program, with the names of the platforms, of the lints, of the severities and of
+/// the formats.
 fn command_of<'a>(
     alloc: Global,
     platforms: &'a [&'a str],
     lints: &'a [&'a str],
     levels: &'a [&'a str],
+    formats: &'a [&'a str],
 ) -> Result<Command<'a>, NoMemory>
     ensures { IfOk result (λ made.
-        IsCommand (keycheck_app platforms.entry lints.entry levels.entry) made) }
+        IsCommand (keycheck_app platforms.entry lints.entry levels.entry formats.entry) made) }
 {
-    let command = with_subcommand(bare(alloc)?, check(alloc, platforms, lints, levels)?)?;
+    let check = check(alloc, platforms, lints, levels, formats)?;
+    let command = with_subcommand(bare(alloc)?, check)?;
     let command = with_subcommand(command, explain(alloc, platforms)?)?;
     let command = with_subcommand(command, list(alloc, platforms)?)?;
     let command = with_subcommand(command, context(alloc, platforms)?)?;
     let command = with_subcommand(command, palette(alloc, platforms)?)?;
+    let command = with_subcommand(command, log(alloc, platforms)?)?;
     let command = with_subcommand(command, handlers(alloc)?)?;
     let command = with_subcommand(command, assemble(alloc)?)?;
     with_subcommand(command, disassemble(alloc)?)
@@ -352,12 +412,13 @@ fn matched_by<'a>(
     platforms: &'a [&'a str],
     lints: &'a [&'a str],
     levels: &'a [&'a str],
+    formats: &'a [&'a str],
     words: &'a [&'a str],
 ) -> Result<ArgMatches<'a>, Error>
-    ensures { Matched (keycheck_app platforms.entry lints.entry levels.entry)
+    ensures { Matched (keycheck_app platforms.entry lints.entry levels.entry formats.entry)
         (map (λ w. w.now) words.now) result }
 {
-    command_of(alloc, platforms, lints, levels)?.try_get_matches_from(words)
+    command_of(alloc, platforms, lints, levels, formats)?.try_get_matches_from(words)
 }
 
 /// Matches the words of a command line, of which the first is the program's name. The contract gives them the
@@ -365,14 +426,28 @@ fn matched_by<'a>(
 pub(crate) fn matched<'a>(alloc: Global, words: &'a [&'a str]) -> Result<ArgMatches<'a>, Error>
     ensures { IsMatched (map (λ w. w.now) words.now) result }
 {
-    matched_by(alloc, platform_names(), lint_names(), level_names(), words)
+    matched_by(
+        alloc,
+        platform_names(),
+        lint_names(),
+        level_names(),
+        format_names(),
+        words,
+    )
 }
 
 /// The error of a command line with a word that is no UTF-8 text.
 pub(crate) fn not_text<'a>(alloc: Global) -> Result<Error, NoMemory>
     ensures { IfOk result (λ made. kind_of made ≡ ErrorKind.InvalidValue) }
 {
-    command_of(alloc, platform_names(), lint_names(), level_names())?.error(
+    command_of(
+        alloc,
+        platform_names(),
+        lint_names(),
+        level_names(),
+        format_names(),
+    )?
+    .error(
         ErrorKind::InvalidValue,
         "a word of the command line is no UTF-8 text",
     )

@@ -14,5 +14,6 @@ mod messages;
 
 pub use bundle::{Bundle, LIMIT};
 pub use bundle_fault::BundleFault;
-pub use kb_exchange::{Exchanged, Move, Moves, Span};
+pub use kb_exchange::{Exchanged, Move, Moves};
+pub use kb_places::Span;
 pub use manifest::localize;

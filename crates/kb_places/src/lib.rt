@@ -24,4 +24,4 @@ pub use opening::{open, without_mark};
 pub use path::{Step, value_at};
 pub use position::{Position, Walker};
 pub use source::Source;
-pub use span::Span;
+pub use span::{Span, part_of};

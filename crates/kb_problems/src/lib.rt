@@ -6,6 +6,7 @@
 
 pub mod cause;
 pub mod choices;
+mod clause_mistakes;
 pub mod commands;
 pub mod element;
 mod entries;
@@ -13,7 +14,7 @@ pub mod faulty;
 mod grouped;
 mod handler_culprit;
 mod handler_sentence;
-mod key_mistakes;
+pub mod key_mistakes;
 mod layout_culprit;
 mod manifest_culprit;
 mod meaning;
@@ -30,6 +31,7 @@ pub use choices::Choices;
 pub use commands::{KnownCommands, LIST_COMMAND};
 pub use element::{removal_problem, rule_problem, spot_of};
 pub use faulty::clause_member;
+pub use key_mistakes::key_sentence;
 pub use near::is_near;
 pub use opened::{Opened, OpenedFiles, open_all};
 pub use problem::{Problem, linted, push_other};

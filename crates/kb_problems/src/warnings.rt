@@ -8,6 +8,7 @@ ghost use Rattle.kb_problems.specs.Starts.{file_in};
 ghost use Rattle.kb_problems.specs.declared.cause.Cause.TheVariants.{Warned};
 
 use crate::cause::Cause;
+use crate::clause_mistakes::clause_sentence;
 use crate::faulty::{Faulty, faulty_in, is_of_clause, is_of_keys};
 use crate::key_mistakes::key_sentence;
 use crate::opened::{Opened, OpenedFiles, file_of};
@@ -168,8 +169,9 @@ fn sentence_of(
             let said = key_sentence(alloc, kind, text)?;
             format!(in alloc; "{said}; {outcome}")
         }
-        (Faulty::Member(_), kind) if is_of_clause(kind) => {
-            let said = kind.meaning();
+        (Faulty::Member(name), kind) if is_of_clause(kind) => {
+            let text = entry.get(name).and_then(Value::as_str).unwrap_or("");
+            let said = clause_sentence(alloc, kind, text)?;
             format!(in alloc; "{said}; {outcome}")
         }
         (Faulty::Member("args"), _) => {

@@ -60,6 +60,7 @@ function reasonOf(members, isChord) {
   const verdict = plain(members.get("verdict"));
   if (verdict === "taken") return isChord ? "is taken, and has more keystrokes" : "is taken";
   if (verdict === "removed") return "is removed, by ";
+  if (verdict === "disabled") return "its extension isn't enabled";
   if (verdict === "dropped") {
     return `is dropped, for ${plain(members.get("number"))} ${plain(members.get("name"))}`;
   }
@@ -70,14 +71,23 @@ function reasonOf(members, isChord) {
 function whyItFails(because) {
   const reads = because.get("reads").items.map(({ members }) => valueOf(members));
   if (reads.length === 0) return "it is false in every context";
-  return `${plain(because.get("literal"))} doesn't hold: ${reads.join("; ")}`;
+  const literal = plain(because.get("literal"));
+  if (because.has("unread")) return `${literal} never holds: its pattern isn't supported`;
+  return `${literal} doesn't hold: ${reads.join("; ")}`;
 }
 
 // The value of a key that a literal reads. (A number of 64 bits stays as it is written.)
 function valueOf(members) {
-  const key = plain(members.get("key")), value = members.get("value");
-  if (!value) return `${key} has no value`;
+  const key = plain(members.get("key")), unseen = members.get("unseen");
+  if (unseen) {
+    const value = wordsOf(unseen.members.get("value")), scope = plain(unseen.members.get("scope"));
+    return `${key} is ${value} in scope ${scope}, which the focus doesn't see`;
+  }
+  if (!members.has("value")) return `${key} has no value`;
+  return `${key} is ${wordsOf(members.get("value"))}, in scope ${plain(members.get("scope"))}`;
+}
+
+function wordsOf(value) {
   const names = value.members?.get("members");
-  const text = names ? `an object with the members ${json(names)}` : json(value);
-  return `${key} is ${text}, in scope ${plain(members.get("scope"))}`;
+  return names ? `an object with the members ${json(names)}` : json(value);
 }

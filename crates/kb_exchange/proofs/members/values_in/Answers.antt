@@ -3,7 +3,7 @@ use Rattle.std.proofs.lemmas.List.{length-drop, take_rest}
 use Rattle.kb_jsonc.specs.Pieces.{string_len}
 use Rattle.kb_exchange.specs.declared.members.Before.{Before}
 use Rattle.kb_exchange.specs.declared.members.Before.TheVariants as before
-use Rattle.kb_exchange.specs.declared.span.Span.{Span}
+use Rattle.kb_places.specs.declared.span.Span.{Span}
 use Rattle.kb_exchange.specs.Span.{AreInOrder, span}
 use Rattle.kb_exchange.specs.Tokens.{tokens_from}
 use Rattle.kb_exchange.specs.Values.{is_named, values_behind}

@@ -4,8 +4,8 @@ use Rattle.kb_explain_report.proofs.press_said.say_does.Goals as goal
 
 pub returns-in_ok-say_text-in-Text : goal.returns-in_ok-say_text-in-Text
 returns-in_ok-say_text-in-Text g c = rw c.in-Text.is record {
-  line = string_bytes c.in_ok-step_text-in-Text.field-0;
-  is = c.in_ok-step_text-in-Text.ensures;
+  line = string_bytes c.in_ok-does_said-in-Text.field-0;
+  is = c.in_ok-does_said-in-Text.ensures;
   got = c.in_ok-say_text-in-Text.ensures.ok;
 }
 

@@ -1,0 +1,18 @@
+use Rattle.std.proofs.Common.{List, subst}
+use Rattle.std.specs.Borrow.{Bor}
+use Rattle.kb_explain_report.specs.DisabledSaid.{SaysDisabled, SaysIdle}
+use Rattle.kb_explain_report.specs.Said.{WritesEach}
+use Rattle.kb_explain_report.proofs.SaidLemmas.{wrote_mapped}
+use Rattle.kb_explain_report.proofs.disabled_said.say_disabled.Goals as goal
+use Rattle.kb_rules.specs.declared.rule.Rule.{Rule}
+
+pub returns : goal.returns
+returns g c =
+    let old = g.W.Write.contents c.args.out.now in
+    let new = g.W.Write.contents c.say_each.new.out in
+    let is = SaysDisabled c.args.form c.args.named.now in
+    let said = subst
+    (λ (l : List (Bor Rule)). WritesEach (SaysIdle c.args.form c.args.named.now) l old new)
+    c.as_slice.ensures.value c.in_ok-say_each.ensures in
+    subst (λ (l : List Rule). WritesEach is l old new) c.in_ok-all.ensures
+    (wrote_mapped (λ r. r.now) is c.in_ok-all.all.items old new said)
