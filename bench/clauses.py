@@ -8,6 +8,21 @@ from inputs import paths_in, random_keys, random_rules, write
 from measuring import TRIES, doubled, measure
 
 
+# Context keys of VS Code, of 17 to 32 bytes.
+EDITOR_KEYS = """
+accessibilityModeEnabled activeEditorCanToggleReadonly activeEditorGroupEmpty activeEditorIsPinned
+breadcrumbsVisible breakpointWidgetVisible callHierarchyVisible canNavigateForward commentEditorFocused
+debugConfigurationType editorHasCodeActionsProvider editorHasDefinitionProvider editorHasFormattingProvider
+editorHasMultipleSelections editorHasRenameProvider editorHasSelection explorerResourceIsFolder
+explorerViewletFocus explorerViewletVisible findInputFocussed findWidgetVisible foldingRangeProviderEnabled
+hasSnippetCompletions inCompositeEditor inlineSuggestionVisible inReferenceSearchEditor
+markersNavigationVisible multipleEditorGroups notebookCellEditorFocused notebookEditorFocused
+notificationCenterVisible parameterHintsVisible quickInputCursorAtEndOfQuickBox renameInputVisible
+searchViewletVisible suggestWidgetHasSelection suggestWidgetVisible terminalHasBeenCreated
+terminalProcessSupported
+""".split()
+
+
 def changes(folder):
     """Lines that set a key and press one in turn, over many context keys."""
     layout, user, script, out = paths_in(folder, "layout.json", "user.json", "script", "out")
@@ -61,12 +76,11 @@ def clause_lines(chance, names, bound, count):
             yield "key %s\n" % chance.choice(bound)
 
 
-def measure_clauses(folder, title, count_of_keys, counts):
-    """Presses over rules whose clauses use this many context keys, and changes of the keys. True if a limit
-    is exceeded."""
+def measure_clauses(folder, title, names, counts):
+    """Presses over rules whose clauses use these context keys, and changes of the keys. True if a limit is
+    exceeded."""
     layout, user, script, out = paths_in(folder, "layout.json", "user.json", "script", "out")
     chance = random.Random(4)
-    names = ["key%d" % number for number in range(count_of_keys)]
     bound = random_keys(chance, 20)
     write(layout, json.dumps(nested_layout(names)))
     made = random_rules(chance, [chance.choice(bound) for _ in range(1_000)])
@@ -91,12 +105,19 @@ def measure_clauses(folder, title, count_of_keys, counts):
 
 def clauses(folder):
     """Presses over rules with clauses, and changes of context keys."""
-    return measure_clauses(folder, "clauses", 200, (100_000, 200_000, 400_000))
+    names = ["key%d" % number for number in range(200)]
+    return measure_clauses(folder, "clauses", names, (100_000, 200_000, 400_000))
 
 
 def context(folder):
     """The same as `clauses`, with more context keys."""
-    return measure_clauses(folder, "context", 1_000, (25_000, 50_000, 100_000))
+    names = ["key%d" % number for number in range(1_000)]
+    return measure_clauses(folder, "context", names, (25_000, 50_000, 100_000))
+
+
+def editor_keys(folder):
+    """The same as `clauses`, with context keys of VS Code."""
+    return measure_clauses(folder, "editor keys", EDITOR_KEYS, (100_000, 200_000, 400_000))
 
 
 def long_clause(folder):

@@ -1,3 +1,4 @@
+pub mod FingerprintLemmas
 pub mod HashedMapLemmas
 pub mod TextLemmas
 pub mod TextMapLemmas

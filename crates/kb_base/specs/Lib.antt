@@ -2,6 +2,7 @@ pub mod Blank
 pub mod ExtensionId
 pub mod Failure
 pub mod Fault
+pub mod Fingerprint
 pub mod HashedMap
 pub mod HashedText
 pub mod Note

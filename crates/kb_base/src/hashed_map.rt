@@ -1,9 +1,11 @@
 //! Maps that find a text by its hash.
-ghost use Rattle.std.specs.Prelude.{◌≡◌, ◌<◌, ℕ, OnOk, OnErr, IfOk, true, false, is_some, length, option_map};
+ghost use Rattle.std.specs.Prelude.{◌≡◌, ◌<◌, ℕ, List, OnOk, OnErr, IfOk, IfSome, Some, None, true, false};
+ghost use Rattle.std.specs.Prelude.{is_some, length, option_map};
 ghost use Rattle.std.specs.FinMap as map;
 ghost use Rattle.kb_base.specs.HashedMap.{is_marked};
 ghost use Rattle.kb_base.specs.HashedText.{hash_of};
 
+use crate::fingerprint::narrow;
 use crate::hashed_text::{HASHES, HashedText, hash_of};
 use crate::memory::NoMemory;
 use crate::text_map::TextMap;
@@ -41,11 +43,6 @@ impl<V> Model for HashedMap<V> {
     ghost view = { λ m. m.table };
 
     ghost invariant = { λ m. HasMarks m.table m.marks.items };
-}
-
-/// A number of 32 bits, or the largest one in place of a larger number.
-fn narrow(number: usize) -> u32 {
-    u32::try_from(number).unwrap_or(u32::MAX)
 }
 
 /// The mark of a hash, if there is one.
@@ -103,6 +100,22 @@ impl<V: Drop> HashedMap<V> {
         let mark = mark_of(&self.marks, hash)?;
         let value = self.table.get_near(mark.index as usize, key)?;
         Some((value, mark.note as usize))
+    }
+
+    /// Whether the map may have a key with this hash. If not, it has none.
+    pub fn may_have(&self, hash: usize) -> bool
+        ensures { result ≡ false → (key : List ℕ) → hash_of key ≡ hash → map.get self.now key ≡ None }
+    {
+        mark_of(&self.marks, hash).is_some()
+    }
+
+    /// An entry with its note: if the map has a key with this hash, most likely that of one of these keys.
+    pub fn entry_of(&self, hash: usize) -> Option<(&str, &V, usize)>
+        ensures { IfSome result (λ entry. map.get self.now entry.0.now ≡ Some entry.1.now) }
+    {
+        let mark = mark_of(&self.marks, hash)?;
+        let (key, value) = self.table.entry_at(mark.index as usize)?;
+        Some((key, value, mark.note as usize))
     }
 
     /// Whether the map has the key.

@@ -6,7 +6,7 @@ use crate::text::Text;
 use std::marker::Model;
 
 /// The number of hashes.
-pub(crate) const HASHES: usize = 1024;
+pub const HASHES: usize = 1024;
 
 /// A text with its hash, by which a [`crate::HashedMap`] finds it. Contracts see the bytes of the text.
 #[derive(Debug, Drop)]

@@ -1,6 +1,6 @@
 //! Maps with texts as keys.
 ghost use Rattle.std.specs.Prelude.{◌≡◌, ◌<◌, ◌^◌, ◌↔◌, ℕ, List, IsTrue, false, is_some, option_copied};
-ghost use Rattle.std.specs.Prelude.{OnOk, OnErr, IfOk};
+ghost use Rattle.std.specs.Prelude.{OnOk, OnErr, IfOk, IfSome, Some};
 ghost use Rattle.std.specs.Prelude.{map as mapped};
 ghost use Rattle.std.specs.FinMap as map;
 ghost use Rattle.std.specs.List.{list_any};
@@ -87,6 +87,17 @@ impl<V: Drop> TextMap<V> {
         ensures { is_some result ≡ map.contains_key self.now key.now }
     {
         self.table.get_index_of(key)
+    }
+
+    /// The key at an index and its value, or `None` if there are fewer keys. A removal of a key may move
+    /// another one.
+    pub fn entry_at(&self, index: usize) -> Option<(&str, &V)>
+        ensures { IfSome result (λ entry. map.get self.now entry.0.now ≡ Some entry.1.now) }
+    {
+        match self.table.get_index(index) {
+            Some((key, value)) => Some((key.as_str(), value)),
+            None => None,
+        }
     }
 
     /// Whether the map has the key.

@@ -3,3 +3,4 @@ pub mod LayoutLemmas
 pub mod OutwardLemmas
 pub mod ScopesLemmas
 pub mod SeatLemmas
+pub mod SightLemmas

@@ -1,8 +1,8 @@
 -- The index of the innermost scope that has a key: the search for it, the map of all keys, and what a change
 -- of one key leaves.
-use Rattle.std.proofs.Common.{◌≡◌, ◌≢◌, ℕ, zero, suc, ◌+◌, ◌<◌, ◌≤◌, length, List, [], ◌∷◌, Bool, true, false}
+use Rattle.std.proofs.Common.{◌≡◌, ◌≢◌, ℕ, zero, suc, ◌<◌, length, List, [], ◌∷◌, Bool, true, false}
 use Rattle.std.proofs.Common.{Option, Some, None, cond, option_map, option_and_then, is_some, slice_get}
-use Rattle.std.proofs.Common.{refl, sym, ◌∙◌, ap, subst, arith, ◌-◌, ◌^◌, min}
+use Rattle.std.proofs.Common.{refl, sym, ◌∙◌, ap, subst, arith}
 use Rattle.std.specs.Option.{option_map_or}
 use Rattle.std.specs.Str.{bytes_eq}
 use Rattle.std.specs.Ordering.{nat_cmp}
@@ -16,8 +16,8 @@ use Rattle.kb_base.specs.TextMap.{filled}
 use Rattle.kb_context.specs.declared.value.ContextValue.{ContextValue}
 use Rattle.kb_context.specs.declared.scope_tree.Scope.{Scope}
 use Rattle.kb_context.specs.Scopes.{Keys, Places, ScopesData, outward, laid, value_at, changed}
-use Rattle.kb_context.specs.Scopes.{seat_from, seat, IsFlat, IsFlatBut, place_of, with_value, with_value_at}
-use Rattle.kb_context.specs.Scopes.{without_value, without_value_at, context, IsFlatFor, next_revision}
+use Rattle.kb_context.specs.Scopes.{seat_from, seat, IsFlat, IsFlatBut, place_of, with_value_at}
+use Rattle.kb_context.specs.Scopes.{without_value, without_value_at, context}
 use Rattle.kb_context.proofs.OutwardLemmas.{or_else, get-over}
 use Rattle.kb_context.proofs.ScopesLemmas.{length-changed}
 
@@ -192,6 +192,35 @@ asked q s = record { has = is_some (get s.keys q); outer = s.parent }
 abbrev seat_asked : (ℕ → Option ℕ) → ℕ → Asked → Option ℕ
 seat_asked g at e = cond e.has (Some at) (option_and_then g e.outer)
 
+-- the seat, by what is seen of the scope
+by_parts : (q : List ℕ) (g : ℕ → Option ℕ) (at : ℕ) (o : Option Scope)
+    → option_and_then (λ s. cond (is_some (get s.keys q)) (Some at) (option_and_then g s.parent)) o
+    ≡ option_and_then (seat_asked g at) (option_map (asked q) o)
+by_parts q g at None = refl
+by_parts q g at (Some s) = refl
+
+same_outer : (g h : ℕ → Option ℕ) → ((n : ℕ) → g n ≡ h n) → (o : Option ℕ)
+    → option_and_then g o ≡ option_and_then h o
+same_outer g h e None = refl
+same_outer g h e (Some n) = e n
+
+same_body : (q : List ℕ) (g h : ℕ → Option ℕ) → ((n : ℕ) → g n ≡ h n) → (at : ℕ) (o : Option Scope)
+    → option_and_then (λ s. cond (is_some (get s.keys q)) (Some at) (option_and_then g s.parent)) o
+    ≡ option_and_then (λ s. cond (is_some (get s.keys q)) (Some at) (option_and_then h s.parent)) o
+same_body q g h e at None = refl
+same_body q g h e at (Some s) = ap (cond (is_some (get s.keys q)) (Some at)) (same_outer g h e s.parent)
+
+-- scopes that answer the same have the same seat
+module _ (q : List ℕ) (old new : List Scope)
+    (same : (i : ℕ) → option_map (asked q) (slice_get new i) ≡ option_map (asked q) (slice_get old i)) where
+  same_seat : (n at : ℕ) → seat_from new n at q ≡ seat_from old n at q
+  same_seat zero at = refl
+  same_seat (suc n) at =
+      same_body q (λ p. seat_from new n p q) (λ p. seat_from old n p q) (λ p. same_seat n p) at (slice_get new at)
+      ∙ by_parts q (λ p. seat_from old n p q) at (slice_get new at)
+      ∙ ap (option_and_then (seat_asked (λ p. seat_from old n p q) at)) (same at)
+      ∙ sym (by_parts q (λ p. seat_from old n p q) at (slice_get old at))
+
 module _ (f : Keys → Keys) (q : List ℕ) (keeps : (m : Keys) → get (f m) q ≡ get m q) where
   same_scope : (ss : List Scope) (a i : ℕ)
       → option_map (asked q) (slice_get (changed f a ss) i) ≡ option_map (asked q) (slice_get ss i)
@@ -202,38 +231,34 @@ module _ (f : Keys → Keys) (q : List ℕ) (keeps : (m : Keys) → get (f m) q 
   same_scope (s ∷ ss) (suc a) zero = refl
   same_scope (s ∷ ss) (suc a) (suc i) = same_scope ss a i
 
-  -- the seat, by what is seen of the scope
-  by_parts : (g : ℕ → Option ℕ) (at : ℕ) (o : Option Scope)
-      → option_and_then (λ s. cond (is_some (get s.keys q)) (Some at) (option_and_then g s.parent)) o
-      ≡ option_and_then (seat_asked g at) (option_map (asked q) o)
-  by_parts g at None = refl
-  by_parts g at (Some s) = refl
-
-  same_outer : (g h : ℕ → Option ℕ) → ((n : ℕ) → g n ≡ h n) → (o : Option ℕ)
-      → option_and_then g o ≡ option_and_then h o
-  same_outer g h e None = refl
-  same_outer g h e (Some n) = e n
-
-  same_body : (g h : ℕ → Option ℕ) → ((n : ℕ) → g n ≡ h n) → (at : ℕ) (o : Option Scope)
-      → option_and_then (λ s. cond (is_some (get s.keys q)) (Some at) (option_and_then g s.parent)) o
-      ≡ option_and_then (λ s. cond (is_some (get s.keys q)) (Some at) (option_and_then h s.parent)) o
-  same_body g h e at None = refl
-  same_body g h e at (Some s) = ap (cond (is_some (get s.keys q)) (Some at)) (same_outer g h e s.parent)
-
-  same_seat : (ss : List Scope) (a n at : ℕ) → seat_from (changed f a ss) n at q ≡ seat_from ss n at q
-  same_seat ss a zero at = refl
-  same_seat ss a (suc n) at =
-      same_body (λ p. seat_from (changed f a ss) n p q) (λ p. seat_from ss n p q) (λ p. same_seat ss a n p) at
-      (slice_get (changed f a ss) at)
-      ∙ by_parts (λ p. seat_from ss n p q) at (slice_get (changed f a ss) at)
-      ∙ ap (option_and_then (seat_asked (λ p. seat_from ss n p q) at)) (same_scope ss a at)
-      ∙ sym (by_parts (λ p. seat_from ss n p q) at (slice_get ss at))
-
   seat-changed : (s : ScopesData) (a : ℕ)
       → seat (record { scopes = changed f a s.scopes; focus = s.focus }) q ≡ seat s q
   seat-changed s a =
       ap (λ n. seat_from (changed f a s.scopes) n s.focus q) (length-changed f a s.scopes)
-      ∙ same_seat s.scopes a (length s.scopes) s.focus
+      ∙ same_seat q s.scopes (changed f a s.scopes) (same_scope s.scopes a) (length s.scopes) s.focus
+
+  value-changed : (ss : List Scope) (a i : ℕ)
+      → option_and_then (λ s. get s.keys q) (slice_get (changed f a ss) i)
+      ≡ option_and_then (λ s. get s.keys q) (slice_get ss i)
+  value-changed [] a i = refl
+  value-changed (s ∷ ss) zero zero = keeps s.keys
+  value-changed (s ∷ ss) zero (suc i) = refl
+  value-changed (s ∷ ss) (suc a) zero = refl
+  value-changed (s ∷ ss) (suc a) (suc i) = value-changed ss a i
+
+  values-changed : (ss : List Scope) (a : ℕ) (o : Option ℕ)
+      → option_and_then (λ i. option_and_then (λ s. get s.keys q) (slice_get (changed f a ss) i)) o
+      ≡ option_and_then (λ i. option_and_then (λ s. get s.keys q) (slice_get ss i)) o
+  values-changed ss a None = refl
+  values-changed ss a (Some i) = value-changed ss a i
+
+  context-changed : (s : ScopesData) (a : ℕ)
+      → get (context (record { scopes = changed f a s.scopes; focus = s.focus })) q ≡ get (context s) q
+  context-changed s a =
+      sym (value_at_seat (record { scopes = changed f a s.scopes; focus = s.focus }) q)
+      ∙ values-changed s.scopes a (seat (record { scopes = changed f a s.scopes; focus = s.focus }) q)
+      ∙ ap (option_and_then (λ i. value_at s i q)) (seat-changed s a)
+      ∙ value_at_seat s q
 
 get-insert_other : {A : Type 0} (m : FinMap (slice_cmp nat_cmp) A) (k : List ℕ) (v : A) (q : List ℕ) → q ≢ k
     → get (insert m k v) q ≡ get m q
@@ -249,31 +274,93 @@ get-remove_other m k q apart =
     ∙ ap (λ (b : Bool). cond b None (get m q))
     (false_from_ne_true _ (λ t. apart ((bytes_eq-Decides q k).0 t)))
 
-pub flat_at : (s new : ScopesData) (flat : Places) (at : ℕ) (k : List ℕ) (v : ContextValue)
-    → new ≡ with_value_at s at k v → IsFlat s flat → IsFlatBut new flat k
-flat_at s new flat at k v e h = λ q apart.
-    h q ∙ sym (seat-changed (λ m. insert m k v) q (λ m. get-insert_other m k v q apart) s at)
-    ∙ ap (λ (t : ScopesData). seat t q) (sym e)
+-- a change of a key leaves the seats and the values of all others
+pub record ChangesBut (s new : ScopesData) (k : List ℕ) : Type 0 where
+  pub seats : (q : List ℕ) → q ≢ k → seat new q ≡ seat s q
+  pub values : (q : List ℕ) → q ≢ k → get (context new) q ≡ get (context s) q
 
-flat_by_place : (s : ScopesData) (flat : Places) (k : List ℕ) (change : ℕ → ScopesData) (o : Option ℕ)
-    → ((at : ℕ) → IsFlatBut (change at) flat k) → IsFlat s flat → IsFlatBut (option_map_or change o s) flat k
-flat_by_place s flat k change None h is = λ q apart. is q
-flat_by_place s flat k change (Some at) h is = h at
+pub set_but : (s : ScopesData) (at : ℕ) (k : List ℕ) (v : ContextValue) → ChangesBut s (with_value_at s at k v) k
+set_but s at k v = record {
+  seats = λ q apart. seat-changed (λ m. insert m k v) q (λ m. get-insert_other m k v q apart) s at;
+  values = λ q apart. context-changed (λ m. insert m k v) q (λ m. get-insert_other m k v q apart) s at;
+}
 
-pub flat_in : (s new : ScopesData) (flat : Places) (name k : List ℕ) (v : ContextValue)
-    → new ≡ with_value s name k v → IsFlat s flat → IsFlatBut new flat k
-flat_in s new flat name k v e h =
-    subst (λ (t : ScopesData). IsFlatBut t flat k) (sym e)
-    (flat_by_place s flat k (λ at. with_value_at s at k v) (place_of name s.scopes)
-    (λ at. flat_at s _ flat at k v refl h) h)
+unset_at_but : (s : ScopesData) (at : ℕ) (k : List ℕ) → ChangesBut s (without_value_at s at k) k
+unset_at_but s at k = record {
+  seats = λ q apart. seat-changed (λ m. remove m k) q (λ m. get-remove_other m k q apart) s at;
+  values = λ q apart. context-changed (λ m. remove m k) q (λ m. get-remove_other m k q apart) s at;
+}
 
-pub flat_without : (s new : ScopesData) (flat : Places) (name k : List ℕ)
-    → new ≡ without_value s name k → IsFlat s flat → IsFlatBut new flat k
-flat_without s new flat name k e h =
-    subst (λ (t : ScopesData). IsFlatBut t flat k) (sym e)
-    (flat_by_place s flat k (λ at. without_value_at s at k) (place_of name s.scopes)
-    (λ at q apart. h q
-    ∙ sym (seat-changed (λ m. remove m k) q (λ m. get-remove_other m k q apart) s at)) h)
+unset_by_place : (s : ScopesData) (k : List ℕ) (o : Option ℕ)
+    → ChangesBut s (option_map_or (λ at. without_value_at s at k) o s) k
+unset_by_place s k None = record { seats = λ q apart. refl; values = λ q apart. refl }
+unset_by_place s k (Some at) = unset_at_but s at k
+
+pub unset_but : (s : ScopesData) (name k : List ℕ) → ChangesBut s (without_value s name k) k
+unset_but s name k = unset_by_place s k (place_of name s.scopes)
+
+-- ---- the seat of a key that is set where it is seen
+
+seat_has_own : (ss : List Scope) (k : List ℕ) (i at : ℕ) (s : Scope) (own : Option ContextValue) (rest : Option ℕ)
+    → slice_get ss i ≡ Some s → get s.keys k ≡ own → cond (is_some own) (Some i) rest ≡ Some at
+    → (rest ≡ Some at → is_some (option_and_then (λ t. get t.keys k) (slice_get ss at)) ≡ true)
+    → is_some (option_and_then (λ t. get t.keys k) (slice_get ss at)) ≡ true
+seat_has_own ss k i at s (Some v) rest is own e h =
+    let same : i ≡ at = cc in
+    ap (λ j. is_some (option_and_then (λ t. get t.keys k) (slice_get ss j))) (sym same)
+    ∙ ap (λ o. is_some (option_and_then (λ t. get t.keys k) o)) is ∙ ap is_some own
+seat_has_own ss k i at s None rest is own e h = h e
+
+seat_has_parent : (ss : List Scope) (k : List ℕ) (n at : ℕ) (o : Option ℕ)
+    → option_and_then (λ q. seat_from ss n q k) o ≡ Some at
+    → ((q : ℕ) → seat_from ss n q k ≡ Some at
+    → is_some (option_and_then (λ t. get t.keys k) (slice_get ss at)) ≡ true)
+    → is_some (option_and_then (λ t. get t.keys k) (slice_get ss at)) ≡ true
+seat_has_parent ss k n at None e h = absurd (let no : Bool = true in cc)
+seat_has_parent ss k n at (Some q) e h = h q e
+
+seat_has_scope : (ss : List Scope) (k : List ℕ) (n i at : ℕ) (o : Option Scope) → slice_get ss i ≡ o
+    → option_and_then (λ s. cond (is_some (get s.keys k)) (Some i)
+    (option_and_then (λ q. seat_from ss n q k) s.parent)) o ≡ Some at
+    → ((q : ℕ) → seat_from ss n q k ≡ Some at
+    → is_some (option_and_then (λ t. get t.keys k) (slice_get ss at)) ≡ true)
+    → is_some (option_and_then (λ t. get t.keys k) (slice_get ss at)) ≡ true
+seat_has_scope ss k n i at None is e h = absurd (let no : Bool = true in cc)
+seat_has_scope ss k n i at (Some s) is e h =
+    seat_has_own ss k i at s (get s.keys k) (option_and_then (λ q. seat_from ss n q k) s.parent) is refl e
+    (λ r. seat_has_parent ss k n at s.parent r h)
+
+-- the scope at the seat of a key has it
+seat_has : (ss : List Scope) (k : List ℕ) (n i at : ℕ) → seat_from ss n i k ≡ Some at
+    → is_some (option_and_then (λ t. get t.keys k) (slice_get ss at)) ≡ true
+seat_has ss k zero i at e = absurd (let no : Bool = true in cc)
+seat_has ss k (suc n) i at e = seat_has_scope ss k n i at (slice_get ss i) refl e (λ q. seat_has ss k n q at)
+
+get-insert_own : {A : Type 0} (m : FinMap (slice_cmp nat_cmp) A) (k : List ℕ) (v : A) → get (insert m k v) k ≡ Some v
+get-insert_own m k v =
+    get-insert nat_list_cmp_total m k v k ∙ ap (λ (b : Bool). cond b (Some v) (get m k)) (is_eq-slice_cmp k k)
+    ∙ ap (λ (b : Bool). cond b (Some v) (get m k)) ((bytes_eq-Decides k k).1 refl)
+
+-- a scope that has a key answers the same after it was set there
+same_set : (k : List ℕ) (v : ContextValue) (ss : List Scope) (a i : ℕ)
+    → is_some (option_and_then (λ t. get t.keys k) (slice_get ss a)) ≡ true
+    → option_map (asked k) (slice_get (changed (λ m. insert m k v) a ss) i) ≡ option_map (asked k) (slice_get ss i)
+same_set k v [] a i h = refl
+same_set k v (s ∷ ss) zero zero h =
+    ap (λ (b : Bool). Some (record { has = b; outer = s.parent })) (ap is_some (get-insert_own s.keys k v) ∙ sym h)
+same_set k v (s ∷ ss) zero (suc i) h = refl
+same_set k v (s ∷ ss) (suc a) zero h = refl
+same_set k v (s ∷ ss) (suc a) (suc i) h = same_set k v ss a i h
+
+-- so it stays the seat of the key
+pub seat_stays : (s : ScopesData) (at : ℕ) (k : List ℕ) (v : ContextValue) → seat s k ≡ Some at
+    → seat (with_value_at s at k v) k ≡ Some at
+seat_stays s at k v e =
+    ap (λ n. seat_from (changed (λ m. insert m k v) at s.scopes) n s.focus k)
+    (length-changed (λ m. insert m k v) at s.scopes)
+    ∙ same_seat k s.scopes (changed (λ m. insert m k v) at s.scopes)
+    (λ i. same_set k v s.scopes at i (seat_has s.scopes k (length s.scopes) s.focus at e))
+    (length s.scopes) s.focus ∙ e
 
 -- ---- the map of one more key
 
@@ -289,11 +376,6 @@ seat_by s flat k new o h is own others = λ q. by_test (bytes_eq q k) q refl
         (own ∙ sym is)
     by_test false q e = let apart : q ≢ k = λ p. false_is_not_true (sym e ∙ (bytes_eq-Decides q k).1 p) in
         others q apart ∙ h q apart
-
-get-insert_own : (m : Places) (k : List ℕ) (v : ℕ) → get (insert m k v) k ≡ Some v
-get-insert_own m k v =
-    get-insert nat_list_cmp_total m k v k ∙ ap (λ (b : Bool). cond b (Some v) (get m k)) (is_eq-slice_cmp k k)
-    ∙ ap (λ (b : Bool). cond b (Some v) (get m k)) ((bytes_eq-Decides k k).1 refl)
 
 get-remove_own : (m : Places) (k : List ℕ) → get (remove m k) k ≡ None
 get-remove_own m k =
@@ -312,14 +394,7 @@ flat_remove s flat new k h is e =
     subst (IsFlat s) (sym e) (seat_by s flat k (remove flat k) None h is (get-remove_own flat k)
     (λ q apart. get-remove_other flat k q apart))
 
--- ---- the map at the next revision
-
-pub follows : (s : ScopesData) (flat : Places) (r : ℕ) → IsFlat s flat → r < 2 ^ 64 - 2
-    → IsFlatFor s flat (Some (r + 1)) (next_revision r)
-follows s flat r h lt = record {
-  before = (below r lt, omega arith);
-  same = λ e. h;
-}
-  where
-    below : (r : ℕ) → r < 2 ^ 64 - 2 → r + 1 ≤ min (r + 1) (2 ^ 64 - 1)
-    below r lt = omega arith
+-- the map that has the seat of the key already
+pub flat_same : (s : ScopesData) (flat : Places) (k : List ℕ) (at : ℕ) → IsFlatBut s flat k → seat s k ≡ Some at
+    → get flat k ≡ Some at → IsFlat s flat
+flat_same s flat k at h is own = seat_by s flat k flat (Some at) h is own (λ q apart. refl)

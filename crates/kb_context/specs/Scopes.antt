@@ -1,7 +1,7 @@
 -- The model of scopes: the keys that are visible from the focus, and what each call changes and refuses.
 use Rattle.std.specs.Prelude.{◌≡◌, ◌≢◌, ℕ, Bool, zero, suc, ◌+◌, ◌<◌, ◌≤◌, if◌then◌else◌, ◌||◌, nat_lt}
 use Rattle.std.specs.Prelude.{List, [], ◌∷◌, ◌++◌, Option, Some, None, option_map, option_and_then, is_some}
-use Rattle.std.specs.Prelude.{slice_get, length, map, refl, IsSomeAnd, IfSome, ◌-◌, ◌^◌, min}
+use Rattle.std.specs.Prelude.{slice_get, length, map, refl, IsSomeAnd, ◌-◌, ◌^◌, min}
 use Rattle.std.specs.Coded.{Coded, code_by, coded×, coded_ℕ, coded_list}
 use Rattle.std.specs.Option.{option_map_or}
 use Rattle.std.specs.Str.{bytes_eq}
@@ -222,9 +222,3 @@ IsFlat s flat = (key : List ℕ) → get flat key ≡ seat s key
 -- of each key but this one
 abbrev pub IsFlatBut : ScopesData → Places → List ℕ → Type 0
 IsFlatBut s flat key = (other : List ℕ) → other ≢ key → get flat other ≡ seat s other
-
--- The invariant of the flat map: it was made at the present revision or before, never at the largest one,
--- and it is up to date if it was made at the present one.
-pub record IsFlatFor (s : ScopesData) (flat : Places) (made_at : Option ℕ) (revision : ℕ) : Type 0 where
-  pub before : IfSome made_at (λ r. (r ≤ revision) × (r + 1 < 2 ^ 64))
-  pub same : made_at ≡ Some revision → IsFlat s flat

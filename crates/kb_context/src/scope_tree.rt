@@ -1,7 +1,7 @@
 //! Nested scopes of context keys, and the search from the focus outward.
 ghost use Rattle.std.specs.Prelude.{◌≡◌, ◌<◌, ℕ, List, None, Some, length, option_copied, option_and_then};
 ghost use Rattle.std.specs.Prelude.{slice_get, option_map};
-ghost use Rattle.std.specs.Prelude.{IfOk, IfErr, IsSome, OnOk, OnErr, IsTrue};
+ghost use Rattle.std.specs.Prelude.{IfOk, IfErr, IfSome, IsSome, OnOk, OnErr, IsTrue};
 ghost use Rattle.std.specs.FinMap as map;
 ghost use Rattle.kb_context.specs.Scopes.{IsRooted, seen_from, seat_from};
 
@@ -142,9 +142,9 @@ impl Model for ScopeTree {
 impl ScopeTree {
     ghost use Rattle.kb_base.specs.Failure.{IsRefusal, IsRefusalOrMemory};
     ghost use Rattle.kb_context.specs.Layout.{layout_fault, scopes_of};
-    ghost use Rattle.kb_context.specs.Scopes.{context, place_of, value_in, value_at, has_room};
-    ghost use Rattle.kb_context.specs.Scopes.{set_fault_at, set_fault};
-    ghost use Rattle.kb_context.specs.Scopes.{with_value_at, with_value, without_value, with_focus};
+    ghost use Rattle.kb_context.specs.Scopes.{context, place_of, value_at, has_room};
+    ghost use Rattle.kb_context.specs.Scopes.{set_fault_at};
+    ghost use Rattle.kb_context.specs.Scopes.{with_value_at, without_value, with_focus};
     ghost use Rattle.kb_context.specs.Scopes.{ReachesRoot, ChangesOnly, ChangesOnlyIn, seat, IsFlat};
 
     /// Builds the scopes of a layout.
@@ -273,8 +273,10 @@ impl ScopeTree {
         Ok(())
     }
 
-    /// Sets a key in the scope at index `at`. Errors: as for `set`, without `UnknownScope`.
-    fn set_at(
+    /// Sets a key in the scope at index `at`. Errors: `TooManyKeys` (22) if the scope lacks the key and all
+    /// scopes together have `KEY_LIMIT` keys. `NoMemory` (5), only if the scope lacks the key and the other
+    /// doesn't apply.
+    pub(crate) fn set_at(
         &mut self,
         at: usize,
         key: &str,
@@ -295,47 +297,25 @@ impl ScopeTree {
         Ok(())
     }
 
-    /// Sets a key in the scope that is named `scope`.
-    ///
-    /// Errors: `UnknownScope` (20) if no scope has the name. `TooManyKeys` (22) if the scope lacks the key
-    /// and all scopes together have `KEY_LIMIT` keys. `NoMemory` (5), only if the scope lacks the key and
-    /// neither of the others applies.
-    pub(crate) fn set(
-        &mut self,
-        scope: &str,
-        key: &str,
-        value: ContextValue,
-    ) -> Result<(), Failure<ScopeFault>>
-        ensures allowed { OnOk result (set_fault self.old scope.now key.now ≡ None) }
-        ensures ok { OnOk result (self.new ≡ with_value self.old scope.now key.now value) }
-        ensures err { IfErr result (IsRefusalOrMemory (set_fault self.old scope.now key.now)) }
-        ensures unchanged { OnErr result (self.new ≡ self.old) }
-        ensures absent { OnErr result (value_in self.old scope.now key.now ≡ None) }
-        ensures change { OnOk result (ChangesOnlyIn self.old self.new scope.now key.now (Some value)) }
+    /// The index of the scope that is named `scope`, if there is one.
+    pub(crate) fn place(&self, scope: &str) -> Option<usize>
+        ensures place { result ≡ place_of scope.now self.now.scopes }
+        ensures inside { IfSome result (λ at. at < length self.now.scopes) }
     {
         match self.places.get(scope) {
-            Some(&at) => self.set_at(at, key, value),
-            None => Err(Failure::Fault(ScopeFault::UnknownScope)),
+            Some(&at) => Some(at),
+            None => None,
         }
     }
 
-    /// Sets a key in the outermost scope, which is the first one. Errors: `TooManyKeys` (22) and
-    /// `NoMemory` (5), as for `set`.
-    pub(crate) fn set_root(
-        &mut self,
-        key: &str,
-        value: ContextValue,
-    ) -> Result<(), Failure<ScopeFault>>
-        ensures allowed { OnOk result (set_fault_at self.old 0 key.now ≡ None) }
-        ensures ok { OnOk result (self.new ≡ with_value_at self.old 0 key.now value) }
-        ensures err { IfErr result (IsRefusalOrMemory (set_fault_at self.old 0 key.now)) }
-        ensures unchanged { OnErr result (self.new ≡ self.old) }
-        ensures absent { OnErr result (value_at self.old 0 key.now ≡ None) }
-        ensures change { OnOk result (ChangesOnly self.old self.new 0 key.now (Some value)) }
+    /// The index of the outermost scope, which is the first one.
+    pub(crate) fn outermost(&self) -> usize
+        ensures first { result ≡ 0 }
+        ensures inside { result < length self.now.scopes }
     {
         // No effect at run time: the proof uses it to see that there is a scope.
         let _focus = &self.focus;
-        self.set_at(0, key, value)
+        0
     }
 
     /// Removes a key from the scope that is named `scope`. Changes nothing if the scope lacks the key.

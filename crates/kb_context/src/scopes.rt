@@ -1,13 +1,19 @@
 //! Scopes of context keys, and which of them has the focus.
-ghost use Rattle.std.specs.Prelude.{◌≡◌, None, Some, OnOk, OnErr, IfOk, IfErr, IsSome, option_copied};
+ghost use Rattle.std.specs.Prelude.{◌≡◌, ◌<◌, ◌-◌, ◌^◌, true, None, Some, OnOk, OnErr, IfOk, IfErr, IfSome};
+ghost use Rattle.std.specs.Prelude.{IsSome, length, option_copied};
 ghost use Rattle.std.specs.FinMap as map;
-ghost use Rattle.kb_context.specs.Scopes.{next_revision, IsFlatBut, IsFlatFor};
+ghost use Rattle.kb_base.specs.HashedText.{hash_of};
+ghost use Rattle.kb_context.specs.AtHand.{IsAtHandBut, IsAtHandFor};
+ghost use Rattle.kb_context.specs.Scopes.{context, next_revision, IsFlat};
+ghost use Rattle.kb_context.specs.Sights.{AnyKey, Tells, TellsSeen};
 
+use crate::at_hand::AtHand;
 use crate::fault::{ScopeFault, UnknownScope};
 use crate::layout::Layout;
 use crate::scope_tree::{Scope, ScopeTree};
+use crate::sight::Sight;
 use crate::value::ContextValue;
-use kb_base::{Failure, HashedMap, HashedText, NoMemory};
+use kb_base::{Failure, HashedText, NoMemory};
 use std::alloc::Global;
 use std::marker::Model;
 
@@ -16,19 +22,20 @@ use std::marker::Model;
 /// Code's documentation of when clause contexts describes it for the parts of an editor's window. The
 /// limits and the refusals are our decision. A refused call changes nothing.
 ///
-/// Contracts see the scopes and the number of changes. A flat map that they don't see has the index of the
-/// innermost scope of each key that the focus sees, as of the revision `made_at`, and notes the index of the
-/// key there. Both stand apart, since commands move the scopes with the core.
+/// Contracts see the scopes and the number of changes. They don't see what is kept at hand of the keys that
+/// the focus sees, as of the revision `made_at`. Both stand apart, since commands move the scopes with the
+/// core.
 #[derive(Debug, Drop)]
 pub struct Scopes {
     tree: Box<ScopeTree>,
-    flat: Box<HashedMap<usize>>,
+    at_hand: Box<AtHand>,
     made_at: Option<u64>,
     revision: u64,
 }
 
 impl Model for Scopes {
-    ghost use Rattle.kb_context.specs.Scopes.{RevisedScopes, IsFlatFor, revised_code};
+    ghost use Rattle.kb_context.specs.AtHand.{IsAtHandFor};
+    ghost use Rattle.kb_context.specs.Scopes.{RevisedScopes, revised_code};
     ghost use Rattle.kb_context.specs.contracts.scope_tree.ScopeTree as base;
 
     ghost Value = { RevisedScopes };
@@ -37,41 +44,48 @@ impl Model for Scopes {
 
     ghost view = { λ s. record { seen = s.tree.value; revision = s.revision } };
 
-    ghost invariant = { λ s. IsFlatFor s.tree.value s.flat.value s.made_at s.revision };
+    ghost invariant = { λ s. IsAtHandFor s.tree.value s.at_hand.value s.made_at s.revision };
 }
 
-/// The revision behind `revision`, at which a map is up to date that was so before a change of one key and
-/// now has the index of the innermost scope of this key; or `None`, if it was not, if it may not be at that
-/// revision, or if it is refused memory.
-fn follow(
+/// What is known of a key before it is set.
+#[derive(Clone, Copy)]
+struct Renewal {
+    /// Whether its innermost scope is the one in which it is set.
+    stays: bool,
+    /// Its hash.
+    hash: usize,
+    /// What the focus sees of it then, if the innermost scope stays.
+    sight: Sight,
+}
+
+/// The revision at which all is at hand after a key was set, as `AtHand::follow` has it.
+fn follow_set(
     tree: &ScopeTree,
-    flat: &mut HashedMap<usize>,
+    at_hand: &mut AtHand,
     made_at: Option<u64>,
     revision: u64,
     key: &str,
+    renewal: Renewal,
 ) -> Option<u64>
-    requires { made_at ≡ Some revision → IsFlatBut tree.now flat.old key.now }
-    ensures { IsFlatFor tree.now flat.new result (next_revision revision) }
+    requires hash { renewal.hash ≡ hash_of key.now }
+    requires room { length at_hand.old.sights.items ≡ 1024 }
+    requires changed { made_at ≡ Some revision → IsAtHandBut tree.now at_hand.old key.now }
+    requires stays { renewal.stays ≡ true → (IsFlat tree.now at_hand.old.flat
+        × Tells AnyKey (context tree.now) renewal.hash renewal.sight)
+        × ((made_at ≡ Some revision) × (revision < 2 ^ 64 - 2)) }
+    ensures { IsAtHandFor tree.now at_hand.new result (next_revision revision) }
 {
-    if made_at != Some(revision) || revision >= u64::MAX - 1 {
-        return None;
+    if !renewal.stays {
+        return at_hand.follow(tree, made_at, revision, key);
     }
-    match tree.seat(key) {
-        Some(at) => match flat.set(tree.allocator(), key, at, tree.index_in_seat(at, key)) {
-            Ok(()) => Some(revision + 1),
-            Err(_) => None,
-        },
-        None => {
-            flat.remove(key);
-            Some(revision + 1)
-        }
-    }
+    at_hand.put(tree, renewal.hash, key, renewal.sight);
+    Some(revision + 1)
 }
 
 impl Scopes {
     ghost use Rattle.kb_base.specs.Failure.{IsRefusal, IsRefusalOrMemory};
     ghost use Rattle.kb_context.specs.Layout.{layout_fault, scopes_of};
-    ghost use Rattle.kb_context.specs.Scopes.{context, place_of, value_in, value_at, set_fault_at, set_fault};
+    ghost use Rattle.kb_context.specs.Scopes.{place_of, value_in, value_at, set_fault_at, set_fault};
     ghost use Rattle.kb_context.specs.Scopes.{with_value_at, with_value, without_value, with_focus, revised};
     ghost use Rattle.kb_context.specs.Scopes.{initial, ReachesRoot, ChangesOnly, ChangesOnlyIn};
 
@@ -88,7 +102,7 @@ impl Scopes {
     {
         Ok(Scopes {
             tree: Box::new(alloc, ScopeTree::new(alloc, layout)?)?,
-            flat: Box::new(alloc, HashedMap::new(alloc)?)?,
+            at_hand: Box::new(alloc, AtHand::new(alloc)?)?,
             made_at: None,
             revision: 0,
         })
@@ -116,9 +130,9 @@ impl Scopes {
         self.tree.focused()
     }
 
-    /// Makes the flat map for the present revision, so that `get` searches no scopes until the focus changes.
-    /// It changes nothing else. At revision `u64::MAX` it does nothing. Error: `NoMemory`; `get` then
-    /// searches the scopes.
+    /// Makes what is kept at hand for the present revision, so that `get` searches no scopes and `sights`
+    /// gives some, until the focus changes. It changes nothing else. At revision `u64::MAX` it does nothing.
+    /// Error: `NoMemory`; `get` then searches the scopes.
     pub fn refresh(&mut self) -> Result<(), NoMemory>
         ensures { self.new ≡ self.old }
     {
@@ -126,8 +140,7 @@ impl Scopes {
             return Ok(());
         }
         self.made_at = None;
-        self.flat.clear();
-        self.tree.flatten(&mut self.flat)?;
+        self.at_hand.refresh(&self.tree)?;
         self.made_at = Some(self.revision);
         Ok(())
     }
@@ -144,7 +157,8 @@ impl Scopes {
         if self.made_at != Some(self.revision) {
             return self.tree.get(key);
         }
-        self.tree.value_in_seat(self.flat.get_text(key), key)
+        self.tree
+            .value_in_seat(self.at_hand.flat.get_text(key), key)
     }
 
     /// The value of a key that is visible from the focus, as `get` has it. If the flat map is up to date, it
@@ -157,7 +171,48 @@ impl Scopes {
         if self.made_at != Some(self.revision) {
             return self.tree.get(text);
         }
-        self.tree.value_in_seat(self.flat.get(key), text)
+        self.tree.value_in_seat(self.at_hand.flat.get(key), text)
+    }
+
+    /// What the focus sees of keys, one sight for each of the 1,024 hashes, or `None` if that isn't at hand.
+    pub fn sights(&self) -> Option<&[Sight]>
+        ensures { IfSome result (λ sights. TellsSeen (context self.now.seen) sights.now) }
+    {
+        if self.made_at != Some(self.revision) {
+            return None;
+        }
+        Some(self.at_hand.sights.as_slice())
+    }
+
+    /// Sets a key in the scope at index `at`. Errors: as for `set`, without `UnknownScope`.
+    fn set_at(
+        &mut self,
+        at: usize,
+        key: &str,
+        value: ContextValue,
+    ) -> Result<(), Failure<ScopeFault>>
+        requires { at < length self.old.seen.scopes }
+        ensures allowed { OnOk result (set_fault_at self.old.seen at key.now ≡ None) }
+        ensures ok { OnOk result
+            (self.new ≡ revised self.old (with_value_at self.old.seen at key.now value)) }
+        ensures err { IfErr result (IsRefusalOrMemory (set_fault_at self.old.seen at key.now)) }
+        ensures unchanged { OnErr result (self.new ≡ self.old) }
+        ensures absent { OnErr result (value_at self.old.seen at key.now ≡ None) }
+        ensures change { OnOk result (ChangesOnly self.old.seen self.new.seen at key.now (Some value)) }
+    {
+        let stays = self.at_hand.is_seat(self.made_at, self.revision, at, key);
+        let (hash, sight) = Sight::of(key, Some(&value));
+        self.tree.set_at(at, key, value)?;
+        self.made_at = follow_set(
+            &self.tree,
+            &mut self.at_hand,
+            self.made_at,
+            self.revision,
+            key,
+            Renewal { stays, hash, sight },
+        );
+        self.revision = self.revision.saturating_add(1);
+        Ok(())
     }
 
     /// Sets a key in the scope that is named `scope`.
@@ -180,10 +235,10 @@ impl Scopes {
         ensures change { OnOk result
             (ChangesOnlyIn self.old.seen self.new.seen scope.now key.now (Some value)) }
     {
-        self.tree.set(scope, key, value)?;
-        self.made_at = follow(&self.tree, &mut self.flat, self.made_at, self.revision, key);
-        self.revision = self.revision.saturating_add(1);
-        Ok(())
+        let Some(at) = self.tree.place(scope) else {
+            return Err(Failure::Fault(ScopeFault::UnknownScope));
+        };
+        self.set_at(at, key, value)
     }
 
     /// Sets a key in the outermost scope, which is the first one. Errors: `TooManyKeys` (22) and `NoMemory`
@@ -196,10 +251,8 @@ impl Scopes {
         ensures absent { OnErr result (value_at self.old.seen 0 key.now ≡ None) }
         ensures change { OnOk result (ChangesOnly self.old.seen self.new.seen 0 key.now (Some value)) }
     {
-        self.tree.set_root(key, value)?;
-        self.made_at = follow(&self.tree, &mut self.flat, self.made_at, self.revision, key);
-        self.revision = self.revision.saturating_add(1);
-        Ok(())
+        let at = self.tree.outermost();
+        self.set_at(at, key, value)
     }
 
     /// Removes a key from the scope that is named `scope`. Changes no key if the scope lacks it. Error:
@@ -213,7 +266,9 @@ impl Scopes {
         ensures change { OnOk result (ChangesOnlyIn self.old.seen self.new.seen scope.now key.now None) }
     {
         self.tree.unset(scope, key)?;
-        self.made_at = follow(&self.tree, &mut self.flat, self.made_at, self.revision, key);
+        self.made_at = self
+            .at_hand
+            .follow(&self.tree, self.made_at, self.revision, key);
         self.revision = self.revision.saturating_add(1);
         Ok(())
     }

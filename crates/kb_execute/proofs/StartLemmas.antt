@@ -5,7 +5,7 @@ use Rattle.std.proofs.lemmas.Slice.Eq.{bytes_eq-Decides}
 use Rattle.serde_json.specs.Data.{Data}
 use Rattle.kb_code.specs.Handler.{HandlerData, handler_named}
 use Rattle.kb_code.specs.Commands.{Callee, Table, Plain, Coded}
-use Rattle.kb_core.specs.Native.{named}
+use Rattle.kb_core.specs.Native.{Fits, named, parameters_of}
 use Rattle.kb_core.specs.Reading.{arguments_for}
 use Rattle.kb_core.specs.Signature.{fits}
 use Rattle.kb_core.specs.declared.arg.Arg.{Arg}
@@ -57,3 +57,7 @@ handler_started live id h given args core is read fit =
     ap (λ b. ran (if b then run_callee (run table) (Coded h) args w else Stuck WrongArgument id 0 w)) fit
     ∙ ap (λ a. started_with table id (Coded h) a core) read
     ∙ sym (ap (λ k. started_as table id k given core) is)
+
+-- without parameters, the empty list of arguments fits
+pub bare_fits : (native : Native) → parameters_of native ≡ [] → Fits native []
+bare_fits native bare = rw bare refl

@@ -1,21 +1,22 @@
 //! The execution of a command.
-ghost use Rattle.std.specs.Prelude.{◌≡◌, IfOk, OnErr, Some, None, option_map};
+ghost use Rattle.std.specs.Prelude.{◌≡◌, ℕ, List, [], IfOk, OnErr, IsTrue, Some, None, option_map};
 ghost use Rattle.serde_json.specs.View.{view};
 ghost use Rattle.kb_code.specs.Commands.{Table, Plain, Coded};
 ghost use Rattle.kb_core.specs.Core.{Core};
-ghost use Rattle.kb_core.specs.Native.{named};
+ghost use Rattle.kb_core.specs.Native.{Fits, named, parameters_of};
 ghost use Rattle.kb_registry.specs.Live.{callee};
 ghost use Rattle.kb_execute.specs.HeldCore.{outcome};
 ghost use Rattle.kb_vm.specs.Meaning.{Answer};
 ghost use Rattle.kb_vm.specs.Outcome.{Ends};
 ghost use Rattle.kb_stream.specs.Lines.{Begins};
-ghost use Rattle.kb_execute.specs.Start.{started, started_as, behind, ran, start_of, start_live, stops};
+ghost use Rattle.kb_execute.specs.Start.{started, started_as, started_with, behind, ran, start_of};
+ghost use Rattle.kb_execute.specs.Start.{start_live, stops};
 
 use crate::held_core::{Ended, HeldCore};
 use crate::run_commands::start_list;
 use kb_base::NoMemory;
 use kb_code::Linked;
-use kb_core::{Core, Native};
+use kb_core::{Args, Core, Native};
 use kb_registry::{HostCommand, Registered, Registry};
 use kb_stream::Lines;
 use kb_trace::lines;
@@ -145,7 +146,36 @@ fn start_handler<C: HostCommand>(
 
 /// Runs a host's closure, if the arguments fit, and adds the trace lines. On `NoMemory` the lines are
 /// unchanged.
+#[tactic(auto, using(crate::proofs::StartLemmas::bare_fits))]
 fn run_native<C: HostCommand>(
+    alloc: Global,
+    command: &str,
+    closure: &Registered<'_, C>,
+    given: Option<&Value>,
+    core: &mut HeldCore,
+    trace: &mut Lines,
+) -> Result<Finish, NoMemory>
+    ensures ok { (table : Table) → let given = option_map (λ v. view v.now) given.entry in
+        IfOk result (λ finish. started core.new trace.new finish ≡ behind trace.old
+        (started_as table command.now (Some (Plain closure.now)) given core.old)) }
+    ensures err { OnErr result (trace.new ≡ trace.old) }
+{
+    if is_bare(closure.native()) {
+        return run_with(closure, Args::new(alloc), core, trace);
+    }
+    run_given(alloc, command, closure, given, core, trace)
+}
+
+/// Whether a native command has no parameters, so that any value gives it the empty list of arguments. Only
+/// for speed: nothing is read then.
+fn is_bare(native: Native) -> bool
+    ensures { IsTrue result → parameters_of native ≡ [] }
+{
+    native.params().is_empty()
+}
+
+/// Reads the arguments of a host's closure, runs it if they fit, and adds the trace lines.
+fn run_given<C: HostCommand>(
     alloc: Global,
     command: &str,
     closure: &Registered<'_, C>,
@@ -162,6 +192,23 @@ fn run_native<C: HostCommand>(
         lines::bad_arguments_line(trace, command)?;
         return Ok(Finish::BadArguments);
     };
+    run_with(closure, args, core, trace)
+}
+
+/// Runs a host's closure with arguments that fit, and adds the line of its end. On `NoMemory` the lines are
+/// unchanged.
+fn run_with<C: HostCommand>(
+    closure: &Registered<'_, C>,
+    args: Args,
+    core: &mut HeldCore,
+    trace: &mut Lines,
+) -> Result<Finish, NoMemory>
+    requires fits { Fits closure.now args }
+    ensures ok { (table : Table) → (command : List ℕ) → IfOk result (λ finish.
+        started core.new trace.new finish ≡ behind trace.old
+        (started_with table command (Plain closure.now) (Some args) core.old)) }
+    ensures err { OnErr result (trace.new ≡ trace.old) }
+{
     core.run(closure, args)?;
     lines::done_line(trace, core.core().buffer())?;
     Ok(Finish::Done)

@@ -1,6 +1,6 @@
 //! Keystrokes: a key with its modifiers.
-ghost use Rattle.std.specs.Prelude.{◌≡◌, ◌<◌, ◌≤◌, ◌+◌, [], ◌++◌, length, string_bytes, string_len, Ok};
-ghost use Rattle.std.specs.Prelude.{IfOk, OnOk, OnErr, if◌then◌else◌};
+ghost use Rattle.std.specs.Prelude.{◌≡◌, ◌<◌, ◌≤◌, ◌+◌, ◌++◌, string_bytes, string_len, Ok};
+ghost use Rattle.std.specs.Prelude.{IfOk, OnOk, OnErr};
 ghost use Rattle.std.specs.String.{string_capacity};
 ghost use Rattle.kb_keys.specs.KeyName.{key_count};
 ghost use Rattle.kb_keys.specs.Keystroke.{keystroke_of, spelling, split_of, ReadsFromLeft};
@@ -99,24 +99,8 @@ impl Keystroke {
         ensures spelling { string_bytes line.new ≡ string_bytes line.old ++ spelling self }
         ensures known { self.key < key_count }
     {
-        let name = self.key.as_str();
-        push_if(line, self.mods.ctrl, "ctrl+");
-        push_if(line, self.mods.shift, "shift+");
-        push_if(line, self.mods.alt, "alt+");
-        push_if(line, self.mods.meta, "meta+");
-        line.push_str(name).unwrap();
-    }
-}
-
-/// Appends `word` to a line that has enough reserved memory, if `held`.
-fn push_if(line: &mut String, held: bool, word: &str)
-    requires { string_len line.old + length word.now ≤ string_capacity line.old }
-    ensures spelling { string_bytes line.new ≡ string_bytes line.old ++ (if held then word.now else []) }
-    ensures len { string_len line.new ≤ string_len line.old + length word.now }
-    ensures capacity { string_capacity line.old ≤ string_capacity line.new }
-{
-    if held {
-        line.push_str(word).unwrap();
+        line.push_str(self.mods.prefix()).unwrap();
+        line.push_str(self.key.as_str()).unwrap();
     }
 }
 

@@ -21,6 +21,20 @@ impl Modifier {
     pub(crate) fn named(word: &str) -> Option<Modifier>
         ensures { result ≡ modifier_named word.now }
     {
+        match word {
+            "ctrl" => Some(Modifier::Ctrl),
+            "shift" => Some(Modifier::Shift),
+            "alt" => Some(Modifier::Alt),
+            "cmd" | "win" | "meta" => Some(Modifier::Meta),
+            _ => Modifier::searched(word),
+        }
+    }
+
+    /// The same for a word that isn't in lower case. It stays out of line for speed, since few words need it.
+    #[inline(never)]
+    fn searched(word: &str) -> Option<Modifier>
+        ensures { result ≡ modifier_named word.now }
+    {
         if same_name(word, "ctrl") {
             Some(Modifier::Ctrl)
         } else if same_name(word, "shift") {

@@ -1,8 +1,29 @@
 //! Sets of modifiers.
-ghost use Rattle.std.specs.Prelude.{◌≡◌, ◌<◌};
-ghost use Rattle.kb_keys.specs.Modifiers.{with_modifier, bit, set_number};
+ghost use Rattle.std.specs.Prelude.{◌≡◌, ◌<◌, ◌≤◌, length};
+ghost use Rattle.kb_keys.specs.Modifiers.{with_modifier, bit, set_number, spelled};
 
 use crate::modifier::Modifier;
+
+/// The beginnings of canonical texts, by the number of the set of modifiers. Only for speed: a press writes
+/// one.
+const PREFIXES: [&str; 16] = [
+    "",
+    "meta+",
+    "alt+",
+    "alt+meta+",
+    "shift+",
+    "shift+meta+",
+    "shift+alt+",
+    "shift+alt+meta+",
+    "ctrl+",
+    "ctrl+meta+",
+    "ctrl+alt+",
+    "ctrl+alt+meta+",
+    "ctrl+shift+",
+    "ctrl+shift+meta+",
+    "ctrl+shift+alt+",
+    "ctrl+shift+alt+meta+",
+];
 
 /// The set of modifiers that are held. `meta` is Command on macOS, the Windows key on Windows, and Meta on
 /// Linux.
@@ -36,6 +57,16 @@ impl Modifiers {
             Modifier::Alt => Modifiers { alt: true, ..self },
             Modifier::Meta => Modifiers { meta: true, ..self },
         }
+    }
+
+    /// The beginning of the canonical text: the modifiers in the order `ctrl`, `shift`, `alt`, `meta`, each
+    /// followed by `+`.
+    pub(crate) fn prefix(self) -> &'static str
+        ensures spelling { result.now ≡ spelled self }
+        ensures short { length result.now ≤ 20 }
+    {
+        let prefixes = PREFIXES.as_slice();
+        prefixes[self.number()]
     }
 
     /// The number of the set, below 16.

@@ -55,6 +55,9 @@ pub struct Registry<C: HostCommand> {
     limit: u64,
     made: u64,
     table: IndexMap<Native, Entry<C>>,
+    /// Where the entry of each native command is likely to be in the table, by its number. Only for speed: a
+    /// hint is compared before it is used.
+    hints: [usize; NATIVES],
     code: CodeTable,
 }
 
@@ -75,6 +78,23 @@ impl<C: HostCommand> Model for Registry<C> {
         r.limit r.made r.table };
 }
 
+/// The number of a native command, below `NATIVES`.
+fn number(native: Native) -> usize
+    ensures { result < 9 }
+{
+    match native {
+        Native::TypeText => 0,
+        Native::DeleteLeft => 1,
+        Native::DeleteRight => 2,
+        Native::CursorLeft => 3,
+        Native::CursorRight => 4,
+        Native::BufferClear => 5,
+        Native::BufferTop => 6,
+        Native::BufferBottom => 7,
+        Native::SetContext => 8,
+    }
+}
+
 /// The number after `number`.
 fn following(number: u64, limit: u64) -> u64
     requires { number < limit }
@@ -92,6 +112,22 @@ fn ticket_at<C>(table: &IndexMap<Native, Entry<C>>, place: usize) -> u64
 {
     let (_, entry) = table.get_index(place).unwrap();
     entry.ticket
+}
+
+/// The entry of a native command, which is looked for at this place of the table first.
+fn entry_of<C>(
+    table: &IndexMap<Native, Entry<C>>,
+    place: usize,
+    native: Native,
+) -> Option<&Entry<C>>
+    ensures { option_copied result ≡ get same_native table.now native }
+{
+    if let Some((found, entry)) = table.get_index(place) {
+        if *found == native {
+            return Some(entry);
+        }
+    }
+    table.get(&native)
 }
 
 /// The place of a ticket in the table, or `None`.
@@ -120,6 +156,7 @@ impl<C: HostCommand> Registry<C> {
             limit,
             made: 0,
             table,
+            hints: [0; NATIVES],
             code: CodeTable::new(alloc),
         })
     }
@@ -205,9 +242,11 @@ impl<C: HostCommand> Registry<C> {
             signature,
             command,
         };
+        let place = self.table.len();
         match self.table.insert(native, entry) {
             Ok(_) => {
                 self.made = ticket;
+                self.hints[number(native)] = place;
                 Ok(Ticket(ticket))
             }
             Err(refused) => {
@@ -224,7 +263,7 @@ impl<C: HostCommand> Registry<C> {
         ensures native { IfSome result (λ e. C.stands_for e.now.command ≡ native) }
         ensures signature { IfSome result (λ e. e.now.signature ≡ declaration_of native) }
     {
-        self.table.get(&native)
+        entry_of(&self.table, self.hints[number(native)], native)
     }
 
     /// The native command of the registered closure with a ticket, or `None` if no closure has it.

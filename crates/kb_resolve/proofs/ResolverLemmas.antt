@@ -159,7 +159,7 @@ pub one_at : (P : Rule → Type 0) (rules : List Rule) (position : ℕ) (rule : 
 one_at P rules position rule e p =
     (position, rule, slice_get_within rules position rule e, get_or_from_slice_get rules position rule rule e, p)
 
-one_before : (P : Rule → Type 0) (above below : List Rule) → Any P above → Any P (above ++ below)
+pub one_before : (P : Rule → Type 0) (above below : List Rule) → Any P above → Any P (above ++ below)
 one_before P above below h =
     (h.0, h.1, omega (arith, length-append above below, h.2), get_or-append above below h.1 h.0 h.2 ∙ h.3, h.4)
 

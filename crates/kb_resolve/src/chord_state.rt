@@ -98,7 +98,75 @@ impl ChordState {
         ensures memory { IfErr result (λ _. MayAskPatterns (self.old ++ stroke ∷ []) (context scopes.now.seen)
             (enablement_in enablements.now) resolver.now) }
     {
-        let was_open = !self.pressed.is_empty();
+        if self.pressed.is_empty() {
+            return self.begin(stroke, resolver, scopes, enablements);
+        }
+        self.go_on(stroke, resolver, scopes, enablements)
+    }
+
+    /// Presses a key while no chord is open. The keystroke is kept only if it begins a chord.
+    fn begin<'r>(
+        &mut self,
+        stroke: Keystroke,
+        resolver: &'r Resolver,
+        scopes: &Scopes,
+        enablements: &Enablements,
+    ) -> Result<Press<'r>, NoMemory>
+        requires { self.old ≡ [] }
+        ensures step { IfOk result (λ press. step_of press.does
+            ≡ step self.old stroke (context scopes.now.seen) (enablement_in enablements.now) resolver.now) }
+        ensures found { IfOk result (λ press. found_in resolver.now press.found
+            ≡ Some (resolved (self.old ++ stroke ∷ []) (context scopes.now.seen)
+            (enablement_in enablements.now) resolver.now)) }
+        ensures pressed { OnOk result (self.new
+            ≡ pressed_after self.old stroke (context scopes.now.seen) (enablement_in enablements.now)
+            resolver.now) }
+        ensures err { OnErr result (self.new ≡ self.old) }
+        ensures memory { IfErr result (λ _. MayAskPatterns (self.old ++ stroke ∷ []) (context scopes.now.seen)
+            (enablement_in enablements.now) resolver.now) }
+    {
+        let stroke = &stroke;
+        let only = [*stroke];
+        match resolver.resolve(only.as_slice(), scopes, enablements)? {
+            Resolved::Found(placed) => Ok(Press {
+                does: Pressed::Start(placed.rule),
+                found: Found::At(placed.position),
+            }),
+            Resolved::More => {
+                self.pressed.push(*stroke);
+                Ok(Press {
+                    does: Pressed::More,
+                    found: Found::More,
+                })
+            }
+            Resolved::Nothing => Ok(Press {
+                does: Pressed::Unbound,
+                found: Found::Nothing,
+            }),
+        }
+    }
+
+    /// Presses a further key of the open chord.
+    fn go_on<'r>(
+        &mut self,
+        stroke: Keystroke,
+        resolver: &'r Resolver,
+        scopes: &Scopes,
+        enablements: &Enablements,
+    ) -> Result<Press<'r>, NoMemory>
+        requires { self.old ≢ [] }
+        ensures step { IfOk result (λ press. step_of press.does
+            ≡ step self.old stroke (context scopes.now.seen) (enablement_in enablements.now) resolver.now) }
+        ensures found { IfOk result (λ press. found_in resolver.now press.found
+            ≡ Some (resolved (self.old ++ stroke ∷ []) (context scopes.now.seen)
+            (enablement_in enablements.now) resolver.now)) }
+        ensures pressed { OnOk result (self.new
+            ≡ pressed_after self.old stroke (context scopes.now.seen) (enablement_in enablements.now)
+            resolver.now) }
+        ensures err { OnErr result (self.new ≡ self.old) }
+        ensures memory { IfErr result (λ _. MayAskPatterns (self.old ++ stroke ∷ []) (context scopes.now.seen)
+            (enablement_in enablements.now) resolver.now) }
+    {
         self.pressed.push(stroke);
         match resolver.resolve(self.pressed.as_slice(), scopes, enablements) {
             Ok(Resolved::Found(placed)) => {
@@ -115,11 +183,7 @@ impl ChordState {
             Ok(Resolved::Nothing) => {
                 self.pressed.clear();
                 Ok(Press {
-                    does: if was_open {
-                        Pressed::Left
-                    } else {
-                        Pressed::Unbound
-                    },
+                    does: Pressed::Left,
                     found: Found::Nothing,
                 })
             }

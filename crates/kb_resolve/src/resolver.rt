@@ -1,16 +1,17 @@
 //! The search for the rule that matches pressed keystrokes.
 ghost use Rattle.std.specs.Prelude.{◌≡◌, ◌<◌, length, map, option_map, count_by, slice_get, Some};
 ghost use Rattle.std.specs.Prelude.{IfErr, IfOk, IfSome};
+ghost use Rattle.std.specs.List.{Any};
 ghost use Rattle.kb_context.specs.Scopes.{context};
 ghost use Rattle.kb_keys.specs.Chord.{chord_limit};
 ghost use Rattle.kb_resolve.specs.Enablements.{enablement_in};
-ghost use Rattle.kb_resolve.specs.Index.{begins, positions_of, rules_at};
+ghost use Rattle.kb_resolve.specs.Index.{begins, positions_of, rules_at, seconds_of};
 ghost use Rattle.kb_resolve.specs.Resolved.{IsAt, found_in, more, place_of, resolution_of};
-ghost use Rattle.kb_resolve.specs.Resolver.{may_start, matches, chosen, resolved, IsGreatest};
+ghost use Rattle.kb_resolve.specs.Resolver.{may_start, matches, last_where, chosen, resolved, IsGreatest};
 ghost use Rattle.kb_resolve.specs.Resolver.{HasPatterns, AsksPattern, MayAskPatterns};
 
 use crate::enablements::Enablements;
-use crate::index::Index;
+use crate::index::{Index, second_number};
 use crate::resolved::{Placed, Resolved};
 use kb_base::NoMemory;
 use kb_context::Scopes;
@@ -39,12 +40,14 @@ impl Model for Resolver {
 
     ghost coded = { Prim.hlevel (codes, rule.the_row.coded) };
 
-    ghost use Rattle.kb_resolve.specs.Index.{IsIndexOf};
+    ghost use Rattle.std.specs.Prelude.{◌≡◌};
+    ghost use Rattle.kb_resolve.specs.Index.{IsIndexOf, seconds_of};
 
     ghost view = { λ s. s.set };
 
-    // The index has the positions of the rules of each keystroke.
-    ghost invariant = { λ s. IsIndexOf s.set s.index.starts.items s.index.positions.items };
+    // The index has the positions of the rules of each keystroke, and the second keystroke of each of these.
+    ghost invariant = { λ s. IsIndexOf s.set s.index.starts.items s.index.positions.items
+        × (s.index.seconds.items ≡ seconds_of s.set s.index.positions.items) };
 }
 
 impl Resolver {
@@ -85,10 +88,16 @@ impl Resolver {
     fn positions(&self, stroke: Keystroke) -> &[u32]
         ensures { result.now ≡ positions_of stroke self.now }
     {
-        let number = stroke.number();
-        let start = self.index.starts[number] as usize;
-        let end = self.index.starts[number + 1] as usize;
+        let (start, end) = self.index.range(stroke);
         &self.index.positions[start..end]
+    }
+
+    /// The second keystrokes of these rules as numbers, in the same order.
+    fn seconds(&self, stroke: Keystroke) -> &[u32]
+        ensures { result.now ≡ seconds_of self.now (positions_of stroke self.now) }
+    {
+        let (start, end) = self.index.range(stroke);
+        &self.index.seconds[start..end]
     }
 
     /// Searches the rules from the bottom to the top, and chooses the first one that matches. A rule
@@ -147,26 +156,86 @@ impl Resolver {
             MayAskPatterns pressed.now (context scopes.now.seen) (enablement_in enablements.now) self.now) }
     {
         match pressed.first() {
-            Some(first) => lowest_at(
+            Some(first) => self.lowest_with(first, pressed, scopes, enablements),
+            None => lowest_of(&self.set, pressed, scopes, enablements),
+        }
+    }
+
+    /// The lowest matching rule of those with the first pressed keystroke, `first`, which isn't compared
+    /// again.
+    fn lowest_with<'r>(
+        &'r self,
+        first: &Keystroke,
+        pressed: &[Keystroke],
+        scopes: &Scopes,
+        enablements: &Enablements,
+    ) -> Result<Option<Placed<'r>>, NoMemory>
+        requires { slice_get pressed.now 0 ≡ Some first.now }
+        ensures value { IfOk result (λ found. option_map (λ placed. placed.rule.now) found
+            ≡ chosen pressed.now (context scopes.now.seen) (enablement_in enablements.now) self.now) }
+        ensures place { IfOk result (λ found. IfSome found (IsAt self.now)) }
+        ensures memory { IfErr result (λ _.
+            MayAskPatterns pressed.now (context scopes.now.seen) (enablement_in enablements.now) self.now) }
+    {
+        let positions = self.positions(*first);
+        match pressed.get(1) {
+            Some(second) => lowest_behind(
                 &self.set,
-                self.positions(*first),
+                positions,
+                self.seconds(*first),
+                second,
                 pressed,
                 scopes,
                 enablements,
             ),
-            None => lowest_of(&self.set, pressed, scopes, enablements),
+            None => lowest_at(&self.set, positions, scopes, enablements),
         }
     }
 }
 
-/// The last matching rule of those at these positions.
+/// The last rule of those at these positions whose clause and the enablement of whose command hold. No
+/// keystroke is compared.
 fn lowest_at<'r>(
     set: &'r RuleSet,
     positions: &[u32],
+    scopes: &Scopes,
+    enablements: &Enablements,
+) -> Result<Option<Placed<'r>>, NoMemory>
+    ensures value { IfOk result (λ found. option_map (λ placed. placed.rule.now) found
+        ≡ last_where (may_start (context scopes.now.seen) (enablement_in enablements.now))
+        (rules_at set.now positions.now)) }
+    ensures place { IfOk result (λ found. IfSome found (IsAt set.now)) }
+    ensures memory { IfErr result (λ _.
+        Any (HasPatterns (context scopes.now.seen) (enablement_in enablements.now))
+        (rules_at set.now positions.now)) }
+{
+    for position in positions.iter().rev() {
+        let place = *position as usize;
+        if let Some(rule) = set.at(place) {
+            if may_start(rule, scopes, enablements)? {
+                return Ok(Some(Placed {
+                    position: place,
+                    rule,
+                }));
+            }
+        }
+    }
+    Ok(None)
+}
+
+/// The last matching rule of those at these positions, where two or more keystrokes are pressed, the second
+/// of which is `second`. Rules with another second keystroke are passed over by its number.
+fn lowest_behind<'r>(
+    set: &'r RuleSet,
+    positions: &[u32],
+    seconds: &[u32],
+    second: &Keystroke,
     pressed: &[Keystroke],
     scopes: &Scopes,
     enablements: &Enablements,
 ) -> Result<Option<Placed<'r>>, NoMemory>
+    requires second { slice_get pressed.now 1 ≡ Some second.now }
+    requires seconds { seconds.now ≡ seconds_of set.now positions.now }
     ensures value { IfOk result (λ found. option_map (λ placed. placed.rule.now) found
         ≡ chosen pressed.now (context scopes.now.seen) (enablement_in enablements.now)
         (rules_at set.now positions.now)) }
@@ -174,14 +243,15 @@ fn lowest_at<'r>(
     ensures memory { IfErr result (λ _.
         MayAskPatterns pressed.now (context scopes.now.seen) (enablement_in enablements.now) set.now) }
 {
-    for position in positions.iter().rev() {
-        let place = *position as usize;
-        if let Some(rule) = set.at(place) {
+    let wanted = second_number(Some(second));
+    for place in (0..positions.len()).rev() {
+        if seconds[place] != wanted {
+            continue;
+        }
+        let position = positions[place] as usize;
+        if let Some(rule) = set.at(position) {
             if matches(rule, pressed, scopes, enablements)? {
-                return Ok(Some(Placed {
-                    position: place,
-                    rule,
-                }));
+                return Ok(Some(Placed { position, rule }));
             }
         }
     }

@@ -7,7 +7,7 @@ use Rattle.std.specs.List.{list_any}
 use Rattle.std.proofs.lemmas.List.Folds.{list_any-append}
 use Rattle.std.proofs.lemmas.Bool.Decides.{nat_tests}
 use Rattle.kb_context.specs.Scopes.{Keys}
-use Rattle.kb_when.specs.declared.flat.Jump.{Jump}
+use Rattle.kb_when.specs.declared.jump.Jump.{Jump}
 use Rattle.kb_when.specs.Leaf.{marked_of_leaf}
 use Rattle.kb_when.specs.Marked.{Marked}
 use Rattle.kb_when.specs.Flat.{atom_holds, has_read_pattern, target, target_or, accepts_by, accepts}

@@ -5,6 +5,7 @@ pub mod GrammarLemmas
 pub mod MarkedLemmas
 pub mod NumberLemmas
 pub mod PlacedLemmas
+pub mod ProbeLemmas
 pub mod SameLemmas
 pub mod TokenizerLemmas
 pub mod UnreadLemmas

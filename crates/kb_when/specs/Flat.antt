@@ -4,7 +4,7 @@ use Rattle.std.specs.Prelude.{◌≡◌, ℕ, zero, suc, ◌+◌, ◌<◌, ◌�
 use Rattle.std.specs.Prelude.{Option, Some, None, slice_get, if◌then◌else◌}
 use Rattle.std.specs.List.{list_any}
 use Rattle.kb_context.specs.Scopes.{Keys}
-use Rattle.kb_when.specs.declared.flat.Jump.{Jump}
+use Rattle.kb_when.specs.declared.jump.Jump.{Jump}
 use Rattle.kb_when.specs.Leaf.{marked_of_leaf}
 use Rattle.kb_when.specs.Marked.{Marked, marks_of, marked_value}
 

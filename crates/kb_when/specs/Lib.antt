@@ -11,6 +11,7 @@ pub mod Number
 pub mod Operator
 pub mod Parser
 pub mod Placed
+pub mod Probe
 pub mod Reading
 pub mod Same
 pub mod Tokenizer

@@ -2,15 +2,18 @@
 ghost use Rattle.std.specs.Prelude.{◌≡◌, ◌<◌, ◌+◌, true, not, length, map, IfOk, IfErr};
 ghost use Rattle.std.specs.List.{list_any};
 ghost use Rattle.kb_context.specs.Scopes.{context};
+ghost use Rattle.kb_context.specs.Sights.{TellsSeen};
 ghost use Rattle.kb_when.specs.Flat.{accepts, target, has_read_pattern, LeadsBack, Decides, Extends};
 ghost use Rattle.kb_when.specs.Leaf.{marked_of_leaf};
 ghost use Rattle.kb_when.specs.Marked as marked;
 ghost use Rattle.kb_when.specs.Tree.{marked_of, markeds_of};
 
+use crate::jump::Jump;
 use crate::leaf::Leaf;
+use crate::probe::Probe;
 use crate::tree::Tree;
 use kb_base::NoMemory;
-use kb_context::Scopes;
+use kb_context::{Scopes, Sight};
 use std::alloc::Global;
 use std::rc::Rc;
 
@@ -23,14 +26,6 @@ const REJECT: usize = 1;
 /// The place of the first jump.
 const FIRST: usize = 2;
 
-/// An atom, with the place to go on at if it holds, and the place if it does not.
-#[derive(Debug, Drop)]
-pub(crate) struct Jump {
-    pub(crate) atom: Rc<Leaf>,
-    pub(crate) yes: usize,
-    pub(crate) no: usize,
-}
-
 /// The jumps of a clause, the last atom first, and the place at which evaluation begins. The first atom is
 /// evaluated first, and each jump leads to a lower place, so evaluation ends.
 #[derive(Debug, Drop)]
@@ -39,19 +34,52 @@ pub(crate) struct Flat {
     pub(crate) entry: usize,
 }
 
-impl Jump {
-    /// The place after this jump. Error: `NoMemory`, only if the atom has a pattern that is not marked as
-    /// unread.
-    fn next(&self, alloc: Global, scopes: &Scopes) -> Result<usize, NoMemory>
-        ensures value { IfOk result (λ place. place ≡ target (context scopes.now.seen) self.now) }
-        ensures memory { IfErr result (λ _. has_read_pattern self.now ≡ true) }
-    {
-        if self.atom.holds(alloc, scopes)? {
-            Ok(self.yes)
-        } else {
-            Ok(self.no)
-        }
+/// The place after a jump. Error: `NoMemory`, only if its atom has a pattern that is not marked as unread.
+fn next(jump: &Jump, alloc: Global, scopes: &Scopes) -> Result<usize, NoMemory>
+    ensures value { IfOk result (λ place. place ≡ target (context scopes.now.seen) jump.now) }
+    ensures memory { IfErr result (λ _. has_read_pattern jump.now ≡ true) }
+{
+    if jump.atom.holds(alloc, scopes)? {
+        Ok(jump.yes)
+    } else {
+        Ok(jump.no)
     }
+}
+
+/// The same, where what the focus sees is at hand.
+#[inline]
+fn next_by(jump: &Jump, alloc: Global, scopes: &Scopes, sights: &[Sight]) -> Result<usize, NoMemory>
+    requires { TellsSeen (context scopes.now.seen) sights.now }
+    ensures value { IfOk result (λ place. place ≡ target (context scopes.now.seen) jump.now) }
+    ensures memory { IfErr result (λ _. has_read_pattern jump.now ≡ true) }
+{
+    let Some(holds) = jump.probe.answer(sights) else {
+        return next(jump, alloc, scopes);
+    };
+    if holds { Ok(jump.yes) } else { Ok(jump.no) }
+}
+
+/// Whether the jumps accept from a place, where what the focus sees is at hand. Error: `NoMemory`, only if an
+/// atom has a pattern that is not marked as unread.
+fn run_by(
+    alloc: Global,
+    jumps: &[Jump],
+    entry: usize,
+    scopes: &Scopes,
+    sights: &[Sight],
+) -> Result<bool, NoMemory>
+    requires inside { entry < length jumps.now + 2 }
+    requires back { LeadsBack jumps.now }
+    requires seen { TellsSeen (context scopes.now.seen) sights.now }
+    ensures value { IfOk result (λ holds. holds ≡ accepts jumps.now (context scopes.now.seen) entry) }
+    ensures memory { IfErr result (λ _. list_any has_read_pattern jumps.now ≡ true) }
+{
+    let mut place = entry;
+    while place >= FIRST {
+        let jump = &jumps[place - FIRST];
+        place = next_by(jump, alloc, scopes, sights)?;
+    }
+    Ok(place == ACCEPT)
 }
 
 /// Whether the jumps accept from a place. Error: `NoMemory`, only if an atom has a pattern that is not marked
@@ -65,7 +93,7 @@ fn run(alloc: Global, jumps: &[Jump], entry: usize, scopes: &Scopes) -> Result<b
     let mut place = entry;
     while place >= FIRST {
         let jump = &jumps[place - FIRST];
-        place = jump.next(alloc, scopes)?;
+        place = next(jump, alloc, scopes)?;
     }
     Ok(place == ACCEPT)
 }
@@ -83,8 +111,14 @@ fn add_atom(
         Extends jumps.old.items jumps.new.items (marked_of_leaf atom.now.value) yes no place) }
 {
     let atom = Rc::clone(atom)?;
+    let probe = Probe::of(&atom);
     let place = jumps.len() + FIRST;
-    jumps.push(Jump { atom, yes, no })?;
+    jumps.push(Jump {
+        atom,
+        probe,
+        yes,
+        no,
+    })?;
     Ok(place)
 }
 
@@ -182,6 +216,9 @@ impl Flat {
             holds ≡ accepts self.now.jumps.items (context scopes.now.seen) self.now.entry) }
         ensures memory { IfErr result (λ _. list_any has_read_pattern self.now.jumps.items ≡ true) }
     {
-        run(alloc, &self.jumps, self.entry, scopes)
+        match scopes.sights() {
+            Some(sights) => run_by(alloc, &self.jumps, self.entry, scopes, sights),
+            None => run(alloc, &self.jumps, self.entry, scopes),
+        }
     }
 }

@@ -6,6 +6,6 @@ use Rattle.kb_when.proofs.flat.add_atom.Goals as goal
 pub returns : goal.returns
 returns c =
     let same : c.args.atom.now.value ≡ c.in_ok-atom.atom.value = search rules in
-    extends_atom _ _ (record { atom = c.in_ok-atom.atom; yes = c.args.yes; no = c.args.no }) _ _
+    extends_atom _ _ _ _ _
     c.in_ok-push.ensures.items (ap marked_of_leaf same)
     (omega (arith, c.len-place.ensures, c.args.jumps.now.ok.0)) c.requires.yes c.requires.no

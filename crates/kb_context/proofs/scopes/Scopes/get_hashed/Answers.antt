@@ -1,6 +1,7 @@
 use Rattle.std.proofs.Common.{rules, ◌≡◌, Some, ap, ◌∙◌, option_and_then}
 use Rattle.std.specs.FinMap as map
-use Rattle.kb_context.specs.Scopes.{context, seat, value_at, ScopesData, Places, RevisedScopes}
+use Rattle.kb_context.specs.Scopes.{context, seat, value_at, ScopesData, RevisedScopes}
+use Rattle.kb_context.specs.declared.at_hand.AtHand.{AtHand}
 use Rattle.kb_context.proofs.SeatLemmas.{value_at_seat}
 use Rattle.kb_context.proofs.scopes.Scopes.get_hashed.Goals as goal
 
@@ -10,8 +11,8 @@ returns-clause-value c =
     (rw c.as_str-text.ensures at c.value_in_seat.ensures.value)
     ∙ ap (option_and_then (λ at. value_at c.deref-2.result.now at c.args.key.now))
     (c.get-2.ensures
-    ∙ ap (λ (m : Places). map.get m c.args.key.now) c.deref-3.ensures
-    ∙ c.self.invariant.same fresh c.args.key.now)
+    ∙ ap (λ (a : AtHand). map.get a.flat c.args.key.now) c.deref-3.ensures
+    ∙ (c.self.invariant.same fresh).flat c.args.key.now)
     ∙ ap (λ (s : ScopesData). option_and_then (λ at. value_at s at c.args.key.now)
     (seat c.self.inside.tree.value c.args.key.now)) c.deref-2.ensures
     ∙ value_at_seat c.self.inside.tree.value c.args.key.now
