@@ -7,6 +7,7 @@ pub mod desk;
 pub mod events;
 pub mod handle;
 pub mod hosted;
+pub mod lookups;
 pub mod loose;
 pub mod reads;
 

@@ -28,7 +28,7 @@ use Rattle.kb_trace.specs.declared.event.Event.{Event}
 
 -- an engine without files and without a session
 abbrev pub new_engine : EngineData
-new_engine = record { files = no_files; running = None; notice = []; taken = taken.bare kind.Nothing [] }
+new_engine = record { files = no_files; running = None; notice = []; taken = taken.bare kind.Nothing []; shown = [] }
 
 -- ---- before the load
 
@@ -188,6 +188,7 @@ part_of part.Source e = e.taken.source
 part_of part.Before e = before_caret e.running
 part_of part.After e = after_caret e.running
 part_of part.Step e = step_command e.running
+part_of part.Keys e = e.shown
 
 -- the text that a number stands for
 abbrev pub text_of_part : Option Part → EngineData → List ℕ

@@ -1,5 +1,6 @@
 pub mod Engine
 pub mod Files
+pub mod Lookups
 pub mod Notice
 pub mod Outcome
 pub mod Part

@@ -14,4 +14,5 @@ part_numbered n =
     else (if n == 5 then Some part.Source
     else (if n == 6 then Some part.Before
     else (if n == 7 then Some part.After
-    else (if n == 8 then Some part.Step else None))))))))
+    else (if n == 8 then Some part.Step
+    else (if n == 9 then Some part.Keys else None)))))))))

@@ -1,5 +1,5 @@
 -- What contracts see of an engine: its files, its session with the shelf beside it, the notice of the last
--- load, and what the last event took.
+-- load, what the last event or look-up took, and the keystrokes that were looked up last.
 use Rattle.std.specs.Prelude.{ℕ, List, Option}
 use Rattle.kb_files.specs.Inputs.{Files}
 use Rattle.kb_core.specs.declared.native.Native.{Native}
@@ -18,3 +18,4 @@ pub record EngineData : Type 0 where
   pub running : Option RunningData
   pub notice : List ℕ
   pub taken : Taken
+  pub shown : List ℕ

@@ -20,16 +20,18 @@ use std::alloc::Global;
 use std::marker::Model;
 
 mod inputs;
+mod lookups;
 mod reads;
 
 /// An engine: its files, and the session that was loaded from them. Contracts see both, with the notice of
-/// the last load and what the last event took.
+/// the last load, what the last event or look-up took, and the keystrokes that were looked up last.
 #[derive(Drop)]
 pub struct Engine {
     files: HostFiles,
     running: Option<Running>,
     notice: Text,
     taken: Taken,
+    shown: Text,
     alloc: Global,
 }
 
@@ -60,6 +62,7 @@ impl Model for Engine {
       running = e.running;
       notice = e.notice;
       taken = e.taken;
+      shown = e.shown;
     } };
 }
 
@@ -73,6 +76,7 @@ impl Engine {
             running: None,
             notice: Text::new(alloc),
             taken: Taken::bare(alloc, TakenKind::Nothing, Text::new(alloc)),
+            shown: Text::new(alloc),
             alloc,
         }
     }
@@ -224,7 +228,7 @@ impl Engine {
         }
     }
 
-    /// What the last event took.
+    /// What the last event or look-up took.
     pub fn taken(&self) -> &Taken
         ensures { result.now ≡ self.now.taken }
     {

@@ -2,6 +2,7 @@
 ghost use Rattle.std.specs.Prelude.{◌≡◌, false, true, MatchOption};
 ghost use Rattle.std.specs.Str.{is_utf8};
 ghost use Rattle.kb_engine.specs.Engine.{key_told};
+ghost use Rattle.kb_engine.specs.Lookups.{stroke_told};
 
 use kb_keys::Keystroke;
 use kb_trace::Event;
@@ -23,9 +24,19 @@ pub fn text_in(bytes: &[u8]) -> Option<&str>
 pub fn key_told(key: &[u8]) -> Option<Event>
     ensures { result ≡ key_told key.now }
 {
+    match stroke_told(key) {
+        Some(key) => Some(Event::Key(key)),
+        None => None,
+    }
+}
+
+/// The keystroke of a text, as in `key` lines of a script; or `None` if the bytes are no key's text.
+pub(crate) fn stroke_told(key: &[u8]) -> Option<Keystroke>
+    ensures { result ≡ stroke_told key.now }
+{
     match text_in(key) {
         Some(key) => match Keystroke::parse(key) {
-            Ok(key) => Some(Event::Key(key)),
+            Ok(key) => Some(key),
             Err(_) => None,
         },
         None => None,

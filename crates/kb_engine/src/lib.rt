@@ -6,6 +6,7 @@
 pub mod engine;
 pub mod events;
 pub mod files;
+mod lookups;
 pub mod notice;
 pub mod outcome;
 pub mod part;

@@ -23,6 +23,8 @@ pub enum Part {
     After,
     /// The command of the last step of `runCommands` that began in the last event.
     Step,
+    /// The keystrokes that were looked up last, in canonical form, each with a line feed behind it.
+    Keys,
 }
 
 impl Part {
@@ -40,6 +42,7 @@ impl Part {
             6 => Some(Part::Before),
             7 => Some(Part::After),
             8 => Some(Part::Step),
+            9 => Some(Part::Keys),
             _ => None,
         }
     }

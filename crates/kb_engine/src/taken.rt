@@ -1,11 +1,12 @@
 //! What an event takes: the rule of a key press, or the entry of a choice. A host reads the command and its
 //! arguments here, so that it can run commands of its own.
 ghost use Rattle.std.specs.Prelude.{◌≡◌, [], ◌∷◌, ◌++◌, IfOk, OnErr, option_map};
-ghost use Rattle.kb_engine.specs.Taken.{AreArguments, Completes, IsRule, TakesRule};
+ghost use Rattle.kb_engine.specs.Taken.{AreArguments, Completes, IsRule, TakesFound, TakesRule};
 ghost use Rattle.kb_engine.specs.Taken.{bare, chosen, no_taken, prepared, prepared_line, taken_if};
 ghost use Rattle.kb_engine.specs.declared.taken.TakenKind.TheVariants.{Nothing};
 ghost use Rattle.kb_keys.specs.Chord.{chord_spelling};
 ghost use Rattle.kb_script.specs.ScriptLine.{said_by};
+ghost use Rattle.kb_session.specs.Inspect.{found_by};
 ghost use Rattle.kb_session.specs.Palette.{entry_at};
 
 use crate::outcome::Outcome;
@@ -13,7 +14,7 @@ use crate::plain::PlainCommand;
 use kb_base::{NoMemory, Text};
 use kb_keys::{Keystroke, write_strokes};
 use kb_palette::Entry;
-use kb_resolve::Found;
+use kb_resolve::{Found, Resolved};
 use kb_rules::{Json, Rule};
 use kb_script::ScriptLine;
 use kb_session::Session;
@@ -167,6 +168,23 @@ fn taken_by_rule(
         source,
         place: rule.place,
     })
+}
+
+/// What a press of a key would take. Nothing is pressed. Error: `NoMemory`.
+pub(crate) fn looked_up(
+    alloc: Global,
+    key: Keystroke,
+    session: &Session<PlainCommand>,
+) -> Result<Taken, NoMemory>
+    ensures { IfOk result (TakesFound session.now.state
+        (chord_spelling (session.now.state.pressed ++ key ∷ [])) (found_by key session.now.state)) }
+{
+    let before = prepared_key(alloc, key, session)?;
+    match session.look_up(key)? {
+        Resolved::Found(placed) => taken_by_rule(alloc, placed.rule, before, session),
+        Resolved::More => Ok(Taken::bare(alloc, TakenKind::Chord, before.chord)),
+        Resolved::Nothing => Ok(before),
+    }
 }
 
 /// What a choice takes: the entry's command. Error: `NoMemory`.

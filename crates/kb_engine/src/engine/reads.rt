@@ -28,6 +28,7 @@ impl Engine {
             Part::Before => before_caret(&self.running),
             Part::After => after_caret(&self.running),
             Part::Step => step_command(&self.running),
+            Part::Keys => self.shown.as_str().as_bytes(),
         }
     }
 
@@ -44,7 +45,7 @@ impl Engine {
         }
     }
 
-    /// The number of what the last event did: 0 if no command starts, 1 if a chord is open, and 2 if a
+    /// The number of what the last event did, or a press that was looked up would do: 0 if no command starts, 1 if a chord is open, and 2 if a
     /// command starts.
     pub fn kind(&self) -> u32
         ensures { result ≡ kind_number self.now.taken.kind }

@@ -1,0 +1,2 @@
+pub mod KeysOfLemmas
+pub mod ContinuationsLemmas

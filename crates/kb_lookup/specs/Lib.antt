@@ -1,0 +1,2 @@
+pub mod KeysOf
+pub mod Continuations

@@ -1,0 +1,10 @@
+//! What a host shows of the keys before one is pressed: the keystrokes that start a command in the present
+//! context, for menus and the palette, and those that go on from the keystrokes of an open chord. Nothing is
+//! pressed.
+#![tactic(auto)]
+
+pub mod continuations;
+pub mod keys_of;
+
+pub use continuations::{Next, continuations};
+pub use keys_of::keys_of;
