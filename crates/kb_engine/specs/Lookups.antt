@@ -12,8 +12,8 @@ use Rattle.kb_keys.specs.Chord.{chord_spelling}
 use Rattle.kb_keys.specs.Keystroke.{keystroke_of, spelling}
 use Rattle.kb_keys.specs.declared.key_fault.KeyFault.{KeyFault}
 use Rattle.kb_keys.specs.declared.keystroke.Keystroke.{Keystroke}
-use Rattle.kb_lookup.specs.Continuations.{Behind, continuations}
-use Rattle.kb_lookup.specs.KeysOf.{keys_of}
+use Rattle.kb_lookup.specs.GoingOn.{Behind, continuations}
+use Rattle.kb_lookup.specs.Starting.{keys_of}
 use Rattle.kb_rules.specs.declared.rule.Rule.{Rule}
 use Rattle.kb_session.specs.Inspect.{found_by}
 use Rattle.kb_session.specs.State.{State}

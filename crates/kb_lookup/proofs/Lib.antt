@@ -1,2 +1,3 @@
-pub mod KeysOfLemmas
-pub mod ContinuationsLemmas
+pub mod GoingOnLemmas
+pub mod StartingLemmas
+pub mod WalkLemmas

@@ -1,2 +1,2 @@
-pub mod KeysOf
-pub mod Continuations
+pub mod Starting
+pub mod GoingOn

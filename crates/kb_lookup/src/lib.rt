@@ -3,8 +3,8 @@
 //! pressed.
 #![tactic(auto)]
 
-pub mod continuations;
-pub mod keys_of;
+pub mod going_on;
+pub mod starting;
 
-pub use continuations::{Next, continuations};
-pub use keys_of::keys_of;
+pub use going_on::continuations;
+pub use starting::keys_of;

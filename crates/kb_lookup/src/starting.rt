@@ -1,8 +1,8 @@
 //! The keystrokes that start a command.
-ghost use Rattle.std.specs.Prelude.{◌≡◌, IfOk, map};
+ghost use Rattle.std.specs.Prelude.{◌≡◌, IfOk, OnOk, map};
 ghost use Rattle.kb_bindings.specs.Sources.{enablement, rules_of};
 ghost use Rattle.kb_context.specs.Scopes.{context};
-ghost use Rattle.kb_lookup.specs.KeysOf.{AreKeysOf, has_chord, is_start, keys_of};
+ghost use Rattle.kb_lookup.specs.Starting.{AreKeysOf, has_chord, is_start, keys_of, with_new};
 
 use kb_base::NoMemory;
 use kb_bindings::Bindings;
@@ -21,7 +21,7 @@ use std::alloc::Global;
 ///
 /// It takes a comparison of names for each rule in force, and a search for each rule of the command. Error:
 /// `NoMemory`.
-#[tactic(auto, using(crate::proofs::KeysOfLemmas::are_keys_of))]
+#[tactic(auto, using(crate::proofs::StartingLemmas::keys_are))]
 pub fn keys_of<'b>(
     alloc: Global,
     bindings: &'b Bindings,
@@ -39,8 +39,8 @@ pub fn keys_of<'b>(
     let resolver = bindings.resolver();
     for position in (0..resolver.rules().len()).rev() {
         if let Some(rule) = resolver.at(position) {
-            if is_start(bindings, scopes, command, rule)? && !has_chord(&made, &rule.chord) {
-                made.push(rule)?;
+            if is_start(bindings, scopes, command, rule)? {
+                add_new(&mut made, rule)?;
             }
         }
     }
@@ -68,6 +68,17 @@ fn is_start(
         Resolved::Found(placed) => Ok(placed.rule.command.as_str() == command),
         _ => Ok(false),
     }
+}
+
+/// Adds a rule to these, unless one of them has its keystrokes. Error: `NoMemory`; nothing is added then.
+fn add_new<'b>(made: &mut Vec<&'b Rule>, rule: &'b Rule) -> Result<(), NoMemory>
+    ensures { OnOk result (map (λ r. r.now) made.new.items
+        ≡ with_new rule.entry.now (map (λ r. r.now) made.old.items)) }
+{
+    if !has_chord(made.as_slice(), &rule.chord) {
+        made.push(rule)?;
+    }
+    Ok(())
 }
 
 /// Whether one of these rules has the same keystrokes.

@@ -1,24 +1,15 @@
 -- The keystrokes that go on from others.
-use Rattle.std.specs.Prelude.{◌≡◌, ◌×◌, ◌++◌, ◌∷◌, [], if◌then◌else◌, filter, length, map, slice_get, not}
+use Rattle.std.specs.Prelude.{◌≡◌, ◌++◌, ◌∷◌, [], if◌then◌else◌, filter, length, slice_get}
 use Rattle.std.specs.Prelude.{Bool, true, false, List, Option, None, Some}
-use Rattle.std.specs.List.{list_any, Any}
+use Rattle.std.specs.List.{list_any}
 use Rattle.kb_context.specs.Scopes.{Keys}
 use Rattle.kb_keys.specs.Chord.{begins_with}
 use Rattle.kb_keys.specs.Keystroke.{same_stroke}
 use Rattle.kb_keys.specs.declared.keystroke.Keystroke.{Keystroke}
-use Rattle.kb_lookup.specs.declared.continuations.Next.{Next}
 use Rattle.kb_resolve.specs.Enablements.{Enabling}
-use Rattle.kb_resolve.specs.Resolved.{Resolution, found, more, nothing, resolution_of}
+use Rattle.kb_resolve.specs.Resolved.{Resolution, found, more, nothing}
 use Rattle.kb_resolve.specs.Resolver.{resolved}
 use Rattle.kb_rules.specs.declared.rule.Rule.{Rule}
-
--- a keystroke, and what a press of it would find
-pub record Behind : Type 0 where
-  pub key : Keystroke
-  pub finds : Resolution
-
-abbrev pub view_of : Next → Behind
-view_of next = record { key = next.key; finds = resolution_of next.found }
 
 -- the keystroke behind the pressed ones, if the chord begins with them and has more
 abbrev pub next_key : List Keystroke → List Keystroke → Option Keystroke
@@ -42,18 +33,15 @@ is_something (found rule) = true
 is_something more = true
 is_something nothing = false
 
--- what a press of a keystroke would find
-abbrev pub behind : Keys → Enabling → List Rule → List Keystroke → Keystroke → Behind
-behind keys enabling rules pressed key =
-    record { key = key; finds = resolved (pressed ++ key ∷ []) keys enabling rules }
+-- a search for the pressed keystrokes with one more behind them finds something
+abbrev pub goes_on : Keys → Enabling → List Rule → List Keystroke → Keystroke → Bool
+goes_on keys enabling rules pressed key = is_something (resolved (pressed ++ key ∷ []) keys enabling rules)
 
--- the keystrokes behind which a search finds something
-abbrev pub continuations : Keys → Enabling → List Rule → List Keystroke → List Behind
-continuations keys enabling rules pressed = filter (λ next. is_something next.finds)
-    (map (behind keys enabling rules pressed) (next_keys pressed rules))
+-- the next keystrokes of rules behind which a search finds something
+abbrev pub continuations : Keys → Enabling → List Rule → List Keystroke → List Keystroke
+continuations keys enabling rules pressed = filter (goes_on keys enabling rules pressed) (next_keys pressed rules)
 
 -- all keystrokes behind which a search finds something are among them
-abbrev pub Continue : Keys → Enabling → List Rule → List Keystroke → Type 0
-Continue keys enabling rules pressed = (key : Keystroke)
-    → is_something (resolved (pressed ++ key ∷ []) keys enabling rules) ≡ true
-    → Any (λ next. next.key ≡ key) (continuations keys enabling rules pressed)
+abbrev pub AllGoOn : Keys → Enabling → List Rule → List Keystroke → Type 0
+AllGoOn keys enabling rules pressed = (key : Keystroke) → goes_on keys enabling rules pressed key ≡ true
+    → has_key (continuations keys enabling rules pressed) key ≡ true

@@ -1,6 +1,6 @@
 -- The keystrokes that start a command.
-use Rattle.std.specs.Prelude.{◌≡◌, ◌&&◌, ◌++◌, ◌∷◌, [], if◌then◌else◌, not, ℕ, All, Bool, true, false, List}
-use Rattle.std.specs.List.{list_any, Any}
+use Rattle.std.specs.Prelude.{◌≡◌, ◌&&◌, ◌++◌, ◌∷◌, [], if◌then◌else◌, ℕ, Bool, true, false, List}
+use Rattle.std.specs.List.{list_all, list_any}
 use Rattle.std.specs.Str.{bytes_eq}
 use Rattle.kb_context.specs.Scopes.{Keys}
 use Rattle.kb_keys.specs.Chord.{same_keys}
@@ -27,15 +27,15 @@ is_start keys enabling rules command rule =
 abbrev pub has_chord : List Rule → List Keystroke → Bool
 has_chord rules chord = list_any (λ rule. same_keys rule.chord chord) rules
 
--- a rule behind others, if it passes a test and none of them has its keystrokes
-abbrev pub with_rule : (Rule → Bool) → Rule → List Rule → List Rule
-with_rule test rule made =
-    if test rule && not (has_chord made rule.chord) then made ++ rule ∷ [] else made
+-- a rule behind others, if none of them has its keystrokes
+abbrev pub with_new : Rule → List Rule → List Rule
+with_new rule made = if has_chord made rule.chord then made else made ++ rule ∷ []
 
 -- those that pass a test, from the bottom to the top, each keystrokes once
 abbrev pub from_below : (Rule → Bool) → List Rule → List Rule
 from_below test [] = []
-from_below test (rule ∷ below) = with_rule test rule (from_below test below)
+from_below test (rule ∷ below) =
+    if test rule then with_new rule (from_below test below) else from_below test below
 
 -- the rules that start the command, the lowest first
 abbrev pub keys_of : Keys → Enabling → List Rule → List ℕ → List Rule
@@ -44,8 +44,8 @@ keys_of keys enabling rules command = from_below (is_start keys enabling rules c
 -- each of them is one whose keystrokes find a rule of the command, and all such keystrokes are among them
 pub record AreKeysOf (keys : Keys) (enabling : Enabling) (rules : List Rule) (command : List ℕ)
     : Type 0 where
-  pub each_starts : All (λ rule. finds command (resolved rule.chord keys enabling rules) ≡ true)
-      (keys_of keys enabling rules command)
+  pub each_starts : list_all (λ rule. finds command (resolved rule.chord keys enabling rules))
+      (keys_of keys enabling rules command) ≡ true
   pub all_are_there : (chord : List Keystroke)
       → finds command (resolved chord keys enabling rules) ≡ true
-      → Any (λ rule. rule.chord ≡ chord) (keys_of keys enabling rules command)
+      → has_chord (keys_of keys enabling rules command) chord ≡ true
