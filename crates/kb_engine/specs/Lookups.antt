@@ -12,7 +12,7 @@ use Rattle.kb_keys.specs.Chord.{chord_spelling}
 use Rattle.kb_keys.specs.Keystroke.{keystroke_of, spelling}
 use Rattle.kb_keys.specs.declared.key_fault.KeyFault.{KeyFault}
 use Rattle.kb_keys.specs.declared.keystroke.Keystroke.{Keystroke}
-use Rattle.kb_lookup.specs.GoingOn.{Behind, continuations}
+use Rattle.kb_lookup.specs.GoingOn.{continuations}
 use Rattle.kb_lookup.specs.Starting.{keys_of}
 use Rattle.kb_rules.specs.declared.rule.Rule.{Rule}
 use Rattle.kb_session.specs.Inspect.{found_by}
@@ -27,8 +27,8 @@ keys_text command s =
     keys_lines (keys_of (context s.core.scopes) (enablement s.sources) (rules_of s.sources) command)
 
 -- the keystrokes that go on from the open chord, with a line feed behind each
-abbrev pub next_lines : List Behind → List ℕ
-next_lines all = flat_map (λ next. spelling next.key ++ 10 ∷ []) all
+abbrev pub next_lines : List Keystroke → List ℕ
+next_lines keys = flat_map (λ key. spelling key ++ 10 ∷ []) keys
 
 abbrev pub continuations_text : State → List ℕ
 continuations_text s = next_lines

@@ -36,10 +36,10 @@ pub(crate) fn continuations_text(
     ensures { IfOk result (λ text. text ≡ continuations_text session.now.state) }
 {
     let scopes = session.core().scopes();
-    let all = continuations(alloc, session.bindings(), scopes, session.pressed())?;
+    let keys = continuations(alloc, session.bindings(), scopes, session.pressed())?;
     let mut text = String::new(alloc);
-    for next in &all {
-        next.key.write_to(&mut text)?;
+    for key in &keys {
+        key.write_to(&mut text)?;
         text.push('\n')?;
     }
     Ok(Text::from_string(text))
