@@ -3,7 +3,7 @@
 //! if the session is stopped. Only behind 0 is anything noted.
 ghost use Rattle.std.specs.Prelude.{◌≡◌};
 ghost use Rattle.kb_c.specs.Held.{Answers, OnEngine};
-ghost use Rattle.kb_engine.specs.Lookups.{Lists, ListsKeys, LooksUp, continuations_text, stroke_told};
+ghost use Rattle.kb_engine.specs.Lookups.{Lists, ListsKeys, LooksUp, continuations_text, stroke_told, text_told};
 ghost use Rattle.kb_engine.specs.Outcome.{outcome_numbered};
 
 use crate::handle::Handle;
@@ -31,7 +31,7 @@ pub extern "C" fn pafjirn_look_up(alloc: Global, h: &mut Handle, key: &[u8]) -> 
 #[unsafe(no_mangle)]
 #[tactic(auto, using(crate::proofs::AnswerLemmas::answering))]
 pub extern "C" fn pafjirn_keys_of(alloc: Global, h: &mut Handle, command: &[u8]) -> u32
-    ensures { Answers (OnEngine (ListsKeys command.now))
+    ensures { Answers (OnEngine (ListsKeys (text_told command.now)))
         h.old.value (outcome_numbered result) h.new.value }
 {
     let Some(mut hosted) = h.take(alloc) else {

@@ -65,6 +65,10 @@ LooksUp (Some key) old o new = Looks (NotesTaken old key) old old.running o new
 abbrev pub Lists : (State → List ℕ) → EngineData → Outcome → EngineData → Type 0
 Lists text old o new = Looks (λ s new. new ≡ record old { shown = text s }) old old.running o new
 
-abbrev pub ListsKeys : List ℕ → EngineData → Outcome → EngineData → Type 0
-ListsKeys command old o new =
-    if is_utf8 command then Lists (keys_text command) old o new else (o ≡ outcome.NoText) × (new ≡ old)
+-- those of a command, if its bytes are a text
+abbrev pub text_told : List ℕ → Option (List ℕ)
+text_told bytes = if is_utf8 bytes then Some bytes else None
+
+abbrev pub ListsKeys : Option (List ℕ) → EngineData → Outcome → EngineData → Type 0
+ListsKeys None old o new = (o ≡ outcome.NoText) × (new ≡ old)
+ListsKeys (Some command) old o new = Lists (keys_text command) old o new

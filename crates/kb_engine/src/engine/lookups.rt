@@ -1,7 +1,7 @@
 //! What a host looks up before a key is pressed. No look changes the session. Before the load the outcome is
 //! `OutOfOrder`, behind a stop `Stopped`; only if it is `Done` is anything noted.
 ghost use Rattle.std.specs.Prelude.{◌≡◌};
-ghost use Rattle.kb_engine.specs.Lookups.{Lists, ListsKeys, LooksUp, continuations_text, stroke_told};
+ghost use Rattle.kb_engine.specs.Lookups.{Lists, ListsKeys, LooksUp, continuations_text, stroke_told, text_told};
 
 use crate::engine::Engine;
 use crate::events::{stroke_told, text_in};
@@ -36,7 +36,7 @@ impl Engine {
     /// Notes the keystrokes that start a command now (`kb_lookup::keys_of`), as `Part::Keys`: the first line
     /// is what a menu shows. `NoText` for bytes that aren't UTF-8.
     pub fn keys_of(&mut self, command: &[u8]) -> Outcome
-        ensures { ListsKeys command.now self.old result self.new }
+        ensures { ListsKeys (text_told command.now) self.old result self.new }
     {
         let Some(command) = text_in(command) else {
             return Outcome::NoText;
