@@ -173,14 +173,14 @@ fn taken_by_rule(
 /// What a press of a key would take. Nothing is pressed. Error: `NoMemory`.
 pub(crate) fn looked_up(
     alloc: Global,
-    key: Keystroke,
+    key: &Keystroke,
     session: &Session<PlainCommand>,
 ) -> Result<Taken, NoMemory>
     ensures { IfOk result (TakesFound session.now.state
-        (chord_spelling (session.now.state.pressed ++ key ∷ [])) (found_by key session.now.state)) }
+        (chord_spelling (session.now.state.pressed ++ key.now ∷ [])) (found_by key.now session.now.state)) }
 {
-    let before = prepared_key(alloc, key, session)?;
-    match session.look_up(key)? {
+    let before = prepared_key(alloc, *key, session)?;
+    match session.look_up(*key)? {
         Resolved::Found(placed) => taken_by_rule(alloc, placed.rule, before, session),
         Resolved::More => Ok(Taken::bare(alloc, TakenKind::Chord, before.chord)),
         Resolved::Nothing => Ok(before),

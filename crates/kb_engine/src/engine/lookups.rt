@@ -24,7 +24,7 @@ impl Engine {
         if running.session().is_stopped() {
             return Outcome::Stopped;
         }
-        match looked_up(self.alloc, key, running.session()) {
+        match looked_up(self.alloc, &key, running.session()) {
             Ok(taken) => {
                 self.taken = taken;
                 Outcome::Done
