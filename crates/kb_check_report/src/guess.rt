@@ -1,4 +1,5 @@
 //! What the sentence of a problem guesses, as a change of its file.
+use kb_guess::guess_in;
 use kb_places::{Span, part_of};
 use kb_problems::Problem;
 
@@ -9,41 +10,6 @@ pub(crate) struct Change<'p> {
     pub(crate) span: Span,
     /// The text in its place.
     pub(crate) text: &'p str,
-}
-
-/// What a sentence guesses.
-#[derive(Clone, Copy)]
-struct Guess<'s> {
-    /// The text that is wrong, or `None` for all that stands between quotes.
-    wrong: Option<&'s str>,
-    /// The text that is meant.
-    meant: &'s str,
-}
-
-/// The guess of a sentence, if it has one. It says "`WRONG`; write `MEANT`", "`WRONG`; is `MEANT` meant", or
-/// "; write `MEANT`" of the whole.
-fn guess_in(sentence: &str) -> Option<Guess<'_>> {
-    let mut parts = sentence.split('`');
-    let before = parts.next()?;
-    let first = parts.next()?;
-    if before.ends_with("; write ") {
-        return Some(Guess {
-            wrong: None,
-            meant: first,
-        });
-    }
-    let between = parts.next()?;
-    let second = parts.next()?;
-    let behind = parts.next()?;
-    let is_guess = between == "; write " || (between == "; is " && behind.starts_with(" meant"));
-    if is_guess {
-        Some(Guess {
-            wrong: Some(first),
-            meant: second,
-        })
-    } else {
-        None
-    }
 }
 
 /// Whether a text stands for itself in a string of JSON.
@@ -115,12 +81,12 @@ fn part_meant(bytes: &[u8], span: Span, wrong: Option<&str>) -> Option<Span> {
 /// The change that a problem guesses of its file, behind whose byte order mark these bytes stand.
 pub(crate) fn change_of<'p>(bytes: &[u8], problem: &'p Problem) -> Option<Change<'p>> {
     let guess = guess_in(problem.sentence.as_str())?;
-    if !is_plain(guess.meant) {
+    if !is_plain(guess.right) {
         return None;
     }
     let span = part_meant(bytes, problem.span?, guess.wrong)?;
     Some(Change {
         span,
-        text: guess.meant,
+        text: guess.right,
     })
 }
