@@ -2,7 +2,8 @@
  *
  * A host makes an engine, hands in the bytes of its files, loads a session of them, and tells it events.
  * After each event it reads the lines that the event added to the trace, and what a key press or a choice
- * took. Each function does exactly what docs/CALLS.md says.
+ * took. Before a press it can look up what the press would take, and which keys a command has. Each function
+ * does exactly what docs/CALLS.md says.
  *
  *     pafjirn_handle engine = {0};
  *     uint8_t trace[1024];
@@ -61,16 +62,18 @@ typedef struct {
  *   the record are still those of the event before, so don't print them again.
  * - PAFJIRN_NO_MEMORY from an event: the session is stopped, and the trace is empty. A press or a choice may
  *   have changed the text, context keys and the chord. The record is empty.
- * - PAFJIRN_NO_MEMORY from a call before the load, or from the load: all is as before. The call can be
- *   repeated.
- * - PAFJIRN_STOPPED: the session stays as it was. The trace and the record are empty.
+ * - PAFJIRN_NO_MEMORY from a call before the load, from the load, or from a look-up (pafjirn_look_up,
+ *   pafjirn_keys_of, pafjirn_continuations): all is as before. The call can be repeated.
+ * - PAFJIRN_STOPPED: the session stays as it was. Behind an event the trace and the record are empty; a
+ *   look-up leaves both as they are.
+ * - PAFJIRN_DONE from a look-up: the trace is as before.
  * - Any other: the trace and the record are those of this event. */
 enum {
     PAFJIRN_DONE = 0,          /* it did what was asked */
     PAFJIRN_OUT_OF_ORDER = 1,  /* files come before the load, and events behind it */
     PAFJIRN_UNKNOWN = 2,       /* a number stands for nothing, or there is no engine */
     PAFJIRN_REFUSED = 3,       /* the load or the event was refused: the notice or the trace says why */
-    PAFJIRN_NO_MEMORY = 5,     /* memory was refused; a session is stopped then */
+    PAFJIRN_NO_MEMORY = 5,     /* memory was refused; an event then stops the session */
     PAFJIRN_NO_TEXT = 6,       /* bytes aren't UTF-8 */
     PAFJIRN_NOT_FOUND = 7,     /* a command is none of the engine's: the host runs it */
     PAFJIRN_BAD_ARGUMENTS = 8, /* the arguments don't fit a command, which didn't run */
@@ -90,9 +93,11 @@ enum { PAFJIRN_LAYOUT = 0, PAFJIRN_DEFAULTS = 1, PAFJIRN_USER = 2 };
  *
  * The record of an event is the texts 2 to 5, pafjirn_taken and pafjirn_place. Only a key press and a choice
  * have one; behind any other event it is empty. It doesn't name the event: the host knows it, because it told
- * it. All else stands in the lines of the trace alone: why an event was refused (refused), a chord that ended
- * (left), the calls of a handler (call), the steps of runCommands (run), the ticket of a closure
- * (registered), a line that was no event (unread line), and what a reload and a change of an extension did.
+ * it. pafjirn_look_up puts what a press would take in the place of the record; the trace stays then, and so
+ * do pafjirn_steps and PAFJIRN_STEP. All else stands in the lines of the trace alone: why an event was
+ * refused (refused), a chord that ended (left), the calls of a handler (call), the steps of runCommands
+ * (run), the ticket of a closure (registered), a line that was no event (unread line), and what a reload and
+ * a change of an extension did.
  *
  * Where runCommands names a command of the host's own, the answer is PAFJIRN_NOT_FOUND, and the record has
  * runCommands with the arguments of the rule. PAFJIRN_STEP is the command, and pafjirn_steps its number in
@@ -102,15 +107,17 @@ enum {
     PAFJIRN_TRACE = 0,     /* the trace lines of the last event, each with a line feed behind it */
     PAFJIRN_NOTICE = 1,    /* the warnings of the load, or why it was refused, in lines */
     PAFJIRN_CHORD = 2,     /* the keystrokes of the last key press behind those of the open chord */
-    PAFJIRN_COMMAND = 3,   /* the command that the last event took */
+    PAFJIRN_COMMAND = 3,   /* the command that the last event took, or a press would take */
     PAFJIRN_ARGUMENTS = 4, /* the arguments of its rule as JSON, or nothing */
     PAFJIRN_SOURCE = 5,    /* the file of its rule: defaults, user, or the identifier of an extension */
     PAFJIRN_BEFORE = 6,    /* the text before the caret */
     PAFJIRN_AFTER = 7,     /* the text behind the caret */
-    PAFJIRN_STEP = 8       /* the command of the last step of runCommands that began in the last event */
+    PAFJIRN_STEP = 8,      /* the command of the last step of runCommands that began in the last event */
+    PAFJIRN_KEYS = 9       /* what pafjirn_keys_of or pafjirn_continuations found last, whatever events came
+                              since: keystrokes, each with a line feed behind it; at first nothing */
 };
 
-/* What the last event did, for pafjirn_taken. */
+/* What the last event did, or a press that was looked up would do, for pafjirn_taken. */
 enum {
     PAFJIRN_NOTHING = 0,  /* no command starts */
     PAFJIRN_CHORDING = 1, /* the press opened a chord, or went on with one */
@@ -212,6 +219,28 @@ PAFJIRN_NONNULL uint32_t pafjirn_palette(pafjirn_handle *engine, const uint8_t *
  * engine; NO_MEMORY, STOPPED. */
 PAFJIRN_NONNULL uint32_t pafjirn_choose(pafjirn_handle *engine, uint32_t number);
 
+/* Looks up what a press of a key, by its text as in pafjirn_key, would take now, behind the keystrokes of the
+ * open chord. Nothing is pressed: the session and the trace stay. pafjirn_taken, PAFJIRN_CHORD,
+ * PAFJIRN_COMMAND, PAFJIRN_ARGUMENTS, PAFJIRN_SOURCE and pafjirn_place are then as behind the press.
+ * Answers: DONE; NO_KEY; OUT_OF_ORDER before the load; UNKNOWN without an engine; NO_MEMORY, STOPPED. */
+PAFJIRN_NONNULL uint32_t pafjirn_look_up(pafjirn_handle *engine, const uint8_t *key, size_t length);
+
+/* Looks up the keystrokes that start a command in the present context, without an open chord: PAFJIRN_KEYS
+ * then has a line for each, in canonical form, those of the lowest rule first. The first line is what a menu
+ * shows, as VS Code's lookupKeybinding does. Not among them are the keystrokes of a rule whose clause or
+ * enablement fails, those that a lower rule of another command takes, and those from which a lower rule goes
+ * on. The keystrokes of a list are those of runCommands, and not of the commands in it. The trace and the
+ * record stay.
+ * Answers: DONE; NO_TEXT; OUT_OF_ORDER before the load; UNKNOWN without an engine; NO_MEMORY, STOPPED. */
+PAFJIRN_NONNULL uint32_t pafjirn_keys_of(pafjirn_handle *engine, const uint8_t *command, size_t length);
+
+/* Looks up the keystrokes that go on from those of the open chord, or the first keystrokes of rules if no
+ * chord is open: PAFJIRN_KEYS then has a line for each, in canonical form, those of the lowest rule first. No
+ * other key finds anything. pafjirn_look_up says what a press of each would take. The trace and the record
+ * stay.
+ * Answers: DONE; OUT_OF_ORDER before the load; UNKNOWN without an engine; NO_MEMORY, STOPPED. */
+PAFJIRN_NONNULL uint32_t pafjirn_continuations(pafjirn_handle *engine);
+
 /* Copies a text from a place on, as much as there is room for, and returns the length of the whole text,
  * which is also that where less was copied. The bytes of `into` behind what was copied stay. A place past the
  * end copies nothing. A `part` that stands for nothing, and a handle without an engine, read the empty text.
@@ -219,14 +248,14 @@ PAFJIRN_NONNULL uint32_t pafjirn_choose(pafjirn_handle *engine, uint32_t number)
 PAFJIRN_NONNULL size_t pafjirn_read(pafjirn_handle *engine, uint32_t part, size_t from, uint8_t *into,
                                     size_t room);
 
-/* Returns what the last event did: PAFJIRN_NOTHING, PAFJIRN_CHORDING or PAFJIRN_STARTED. It is
- * PAFJIRN_NOTHING before an event, behind one that is neither a key press nor a choice, and without an
- * engine. */
+/* Returns what the last event did, or what the press that was looked up since would do: PAFJIRN_NOTHING,
+ * PAFJIRN_CHORDING or PAFJIRN_STARTED. It is PAFJIRN_NOTHING before an event, behind one that is neither a
+ * key press nor a choice, and without an engine. */
 PAFJIRN_NONNULL uint32_t pafjirn_taken(pafjirn_handle *engine);
 
-/* Returns the place of the rule that the last event took: the number of elements above it in its file, or in
- * contributes.keybindings of its package.json. It is also 0 where no rule was taken: then PAFJIRN_SOURCE is
- * empty. */
+/* Returns the place of the rule that the last event took, or that the press would take which was looked up
+ * since: the number of elements above it in its file, or in contributes.keybindings of its package.json. It
+ * is also 0 where no rule is taken: then PAFJIRN_SOURCE is empty. */
 PAFJIRN_NONNULL size_t pafjirn_place(pafjirn_handle *engine);
 
 /* Returns how many steps of runCommands began in the last event. PAFJIRN_STEP is the command of the last one.

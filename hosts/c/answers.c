@@ -1,6 +1,9 @@
 /* Checks the answers of each call of the C library: in and out of order, with dead handles, with wrong texts,
  * and with two engines in turn. It prints each answer that differs from include/pafjirn.h. The status is 0 if
- * there is none. tools/check-hosts runs it. */
+ * there is none. tools/check-hosts runs it.
+ *
+ * With the word `refused` it only looks up keys, while something else refuses memory (tools/preload). It then
+ * prints `look-up` if a look-up was refused memory, and `event` if an event was, which stops the session. */
 #include <pafjirn.h>
 #include <stdio.h>
 #include <string.h>
@@ -101,6 +104,12 @@ static void dead_handles(void) {
     expect("an unset without an engine", pafjirn_unset(&dead, TEXT("window"), TEXT("k")), PAFJIRN_UNKNOWN);
     expect("a palette without an engine", pafjirn_palette(&dead, TEXT("")), PAFJIRN_UNKNOWN);
     expect("a choice without an engine", pafjirn_choose(&dead, 1), PAFJIRN_UNKNOWN);
+    expect("a look-up without an engine", pafjirn_look_up(&dead, TEXT("a")), PAFJIRN_UNKNOWN);
+    expect("no key without an engine", pafjirn_look_up(&dead, TEXT("ctrl+")), PAFJIRN_UNKNOWN);
+    expect("keys without an engine", pafjirn_keys_of(&dead, TEXT("type")), PAFJIRN_UNKNOWN);
+    expect("no text without an engine", pafjirn_keys_of(&dead, TEXT("\xff")), PAFJIRN_UNKNOWN);
+    expect("continuations without an engine", pafjirn_continuations(&dead), PAFJIRN_UNKNOWN);
+    expect("their text without an engine", pafjirn_read(&dead, PAFJIRN_KEYS, 0, room, sizeof room), 0);
     expect("a read without an engine", pafjirn_read(&dead, PAFJIRN_TRACE, 0, room, sizeof room), 0);
     expect("an entry without an engine", pafjirn_entry(&dead, 1, PAFJIRN_LABEL, 0, room, sizeof room), 0);
     expect("the room after both", (unsigned long)memcmp(room, "abc", 4), 0);
@@ -113,6 +122,7 @@ static void dead_handles(void) {
     pafjirn_free(&dead);
     pafjirn_free(&dead);
     expect("a key after the end", pafjirn_key(&dead, TEXT("a")), PAFJIRN_UNKNOWN);
+    expect("a look-up after the end", pafjirn_look_up(&dead, TEXT("a")), PAFJIRN_UNKNOWN);
 }
 
 /* keycheck with a handle that never had an engine, and with one whose engine ended. */
@@ -141,6 +151,12 @@ static void out_of_order(void) {
     expect("a line before the load", pafjirn_line(&engine, TEXT("key a")), PAFJIRN_OUT_OF_ORDER);
     expect("a palette before the load", pafjirn_palette(&engine, TEXT("")), PAFJIRN_OUT_OF_ORDER);
     expect("a choice before the load", pafjirn_choose(&engine, 1), PAFJIRN_OUT_OF_ORDER);
+    expect("a look-up before the load", pafjirn_look_up(&engine, TEXT("a")), PAFJIRN_OUT_OF_ORDER);
+    expect("no key before the load", pafjirn_look_up(&engine, TEXT("ctrl+")), PAFJIRN_NO_KEY);
+    expect("keys before the load", pafjirn_keys_of(&engine, TEXT("type")), PAFJIRN_OUT_OF_ORDER);
+    expect("no text before the load", pafjirn_keys_of(&engine, TEXT("\xff")), PAFJIRN_NO_TEXT);
+    expect("continuations before the load", pafjirn_continuations(&engine), PAFJIRN_OUT_OF_ORDER);
+    expect_text(&engine, PAFJIRN_KEYS, "");
     expect("no file", pafjirn_file(&engine, 3, TEXT("[]")), PAFJIRN_UNKNOWN);
     expect("no platform", pafjirn_platform(&engine, 3), PAFJIRN_UNKNOWN);
     expect("a bad file", pafjirn_file(&engine, PAFJIRN_USER, TEXT("{")), PAFJIRN_DONE);
@@ -154,7 +170,11 @@ static void out_of_order(void) {
     expect("a file after the load", pafjirn_file(&engine, PAFJIRN_USER, TEXT("[]")), PAFJIRN_OUT_OF_ORDER);
     expect("an extension after the load", pafjirn_extension(&engine, TEXT("{}"), false, TEXT("")),
            PAFJIRN_OUT_OF_ORDER);
-    expect("no part", pafjirn_read(&engine, 8, 0, (uint8_t[1]){0}, 1), 0);
+    expect("keys without rules", pafjirn_keys_of(&engine, TEXT("type")), PAFJIRN_DONE);
+    expect_text(&engine, PAFJIRN_KEYS, "");
+    expect("continuations without rules", pafjirn_continuations(&engine), PAFJIRN_DONE);
+    expect_text(&engine, PAFJIRN_KEYS, "");
+    expect("no part", pafjirn_read(&engine, 10, 0, (uint8_t[1]){0}, 1), 0);
     pafjirn_free(&engine);
 }
 
@@ -276,8 +296,147 @@ static void chords_and_steps(void) {
     expect("a step with a line feed", pafjirn_key(&engine, TEXT("d")), PAFJIRN_NOT_FOUND);
     expect("its number", pafjirn_steps(&engine), 2);
     expect_text(&engine, PAFJIRN_STEP, "x\nrun y");
+    expect("a look-up behind it", pafjirn_look_up(&engine, TEXT("c")), PAFJIRN_DONE);
+    expect_record(&engine, PAFJIRN_STARTED, "c", "type", "[]", "user");
+    expect("the steps behind the look-up", pafjirn_steps(&engine), 2);
+    expect_text(&engine, PAFJIRN_STEP, "x\nrun y");
+    expect("keys of a step", pafjirn_keys_of(&engine, TEXT("my.own")), PAFJIRN_DONE);
+    expect_text(&engine, PAFJIRN_KEYS, "");
+    expect("keys of runCommands", pafjirn_keys_of(&engine, TEXT("runCommands")), PAFJIRN_DONE);
+    expect_text(&engine, PAFJIRN_KEYS, "d\na b\n");
     pafjirn_free(&engine);
     expect("the steps without an engine", pafjirn_steps(&engine), 0);
+}
+
+/* Rules for look-ups. Rule 0 has the keys and the command of rule 7; rule 3 takes the key of rule 1, and
+ * rules 5 and 6 go on from that of rule 4. */
+#define LOOKED_UP \
+    "[{\"key\":\"ctrl+a\",\"command\":\"type\",\"args\":\"a\"}," \
+    "{\"key\":\"ctrl+b\",\"command\":\"type\",\"args\":\"b\"}," \
+    "{\"key\":\"shift+Ctrl+c\",\"command\":\"type\",\"args\":\"c\",\"when\":\"k\"}," \
+    "{\"key\":\"ctrl+b\",\"command\":\"my.own\"}," \
+    "{\"key\":\"ctrl+d\",\"command\":\"other\"}," \
+    "{\"key\":\"ctrl+d ctrl+e\",\"command\":\"my.own\",\"args\":[1, \"e\"]}," \
+    "{\"key\":\"ctrl+d x\",\"command\":\"\"}," \
+    "{\"key\":\"ctrl+a\",\"command\":\"type\",\"args\":\"A\"}]"
+
+/* Looks up the keys of a command, and compares them. */
+static void expect_keys(pafjirn_handle *engine, const char *command, const char *wants) {
+    expect(command, pafjirn_keys_of(engine, TEXT(command)), PAFJIRN_DONE);
+    expect_text(engine, PAFJIRN_KEYS, wants);
+}
+
+/* Looks up the keys that go on, and compares them. */
+static void expect_continuations(pafjirn_handle *engine, const char *wants) {
+    expect("continuations", pafjirn_continuations(engine), PAFJIRN_DONE);
+    expect_text(engine, PAFJIRN_KEYS, wants);
+}
+
+/* Looks up a key, and compares what its press would take of the user's rules. */
+static void expect_found(pafjirn_handle *engine, const char *key, uint32_t kind, const char *chord,
+                         const char *command, const char *arguments, unsigned long place) {
+    expect(key, pafjirn_look_up(engine, TEXT(key)), PAFJIRN_DONE);
+    expect_record(engine, kind, chord, command, arguments, kind == PAFJIRN_STARTED ? "user" : "");
+    expect("its place", pafjirn_place(engine), place);
+}
+
+/* What a press would take, and which keys start a command: a look-up presses nothing. */
+static void look_ups(void) {
+    pafjirn_handle engine = {0};
+    load(&engine, "{\"scopes\":[{\"name\":\"window\"}]}", LOOKED_UP, "{\"name\":\"e\",\"publisher\":\"p\"}");
+    expect_found(&engine, "ctrl+a", PAFJIRN_STARTED, "ctrl+a", "type", "\"A\"", 7);
+    expect_text(&engine, PAFJIRN_TRACE, "");
+    expect_text(&engine, PAFJIRN_BEFORE, "");
+    expect_found(&engine, "Ctrl+B", PAFJIRN_STARTED, "ctrl+b", "my.own", "", 3);
+    expect_found(&engine, "ctrl+shift+c", PAFJIRN_NOTHING, "ctrl+shift+c", "", "", 0);
+    expect_found(&engine, "ctrl+d", PAFJIRN_CHORDING, "ctrl+d", "", "", 0);
+    expect_found(&engine, "ctrl+e", PAFJIRN_NOTHING, "ctrl+e", "", "", 0);
+    expect_keys(&engine, "type", "ctrl+a\n");
+    expect_keys(&engine, "my.own", "ctrl+d ctrl+e\nctrl+b\n");
+    expect_keys(&engine, "other", "");
+    expect_keys(&engine, "no.such", "");
+    expect_keys(&engine, "", "ctrl+d x\n");
+    expect_continuations(&engine, "ctrl+a\nctrl+d\nctrl+b\n");
+    expect("a truth", pafjirn_set_truth(&engine, TEXT("window"), TEXT("k"), true), PAFJIRN_DONE);
+    expect_text(&engine, PAFJIRN_KEYS, "ctrl+a\nctrl+d\nctrl+b\n");
+    expect_found(&engine, "ctrl+shift+c", PAFJIRN_STARTED, "ctrl+shift+c", "type", "\"c\"", 2);
+    expect_keys(&engine, "type", "ctrl+a\nctrl+shift+c\n");
+    expect_continuations(&engine, "ctrl+a\nctrl+d\nctrl+b\nctrl+shift+c\n");
+    expect_text(&engine, PAFJIRN_TRACE, "set window k\n");
+    pafjirn_free(&engine);
+}
+
+/* The same behind the first keystroke of a chord, and what isn't looked up. */
+static void look_ups_in_a_chord(void) {
+    pafjirn_handle engine = {0};
+    load(&engine, "{\"scopes\":[{\"name\":\"window\"}]}", LOOKED_UP, "{\"name\":\"e\",\"publisher\":\"p\"}");
+    expect("a first keystroke", pafjirn_key(&engine, TEXT("ctrl+d")), PAFJIRN_DONE);
+    expect_continuations(&engine, "x\nctrl+e\n");
+    expect_keys(&engine, "type", "ctrl+a\n");
+    expect_record(&engine, PAFJIRN_CHORDING, "ctrl+d", "", "", "");
+    expect_found(&engine, "x", PAFJIRN_STARTED, "ctrl+d x", "", "", 6);
+    expect_found(&engine, "ctrl+a", PAFJIRN_NOTHING, "ctrl+d ctrl+a", "", "", 0);
+    expect_found(&engine, "ctrl+e", PAFJIRN_STARTED, "ctrl+d ctrl+e", "my.own", "[1,\"e\"]", 5);
+    expect("no key", pafjirn_look_up(&engine, TEXT("ctrl+")), PAFJIRN_NO_KEY);
+    expect("two keys", pafjirn_look_up(&engine, TEXT("ctrl+e x")), PAFJIRN_NO_KEY);
+    expect("no text of a key", pafjirn_look_up(&engine, TEXT("\xff")), PAFJIRN_NO_KEY);
+    expect("no text of a command", pafjirn_keys_of(&engine, TEXT("\xff")), PAFJIRN_NO_TEXT);
+    expect_record(&engine, PAFJIRN_STARTED, "ctrl+d ctrl+e", "my.own", "[1,\"e\"]", "user");
+    expect_text(&engine, PAFJIRN_KEYS, "ctrl+a\n");
+    expect_text(&engine, PAFJIRN_TRACE, "key ctrl+d: chord\n");
+    expect("the press", pafjirn_key(&engine, TEXT("ctrl+e")), PAFJIRN_NOT_FOUND);
+    expect_record(&engine, PAFJIRN_STARTED, "ctrl+d ctrl+e", "my.own", "[1,\"e\"]", "user");
+    expect("its place", pafjirn_place(&engine), 5);
+    expect_text(&engine, PAFJIRN_TRACE, "key ctrl+d ctrl+e: start my.own\nnot found my.own\n");
+    expect_continuations(&engine, "ctrl+a\nctrl+d\nctrl+b\n");
+    pafjirn_free(&engine);
+}
+
+/* Look-ups behind a stop: none is answered, and all texts stay. */
+static void stopped_look_ups(pafjirn_handle *engine) {
+    puts("event");
+    expect("a look-up behind a stop", pafjirn_look_up(engine, TEXT("ctrl+a")), PAFJIRN_STOPPED);
+    expect("no key behind a stop", pafjirn_look_up(engine, TEXT("ctrl+")), PAFJIRN_NO_KEY);
+    expect("keys behind a stop", pafjirn_keys_of(engine, TEXT("type")), PAFJIRN_STOPPED);
+    expect("no text behind a stop", pafjirn_keys_of(engine, TEXT("\xff")), PAFJIRN_NO_TEXT);
+    expect("continuations behind a stop", pafjirn_continuations(engine), PAFJIRN_STOPPED);
+    expect_record(engine, PAFJIRN_NOTHING, "", "", "", "");
+    expect_text(engine, PAFJIRN_KEYS, "x\nctrl+e\n");
+    expect_text(engine, PAFJIRN_TRACE, "");
+}
+
+/* Look-ups while memory is refused once: the one that is refused it changes nothing, and is done when it is
+ * repeated; an event that is refused it stops the session. */
+static void refused_look_ups(void) {
+    pafjirn_handle engine = {0};
+    if (pafjirn_new(&engine) || pafjirn_file(&engine, PAFJIRN_USER, TEXT(LOOKED_UP)) || pafjirn_load(&engine)
+        || pafjirn_key(&engine, TEXT("ctrl+d")) || pafjirn_continuations(&engine)) {
+        pafjirn_free(&engine);
+        return;
+    }
+    if (pafjirn_look_up(&engine, TEXT("ctrl+e")) == PAFJIRN_NO_MEMORY) {
+        puts("look-up");
+        expect_record(&engine, PAFJIRN_CHORDING, "ctrl+d", "", "", "");
+        expect("a look-up again", pafjirn_look_up(&engine, TEXT("ctrl+e")), PAFJIRN_DONE);
+    }
+    expect_record(&engine, PAFJIRN_STARTED, "ctrl+d ctrl+e", "my.own", "[1,\"e\"]", "user");
+    if (pafjirn_keys_of(&engine, TEXT("my.own")) == PAFJIRN_NO_MEMORY) {
+        puts("look-up");
+        expect_text(&engine, PAFJIRN_KEYS, "x\nctrl+e\n");
+        expect("keys again", pafjirn_keys_of(&engine, TEXT("my.own")), PAFJIRN_DONE);
+    }
+    expect_text(&engine, PAFJIRN_KEYS, "ctrl+d ctrl+e\nctrl+b\n");
+    if (pafjirn_continuations(&engine) == PAFJIRN_NO_MEMORY) {
+        puts("look-up");
+        expect_text(&engine, PAFJIRN_KEYS, "ctrl+d ctrl+e\nctrl+b\n");
+        expect("continuations again", pafjirn_continuations(&engine), PAFJIRN_DONE);
+    }
+    expect_text(&engine, PAFJIRN_KEYS, "x\nctrl+e\n");
+    expect_text(&engine, PAFJIRN_TRACE, "key ctrl+d: chord\n");
+    uint32_t pressed = pafjirn_key(&engine, TEXT("ctrl+e"));
+    if (pressed == PAFJIRN_NO_MEMORY) stopped_look_ups(&engine);
+    else expect("the press", pressed, PAFJIRN_NOT_FOUND);
+    pafjirn_free(&engine);
 }
 
 /* What keycheck shows of a rule without a command. */
@@ -359,7 +518,11 @@ static void two_engines(void) {
     pafjirn_free(&other);
 }
 
-int main(void) {
+int main(int count, char **words) {
+    if (count > 1 && strcmp(words[1], "refused") == 0) {
+        refused_look_ups();
+        return wrong;
+    }
     dead_handles();
     keycheck_without_an_engine();
     out_of_order();
@@ -367,6 +530,8 @@ int main(void) {
     context_keys();
     palettes();
     chords_and_steps();
+    look_ups();
+    look_ups_in_a_chord();
     keychecks();
     keycheck_beside_a_session();
     two_engines();

@@ -11,7 +11,7 @@ import threading
 from collections.abc import Callable, Iterator
 from typing import Any
 
-from pafjirn import Checked, Ending, Engine, EngineError, Entry, File, Keycheck, Kind, LibraryNotFound
+from pafjirn import Checked, Ending, Engine, EngineError, Entry, File, Found, Keycheck, Kind, LibraryNotFound
 from pafjirn import LoadRefused, OutOfRange, Platform, Step, WrongThread
 
 LAYOUT = b'{"scopes": [{"name": "window"}, {"name": "editor", "parent": "window"}]}'
@@ -22,6 +22,18 @@ RULES = b"""[
     { "key": "y", "command": "my.own", "args": null },
     { "key": "s", "command": "runCommands", "args": { "commands": ["buffer.top", "x\\nrun y"] } },
     { "key": "z z", "command": "my.own" },
+]"""
+# Rules for look-ups. Rule 0 has the keys and the command of rule 7; rule 3 takes the key of rule 1, and rules
+# 5 and 6 go on from that of rule 4.
+LOOKED_UP = b"""[
+    { "key": "ctrl+a", "command": "type", "args": "a" },
+    { "key": "ctrl+b", "command": "type", "args": "b" },
+    { "key": "shift+Ctrl+c", "command": "type", "args": "c", "when": "k" },
+    { "key": "ctrl+b", "command": "my.own" },
+    { "key": "ctrl+d", "command": "other" },
+    { "key": "ctrl+d ctrl+e", "command": "my.own", "args": [1, "e"] },
+    { "key": "ctrl+d x", "command": "" },
+    { "key": "ctrl+a", "command": "type", "args": "A" },
 ]"""
 MANIFEST = """{
     "name": "e", "publisher": "p",
@@ -106,10 +118,66 @@ def records(engine: Engine) -> Iterator[tuple[str, bool]]:
     yield "lines", traces[:2] == ["focus window\n", "refused 20 UnknownScope\n"] and "unread" in traces[2]
 
 
+def look_ups() -> Iterator[tuple[str, bool]]:
+    """What presses would take, and the keys of commands."""
+    engine = Engine()
+    early = [lambda: engine.look_up("x"), lambda: engine.keys_of("type"), engine.continuations]
+    yield "look-ups before the load", all(raises(EngineError, it) for it in early)
+    engine.file(File.USER, LOOKED_UP)
+    engine.load()
+    typed = engine.look_up("ctrl+a")
+    yield "a look-up", typed == Found(Kind.STARTED, "ctrl+a", "type", '"A"', "user", 7)
+    yield "its arguments", typed.arguments == "A"
+    yield "nothing that was pressed", (engine.text(), engine.trace()) == (("", ""), "")
+    yield "another name", engine.look_up("Ctrl+B") == Found(Kind.STARTED, "ctrl+b", "my.own", None, "user", 3)
+    nothing = Found(Kind.NOTHING, "ctrl+shift+c", "", None, None, None)
+    yield "a clause that fails", engine.look_up("ctrl+shift+c") == nothing
+    yield "its arguments", nothing.arguments is None
+    yield "a chord", engine.look_up("ctrl+d") == Found(Kind.CHORDING, "ctrl+d", "", None, None, None)
+    yield "keys", engine.keys_of("type") == ["ctrl+a"]
+    yield "keys of two rules", engine.keys_of("my.own") == ["ctrl+d ctrl+e", "ctrl+b"]
+    yield "no keys", [engine.keys_of(it) for it in ("other", "no.such")] == [[], []]
+    yield "keys of no command", engine.keys_of("") == ["ctrl+d x"]
+    yield "first keys", engine.continuations() == ["ctrl+a", "ctrl+d", "ctrl+b"]
+    engine.set("window", "k", True)
+    yield "the keys of another context", engine.keys_of("type") == ["ctrl+a", "ctrl+shift+c"]
+    yield "a clause that holds", engine.look_up("ctrl+shift+c").place == 2
+    yield "first keys then", engine.continuations() == ["ctrl+a", "ctrl+d", "ctrl+b", "ctrl+shift+c"]
+    yield "the trace behind all of that", engine.trace() == "set window k\n"
+    yield "no UTF-8 of a command", raises(UnicodeEncodeError, lambda: engine.keys_of("\ud800"))
+    no_text: Any = b"\xff"
+    yield "no text of a command", raises(EngineError, lambda: engine.keys_of(no_text))
+    yield from look_ups_in_a_chord(engine)
+    engine.close()
+    yield "look-ups after the end", all(raises(EngineError, it) for it in early)
+
+
+def look_ups_in_a_chord(engine: Engine) -> Iterator[tuple[str, bool]]:
+    """The same behind the first keystroke of a chord."""
+    engine.press("ctrl+d")
+    yield "keys that go on", engine.continuations() == ["x", "ctrl+e"]
+    yield "keys without the chord", engine.keys_of("my.own") == ["ctrl+d ctrl+e", "ctrl+b"]
+    yield "no command", engine.look_up("x") == Found(Kind.STARTED, "ctrl+d x", "", None, "user", 6)
+    nothing = Found(Kind.NOTHING, "ctrl+d ctrl+a", "", None, None, None)
+    yield "a key that ends the chord", engine.look_up("ctrl+a") == nothing
+    own = Found(Kind.STARTED, "ctrl+d ctrl+e", "my.own", '[1,"e"]', "user", 5)
+    yield "a key that goes on", engine.look_up("ctrl+e") == own
+    yield "no key", raises(EngineError, lambda: engine.look_up("ctrl+"))
+    yield "two keys", raises(EngineError, lambda: engine.look_up("ctrl+e x"))
+    record = engine.record()
+    yield "the record", (record.command, record.arguments, record.place) == ("my.own", [1, "e"], 5)
+    yield "its trace", record.trace == "key ctrl+d: chord\n"
+    pressed = engine.press("ctrl+e")
+    yield "the press", (pressed.ending, pressed.command) == (Ending.NOT_FOUND, "my.own")
+    yield "its trace", pressed.trace == "key ctrl+d ctrl+e: start my.own\nnot found my.own\n"
+    yield "first keys behind it", engine.continuations() == ["ctrl+a", "ctrl+d", "ctrl+b", "ctrl+shift+c"]
+
+
 def threads(engine: Engine) -> Iterator[tuple[str, bool]]:
     """Calls from another thread, and an engine that another thread releases."""
     found: list[bool] = []
     calls = [lambda: engine.press("x"), engine.trace, engine.entries, engine.close, engine.record]
+    calls += [lambda: engine.look_up("x"), lambda: engine.keys_of("type"), engine.continuations]
     other = threading.Thread(target=lambda: found.extend(raises(WrongThread, it) for it in calls))
     other.start()
     other.join()
@@ -194,7 +262,7 @@ def main() -> int:
     with loaded() as engine:
         for test in [numbers, values, records, threads]:
             wrong += [name for name, is_right in test(engine) if not is_right]
-    for more in [ends, keychecks]:
+    for more in [look_ups, ends, keychecks]:
         wrong += [name for name, is_right in more() if not is_right]
     for name in wrong:
         print(f"{name}: not as hosts/python/pafjirn documents")

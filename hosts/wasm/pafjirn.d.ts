@@ -44,9 +44,8 @@ export interface Fault {
   readonly detail?: string;
 }
 
-/** What an event did. Only key presses and choices start commands. */
-export interface EventRecord {
-  readonly ending: Ending;
+/** What a press of a key took, or would take. */
+export interface Found {
   /** `chording`: the press opened a chord, or went on with one. */
   readonly kind: "nothing" | "chording" | "started";
   /** The keystrokes of the open chord and of the press. */
@@ -60,13 +59,18 @@ export interface EventRecord {
   /** The file of the rule (`defaults`, `user`, or the identifier of an extension) and the number of elements
    * above it there; null without a rule. */
   readonly rule: { readonly source: string; readonly place: number } | null;
+  /** Of a press: whether the key is used up. Otherwise the host gives it to the text, as VS Code does. */
+  readonly isUsed: boolean;
+}
+
+/** What an event did. Only key presses and choices start commands. */
+export interface EventRecord extends Found {
+  readonly ending: Ending;
   /** The last step of `runCommands` that began, with its number from 1; null if no list ran. Those above it
    * ran, and those below it didn't. */
   readonly step: { readonly number: number; readonly command: string } | null;
   /** Why the event was refused. */
   readonly refusal: Fault | null;
-  /** Of a press: whether the key is used up. Otherwise the host gives it to the text, as VS Code does. */
-  readonly isUsed: boolean;
   /** The command of the host that ran (`Engine.command`). */
   readonly ranBy: string | null;
   /** The lines that the event added to the trace, each with its line feed. */
@@ -95,9 +99,9 @@ export interface KeyPress {
 
 /** A call that did nothing, or that stopped the engine. */
 export class EngineError extends Error {
-  /** Behind `NoMemory`, `Stopped` and `Trapped` the engine is stopped (but where there is no room for a long
-   * text that is passed, it is as before); behind `Dead` no engine of the module works any more. Behind all
-   * others it is as before. */
+  /** Behind `NoMemory`, `Stopped` and `Trapped` the engine is stopped (but where a look-up is refused memory,
+   * or there is no room for a long text that is passed, it is as before); behind `Dead` no engine of the
+   * module works any more. Behind all others it is as before. */
   readonly name:
     | "OutOfOrder" | "Unknown" | "Refused" | "LoadRefused" | "NoMemory" | "NoText" | "NoKey" | "Stopped"
     | "Trapped" | "Dead";
@@ -148,6 +152,19 @@ export class Engine {
   readonly entries: Entry[];
   /** Chooses an entry of the last palette, by its number. */
   choose(number: number): EventRecord;
+  /** What a press of a key would take now, behind the keystrokes of the open chord. Nothing is pressed, and
+   * the trace stays. */
+  lookUp(key: string): Found;
+  /** The same for the key of a `keydown` event. Returns null for an event that is no press of a key. */
+  lookUp(key: KeyPress): Found | null;
+  /** The keystrokes that start a command in the present context, without an open chord, those of the lowest
+   * rule first, each once. The first is what a menu shows. The rules of `runCommands` don't count for the
+   * commands in their lists. */
+  keysOf(command: string): string[];
+  /** The keystrokes that go on from those of the open chord, or the first keystrokes of rules if no chord is
+   * open, those of the lowest rule first, each once. No other key finds anything. `lookUp` says what a press
+   * of each would take. */
+  continuations(): string[];
   /** Enables an extension. */
   enable(identifier: string): EventRecord;
   /** Disables an extension. */

@@ -22,7 +22,7 @@ export { EngineError, Keycheck, LoadRefused, keystroke };
 const FILES = { layout: 0, defaults: 1, user: 2 };
 const PLATFORMS = { linux: 0, mac: 1, windows: 2 };
 const PARTS = {
-  trace: 0, notice: 1, chord: 2, command: 3, arguments: 4, source: 5, before: 6, after: 7, step: 8,
+  trace: 0, notice: 1, chord: 2, command: 3, arguments: 4, source: 5, before: 6, after: 7, step: 8, keys: 9,
 };
 const ENTRY_PARTS = { label: 0, entryCommand: 1 };
 const TAKEN = { nothing: 0, chording: 1, started: 2 };
@@ -150,6 +150,27 @@ export class Engine {
     return this.#started(this.#told("choose", number));
   }
 
+  /** What a press of a key would take now. Nothing is pressed. Returns null for an event that is no press of
+   * a key. */
+  lookUp(key) {
+    const text = typeof key === "string" ? key : keystroke(key);
+    if (text === null) return null;
+    this.#done("look_up", ...this.#key(text));
+    return this.#found();
+  }
+
+  /** The keystrokes that start a command now, without an open chord. The first is what a menu shows. */
+  keysOf(command) {
+    this.#done("keys_of", ...this.#passed(command));
+    return linesOf(this.#read(PARTS.keys));
+  }
+
+  /** The keystrokes that go on from those of the open chord, or the first ones of rules if none is open. */
+  continuations() {
+    this.#done("continuations");
+    return linesOf(this.#read(PARTS.keys));
+  }
+
   /** Enables an extension. */
   enable(identifier) {
     return this.line(`enable ${word(identifier)}`);
@@ -214,8 +235,12 @@ export class Engine {
     return this.#module.call(name, this.#handle, ...given);
   }
 
+  #key(key) {
+    return typeof key === "string" ? this.#module.passedKey(key) : this.#passed(key);
+  }
+
   #pressed(key) {
-    return this.#told("key", ...(typeof key === "string" ? this.#module.passedKey(key) : this.#passed(key)));
+    return this.#told("key", ...this.#key(key));
   }
 
   #read(part) {
@@ -223,7 +248,7 @@ export class Engine {
     return this.#module.read("read", this.#handle, part);
   }
 
-  // A call before the load, and the load.
+  // A call that is no event.
   #done(name, ...given) {
     const answer = this.#call(name, ...given);
     if (answer === ANSWERS.REFUSED) throw new LoadRefused(this.#read(PARTS.notice).trimEnd());
@@ -245,21 +270,29 @@ export class Engine {
     return error;
   }
 
-  #record(ending) {
+  // What an event took, or what a press would take.
+  #found() {
     const source = this.#read(PARTS.source), written = this.#read(PARTS.arguments);
-    const [trace, chord, command] = [PARTS.trace, PARTS.chord, PARTS.command].map((it) => this.#read(it));
-    const kind = KINDS[this.#call("taken")], step = Number(this.#call("steps"));
+    const [chord, command] = [PARTS.chord, PARTS.command].map((it) => this.#read(it));
+    const kind = KINDS[this.#call("taken")];
     return {
-      ending,
       kind,
       chord,
       command,
       arguments: written === "" ? undefined : JSON.parse(written),
       argumentsJson: written === "" ? null : written,
       rule: source === "" ? null : { source, place: Number(this.#call("place")) },
+      isUsed: kind === "chording" || command !== "" || chord.includes(" "),
+    };
+  }
+
+  #record(ending) {
+    const trace = this.trace, step = Number(this.#call("steps"));
+    return {
+      ending,
+      ...this.#found(),
       step: step === 0 ? null : { number: step, command: this.#read(PARTS.step) },
       refusal: refusalIn(trace),
-      isUsed: kind === "chording" || command !== "" || chord.includes(" "),
       ranBy: null,
       trace,
     };

@@ -100,7 +100,7 @@ def steps_with_a_chord(page):
     button = "at('continuations').querySelectorAll('button')[%d]"
     page.press("k", "KeyK", ["ctrl"])
     yield "ctrl+k opens a chord again"
-    page.run(button % 2 + ".focus()")
+    page.run(button % 3 + ".focus()")
     page.press("Enter", "Enter", text="\r")
     yield "a key that goes on with the chord is pressed, and waits for another one"
     page.press("Enter", "Enter", text="\r")

@@ -1,5 +1,5 @@
-"""What tools/check-wasm tests of that part of the page which asks keycheck: the problems, why a press does
-what it does, how a chord goes on, and the keystrokes of commands."""
+"""What tools/check-wasm tests of those parts of the page which ask keycheck, or look up keys: the problems,
+why a press does what it does, how a chord goes on, and the keystrokes of commands."""
 
 import json
 
@@ -136,8 +136,8 @@ def with_a_chord(page):
     goes_on = "texts('#continuations button')"
     page.is_("no keys without a chord", "at('next').checkVisibility()", False)
     press(page, "ctrl+k")
-    page.is_("each next key", goes_on, ["a two when k, or one", "b more keys", "d no command", "e x.off"])
-    said = "ctrl+k: a chord is open. It goes on with 4 keys. "
+    page.is_("each next key", goes_on, ["d no command", "b more keys", "a one"])
+    said = "ctrl+k: a chord is open. It goes on with 3 keys. "
     page.is_("what is announced", f"shown('status').startsWith({json.dumps(said)})", True)
     page.run("buttons('#continuations')[1].focus()")
     page.press(" ", "Space", text=" ")
@@ -153,13 +153,18 @@ def with_a_chord(page):
     page.run("at('extensions').querySelector('input').click()")
     page.is_("a chord that ends otherwise", "[shown('open'), at('next').checkVisibility()]", ["–", False])
     press(page, "ctrl+k")
-    page.is_("without an extension", goes_on, ["a two when k, or one", "b more keys", "d no command"])
+    page.is_("without an extension", goes_on, ["d no command", "b more keys", "a one"])
     press(page, "x")
     page.run("at('extensions').querySelector('input').click()")
+    press(page, "ctrl+k")
+    for key in ["ready", "k"]:
+        page.run(f"at('set-key').value = '{key}'; at('set').requestSubmit()")
+    page.is_("in another context", goes_on, ["e x.off", "d no command", "b more keys", "a two"])
+    press(page, "x")
 
 
 def with_keystrokes(page):
-    """The palette has the keystrokes of the lowest rule of each command."""
+    """The palette has the first keystrokes that start each command."""
     page.run("control('w', 'dirty').click(); at('set-key').value = 'ready'; at('set').requestSubmit()")
     page.focus("query")
     page.is_("keystrokes", "texts('#entries li')", ["Topf5buffer.top", "Offf7x.off"])

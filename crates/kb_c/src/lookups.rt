@@ -1,6 +1,6 @@
-//! What C looks up before a key is pressed. No look-up changes the session. Each call answers the number of its
-//! outcome: 0 if it noted what it found, 1 before the load, 2 without an engine, 5 for refused memory, and 97
-//! if the session is stopped. Only behind 0 is anything noted.
+//! What C looks up before a key is pressed. No look-up changes the session. Each call answers the number of
+//! one of these outcomes: 0 if it noted what it found, 1 before the load, 2 without an engine, 5 for refused
+//! memory, and 97 if the session is stopped. Only behind 0 is anything noted.
 ghost use Rattle.std.specs.Prelude.{◌≡◌};
 ghost use Rattle.kb_c.specs.Held.{Answers, OnEngine};
 ghost use Rattle.kb_engine.specs.Lookups.{Lists, ListsKeys, LooksUp, continuations_text, stroke_told, text_told};

@@ -61,6 +61,7 @@ __all__ = [
     "EngineError",
     "Entry",
     "File",
+    "Found",
     "Keycheck",
     "Kind",
     "LibraryNotFound",
@@ -106,7 +107,7 @@ class Ending(enum.IntEnum):
 
 
 class Kind(enum.IntEnum):
-    """What an event did about commands."""
+    """What an event did about commands, or what a press that is looked up would do."""
 
     NOTHING = 0
     CHORDING = 1  # the press opened or continued a chord
@@ -123,6 +124,7 @@ class _Part(enum.IntEnum):
     BEFORE = 6
     AFTER = 7
     STEP = 8
+    KEYS = 9
 
 
 class _EntryPart(enum.IntEnum):
@@ -217,7 +219,28 @@ class Record:
     @property
     def arguments(self) -> Any:
         """The arguments of the rule: the value of their JSON, or None without arguments."""
-        return None if self.arguments_json is None else json.loads(self.arguments_json)
+        return _value_of(self.arguments_json)
+
+
+@dataclasses.dataclass(frozen=True)
+class Found:
+    """What a press of a key would take."""
+
+    kind: Kind
+    chord: str  # the keystrokes of the open chord and of the key
+    command: str  # the command that would start
+    arguments_json: str | None  # the arguments of the rule, as JSON; None without arguments
+    source: str | None  # the file of the rule: defaults, user, or the identifier of an extension
+    place: int | None  # the number of elements above the rule in its file
+
+    @property
+    def arguments(self) -> Any:
+        """The arguments of the rule: the value of their JSON, or None without arguments."""
+        return _value_of(self.arguments_json)
+
+
+def _value_of(arguments_json: str | None) -> Any:
+    return None if arguments_json is None else json.loads(arguments_json)
 
 
 @dataclasses.dataclass(frozen=True)
@@ -273,6 +296,9 @@ _FUNCTIONS: dict[str, tuple[list[Any], Any]] = {
     "unset": ([*_TEXT, *_TEXT], _NUMBER),
     "palette": (_TEXT, _NUMBER),
     "choose": ([_NUMBER], _NUMBER),
+    "look_up": (_TEXT, _NUMBER),
+    "keys_of": (_TEXT, _NUMBER),
+    "continuations": ([], _NUMBER),
     "read": ([_NUMBER, _SIZE, *_TEXT], _SIZE),
     "taken": ([], _NUMBER),
     "place": ([], _SIZE),
@@ -495,6 +521,28 @@ class Engine(_Owner):
         number doesn't fit into 32 bits."""
         return self._told("choose", _within(number, 0, 2**32 - 1))
 
+    def look_up(self, key: str) -> Found:
+        """Looks up what a press of the key with this text would take now, after the keystrokes of the open
+        chord. Nothing is pressed, and the trace stays, but `record` then has what was found in the place of
+        what the last event took. Raises EngineError if the text is no key. Here and in the next two calls
+        refused memory doesn't stop the session."""
+        self._done("look_up", *_bytes(key))
+        return self._found()
+
+    def keys_of(self, command: str) -> list[str]:
+        """Looks up the keystrokes that start a command in the present context, without an open chord, those
+        of the lowest rule first, each once. The first is what a menu shows. The rules of `runCommands` don't
+        count for the commands in their lists."""
+        self._done("keys_of", *_bytes(command))
+        return self._text(_Part.KEYS).splitlines()
+
+    def continuations(self) -> list[str]:
+        """Looks up the keystrokes that go on from those of the open chord, or the first keystrokes of rules
+        if no chord is open, those of the lowest rule first, each once. No other key finds anything. `look_up`
+        returns what a press of each would take."""
+        self._done("continuations")
+        return self._text(_Part.KEYS).splitlines()
+
     def records(self, lines: Iterable[str | bytes]) -> Iterator[Record]:
         """Executes lines of a script one by one, and yields what each did."""
         for line in lines:
@@ -504,17 +552,28 @@ class Engine(_Owner):
         """What the last event did that raised no exception. The record of a stopped session has no
         meaning."""
         self._check_thread()
-        arguments, source = self._text(_Part.ARGUMENTS), self._text(_Part.SOURCE)
+        found = self._found()
         return Record(
             ending=self._ending,
+            kind=found.kind,
+            chord=found.chord,
+            command=found.command,
+            arguments_json=found.arguments_json,
+            source=found.source,
+            place=found.place,
+            step=self._step(),
+            trace=self._text(_Part.TRACE),
+        )
+
+    def _found(self) -> Found:
+        arguments, source = self._text(_Part.ARGUMENTS), self._text(_Part.SOURCE)
+        return Found(
             kind=Kind(self._library.pafjirn_taken(self._handle)),
             chord=self._text(_Part.CHORD),
             command=self._text(_Part.COMMAND),
             arguments_json=arguments or None,
             source=source or None,
             place=self._library.pafjirn_place(self._handle) if source else None,
-            step=self._step(),
-            trace=self._text(_Part.TRACE),
         )
 
     def _step(self) -> Step | None:

@@ -68,7 +68,7 @@ pub enum Error {
     Refused(String),
     /// A key's text is no key.
     NoKey,
-    /// Memory was refused. This stops a session.
+    /// Memory was refused. In an event this stops the session; any other call changes nothing.
     NoMemory,
     /// An earlier event stopped the session.
     Stopped,
@@ -103,7 +103,7 @@ impl fmt::Display for Error {
 
 impl std::error::Error for Error {}
 
-/// What an event did about commands.
+/// What an event did about commands, or what a press that is looked up would do.
 #[derive(Clone, Copy, Debug, PartialEq, Eq)]
 pub enum Kind {
     /// No command started.
@@ -112,6 +112,22 @@ pub enum Kind {
     Chording,
     /// The command of a rule or of an entry started. The empty command starts nothing.
     Started,
+}
+
+/// What a press of a key would take ([`Engine::look_up`]).
+#[derive(Clone, Debug, PartialEq, Eq)]
+#[non_exhaustive]
+pub struct Found {
+    /// What the press would do about commands.
+    pub kind: Kind,
+    /// The keystrokes of the open chord and of the key.
+    pub chord: String,
+    /// The command that would start.
+    pub command: Option<String>,
+    /// The arguments of the rule, as JSON.
+    pub arguments: Option<String>,
+    /// The rule that would be taken.
+    pub rule: Option<Place>,
 }
 
 /// What an event did. Only key presses and choices start commands. The trace has everything else.
@@ -319,6 +335,44 @@ impl Engine {
         self.told(answer)
     }
 
+    /// Looks up what a press of the key with this text would take now, after the keystrokes of the open
+    /// chord. Nothing is pressed, and the trace stays.
+    ///
+    /// # Errors
+    ///
+    /// [`Error::NoKey`] for a text that is no key, [`Error::OutOfOrder`] before the load, [`Error::Stopped`],
+    /// and [`Error::NoMemory`], which doesn't stop the session.
+    pub fn look_up(&mut self, key: &str) -> Result<Found, Error> {
+        let answer = self.handle.look_up(key.as_bytes());
+        self.only_done(answer)?;
+        Ok(found(&mut self.handle))
+    }
+
+    /// Looks up the keystrokes that start a command in the present context, without an open chord, those of
+    /// the lowest rule first, each once. The first is what a menu shows. The rules of `runCommands` don't
+    /// count for the commands in their lists.
+    ///
+    /// # Errors
+    ///
+    /// [`Error::OutOfOrder`] before the load, [`Error::Stopped`], and [`Error::NoMemory`], which doesn't stop
+    /// the session.
+    pub fn keys_of(&mut self, command: &str) -> Result<Vec<String>, Error> {
+        let answer = self.handle.keys_of(command.as_bytes());
+        self.shown_keys(answer)
+    }
+
+    /// Looks up the keystrokes that go on from those of the open chord, or the first keystrokes of rules if
+    /// no chord is open, those of the lowest rule first, each once. No other key finds anything.
+    /// [`Engine::look_up`] returns what a press of each would take.
+    ///
+    /// # Errors
+    ///
+    /// Those of [`Engine::keys_of`].
+    pub fn continuations(&mut self) -> Result<Vec<String>, Error> {
+        let answer = self.handle.continuations();
+        self.shown_keys(answer)
+    }
+
     /// Executes lines of a script one by one, as the returned iterator over their records advances. The
     /// iterator ends after an error.
     pub fn records<L>(&mut self, lines: L) -> Records<'_, L::IntoIter>
@@ -338,7 +392,14 @@ impl Engine {
         (self.handle.text(sys::BEFORE), self.handle.text(sys::AFTER))
     }
 
-    /// The result of a call before the session, from its answer.
+    /// The keystrokes that a call found, from its answer.
+    fn shown_keys(&mut self, answer: u32) -> Result<Vec<String>, Error> {
+        self.only_done(answer)?;
+        let text = self.handle.text(sys::KEYS);
+        Ok(text.lines().map(String::from).collect())
+    }
+
+    /// The result of a call that is no event, from its answer.
     fn only_done(&mut self, answer: u32) -> Result<(), Error> {
         match answer {
             sys::DONE => Ok(()),
@@ -394,23 +455,15 @@ impl Told<'_> {
     /// What the event did.
     #[must_use]
     pub fn record(self) -> Record {
-        let kind = match self.engine.handle.taken() {
-            sys::CHORDING => Kind::Chording,
-            sys::STARTED => Kind::Started,
-            _ => Kind::Nothing,
-        };
         let handle = &mut self.engine.handle;
-        let source = given(handle.text(sys::SOURCE));
+        let found = found(handle);
         Record {
             ending: self.ending,
-            kind,
-            chord: given(handle.text(sys::CHORD)),
-            command: (kind == Kind::Started).then(|| handle.text(sys::COMMAND)),
-            arguments: given(handle.text(sys::ARGUMENTS)),
-            rule: source.map(|source| Place {
-                source,
-                above: handle.place(),
-            }),
+            kind: found.kind,
+            chord: given(found.chord),
+            command: found.command,
+            arguments: found.arguments,
+            rule: found.rule,
             step: last_step(handle),
             trace: handle.text(sys::TRACE),
         }
@@ -426,6 +479,26 @@ impl Told<'_> {
     /// capacity of the buffer is too small.
     pub fn read_trace(self, text: &mut Vec<u8>) {
         self.engine.handle.read_into(sys::TRACE, text);
+    }
+}
+
+/// What an event took, or what a press would take.
+fn found(handle: &mut sys::Handle) -> Found {
+    let kind = match handle.taken() {
+        sys::CHORDING => Kind::Chording,
+        sys::STARTED => Kind::Started,
+        _ => Kind::Nothing,
+    };
+    let source = given(handle.text(sys::SOURCE));
+    Found {
+        kind,
+        chord: handle.text(sys::CHORD),
+        command: (kind == Kind::Started).then(|| handle.text(sys::COMMAND)),
+        arguments: given(handle.text(sys::ARGUMENTS)),
+        rule: source.map(|source| Place {
+            source,
+            above: handle.place(),
+        }),
     }
 }
 
@@ -483,6 +556,15 @@ mod tests {
         };
         assert_eq!(engine.told(sys::TRAPPED).err(), Some(trapped.clone()));
         assert_eq!(trapped.to_string(), "trapped");
+        Ok(())
+    }
+
+    #[test]
+    fn look_ups_of_a_stopped_session_are_errors() -> Result<(), Error> {
+        let mut engine = Engine::new()?;
+        assert_eq!(engine.shown_keys(sys::STOPPED), Err(Error::Stopped));
+        assert_eq!(engine.shown_keys(sys::NO_MEMORY), Err(Error::NoMemory));
+        assert_eq!(engine.shown_keys(sys::DONE), Ok(Vec::new()));
         Ok(())
     }
 }

@@ -24,6 +24,7 @@ pub const SOURCE: u32 = 5;
 pub const BEFORE: u32 = 6;
 pub const AFTER: u32 = 7;
 pub const STEP: u32 = 8;
+pub const KEYS: u32 = 9;
 
 pub const CHORDING: u32 = 1;
 pub const STARTED: u32 = 2;
@@ -95,6 +96,9 @@ extern "C" {
     ) -> u32;
     fn pafjirn_palette(engine: &mut Raw, query: *const u8, length: usize) -> u32;
     fn pafjirn_choose(engine: &mut Raw, number: u32) -> u32;
+    fn pafjirn_look_up(engine: &mut Raw, key: *const u8, length: usize) -> u32;
+    fn pafjirn_keys_of(engine: &mut Raw, command: *const u8, length: usize) -> u32;
+    fn pafjirn_continuations(engine: &mut Raw) -> u32;
     fn pafjirn_read(engine: &mut Raw, part: u32, from: usize, into: *mut u8, room: usize) -> usize;
     fn pafjirn_taken(engine: &mut Raw) -> u32;
     fn pafjirn_place(engine: &mut Raw) -> usize;
@@ -246,6 +250,21 @@ impl Handle {
     pub fn choose(&mut self, number: u32) -> u32 {
         // SAFETY: the handle is one of this file, and the call takes no pointer.
         unsafe { pafjirn_choose(&mut self.0, number) }
+    }
+
+    pub fn look_up(&mut self, key: &[u8]) -> u32 {
+        // SAFETY: the pointer is valid for the given length, and the call only reads.
+        unsafe { pafjirn_look_up(&mut self.0, key.as_ptr(), key.len()) }
+    }
+
+    pub fn keys_of(&mut self, command: &[u8]) -> u32 {
+        // SAFETY: the pointer is valid for the given length, and the call only reads.
+        unsafe { pafjirn_keys_of(&mut self.0, command.as_ptr(), command.len()) }
+    }
+
+    pub fn continuations(&mut self) -> u32 {
+        // SAFETY: the handle is one of this file, and the call takes no pointer.
+        unsafe { pafjirn_continuations(&mut self.0) }
     }
 
     pub fn taken(&mut self) -> u32 {

@@ -11,6 +11,18 @@ const RULES: &[u8] = br#"[
     {"key":"e","command":""},
     {"key":"s","command":"runCommands","args":{"commands":["buffer.top",{"command":"x\nrun y"}]}}
 ]"#;
+/// Rules for look-ups. Rule 0 has the keys and the command of rule 7; rule 3 takes the key of rule 1, and
+/// rules 5 and 6 go on from that of rule 4.
+const LOOKED_UP: &[u8] = br#"[
+    {"key":"ctrl+a","command":"type","args":"a"},
+    {"key":"ctrl+b","command":"type","args":"b"},
+    {"key":"shift+Ctrl+c","command":"type","args":"c","when":"k"},
+    {"key":"ctrl+b","command":"my.own"},
+    {"key":"ctrl+d","command":"other"},
+    {"key":"ctrl+d ctrl+e","command":"my.own","args":[1, "e"]},
+    {"key":"ctrl+d x","command":""},
+    {"key":"ctrl+a","command":"type","args":"A"}
+]"#;
 const MANIFEST: &str = r#"{"name":"e","publisher":"p","contributes":{"commands":[
     {"command":"buffer.top","title":"Größe"}]}}"#;
 
@@ -28,6 +40,10 @@ fn loaded() -> Result<Engine, Error> {
 fn calls_out_of_order_are_errors() -> Result<(), Error> {
     let mut engine = Engine::new()?;
     assert_eq!(engine.press("x").err(), Some(Error::OutOfOrder));
+    assert_eq!(engine.look_up("x"), Err(Error::OutOfOrder));
+    assert_eq!(engine.look_up("ctrl+"), Err(Error::NoKey));
+    assert_eq!(engine.keys_of("type"), Err(Error::OutOfOrder));
+    assert_eq!(engine.continuations(), Err(Error::OutOfOrder));
     engine.file(File::User, b"{")?;
     let refused = Error::Refused("load refused: user 4 Syntax\n".into());
     assert_eq!(engine.load(), Err(refused));
@@ -75,7 +91,9 @@ fn records_have_what_an_event_took() -> Result<(), Error> {
     assert_eq!(own.rule, Some(place));
     assert_eq!(own.trace, "key a b: start my.own\nnot found my.own\n");
     assert_eq!(own.step, None);
-    let (ending, step) = engine.press("s").map(|told| (told.ending(), told.record().step))?;
+    let (ending, step) = engine
+        .press("s")
+        .map(|told| (told.ending(), told.record().step))?;
     assert_eq!(ending, Ending::NotFound);
     let named = step.map(|it| (it.number, it.command));
     assert_eq!(named, Some((2, "x\nrun y".into())));
@@ -83,6 +101,93 @@ fn records_have_what_an_event_took() -> Result<(), Error> {
     assert_eq!(empty.command.as_deref(), Some(""));
     let unbound = engine.press("q")?.record();
     assert_eq!((unbound.kind, unbound.command), (Kind::Nothing, None));
+    Ok(())
+}
+
+/// What a look-up of a key finds of the user's rules: the kind, the keystrokes, the command, the arguments,
+/// and how many rules are above the one that is found.
+type Seen = (Kind, String, Option<String>, Option<String>, Option<usize>);
+
+fn look_up(engine: &mut Engine, key: &str) -> Result<Seen, Error> {
+    let found = engine.look_up(key)?;
+    let above = found.rule.map(|rule| {
+        assert_eq!(rule.source, "user");
+        rule.above
+    });
+    Ok((
+        found.kind,
+        found.chord,
+        found.command,
+        found.arguments,
+        above,
+    ))
+}
+
+/// What a look-up finds whose press starts a command.
+fn starts(chord: &str, command: &str, arguments: Option<&str>, above: usize) -> Seen {
+    let arguments = arguments.map(String::from);
+    (
+        Kind::Started,
+        chord.into(),
+        Some(command.into()),
+        arguments,
+        Some(above),
+    )
+}
+
+fn with_look_ups() -> Result<Engine, Error> {
+    let mut engine = Engine::new()?;
+    engine.file(File::User, LOOKED_UP)?;
+    assert_eq!(engine.load()?, "");
+    Ok(engine)
+}
+
+#[test]
+fn look_ups_press_nothing() -> Result<(), Error> {
+    let mut engine = with_look_ups()?;
+    let typed = starts("ctrl+a", "type", Some("\"A\""), 7);
+    assert_eq!(look_up(&mut engine, "ctrl+a")?, typed);
+    assert_eq!(engine.text(), (String::new(), String::new()));
+    let own = starts("ctrl+b", "my.own", None, 3);
+    assert_eq!(look_up(&mut engine, "Ctrl+B")?, own);
+    let nothing = (Kind::Nothing, "ctrl+shift+c".into(), None, None, None);
+    assert_eq!(look_up(&mut engine, "ctrl+shift+c")?, nothing);
+    let chord = (Kind::Chording, "ctrl+d".into(), None, None, None);
+    assert_eq!(look_up(&mut engine, "ctrl+d")?, chord);
+    assert_eq!(engine.keys_of("type")?, ["ctrl+a"]);
+    assert_eq!(engine.keys_of("my.own")?, ["ctrl+d ctrl+e", "ctrl+b"]);
+    assert_eq!(engine.keys_of("other")?, [""; 0]);
+    assert_eq!(engine.keys_of("no.such")?, [""; 0]);
+    assert_eq!(engine.keys_of("")?, ["ctrl+d x"]);
+    assert_eq!(engine.continuations()?, ["ctrl+a", "ctrl+d", "ctrl+b"]);
+    engine.set("window", "k", Value::Truth(true))?;
+    let typed = starts("ctrl+shift+c", "type", Some("\"c\""), 2);
+    assert_eq!(look_up(&mut engine, "ctrl+shift+c")?, typed);
+    assert_eq!(engine.keys_of("type")?, ["ctrl+a", "ctrl+shift+c"]);
+    let all = ["ctrl+a", "ctrl+d", "ctrl+b", "ctrl+shift+c"];
+    assert_eq!(engine.continuations()?, all);
+    Ok(())
+}
+
+#[test]
+fn look_ups_go_on_from_an_open_chord() -> Result<(), Error> {
+    let mut engine = with_look_ups()?;
+    engine.press("ctrl+d")?;
+    assert_eq!(engine.continuations()?, ["x", "ctrl+e"]);
+    assert_eq!(engine.keys_of("type")?, ["ctrl+a"]);
+    let empty = starts("ctrl+d x", "", None, 6);
+    assert_eq!(look_up(&mut engine, "x")?, empty);
+    let nothing = (Kind::Nothing, "ctrl+d ctrl+a".into(), None, None, None);
+    assert_eq!(look_up(&mut engine, "ctrl+a")?, nothing);
+    let own = starts("ctrl+d ctrl+e", "my.own", Some("[1,\"e\"]"), 5);
+    assert_eq!(look_up(&mut engine, "ctrl+e")?, own);
+    assert_eq!(engine.look_up("ctrl+"), Err(Error::NoKey));
+    assert_eq!(engine.look_up("ctrl+e x"), Err(Error::NoKey));
+    let pressed = engine.press("ctrl+e")?.record();
+    assert_eq!(pressed.command.as_deref(), Some("my.own"));
+    let trace = "key ctrl+d ctrl+e: start my.own\nnot found my.own\n";
+    assert_eq!(pressed.trace, trace);
+    assert_eq!(engine.continuations()?, ["ctrl+a", "ctrl+d", "ctrl+b"]);
     Ok(())
 }
 

@@ -1,5 +1,5 @@
-// What keycheck says of the page's files (docs/KEYCHECK.md): what is wrong in them, why a press did what it
-// did, and which rules are in force. It has the files in memory, each at the path that is its title.
+// What keycheck says of the page's files (docs/KEYCHECK.md): what is wrong in them, and why a press did what
+// it did. It has the files in memory, each at the path that is its title.
 
 import { isThere, listed } from "./files.js";
 
@@ -7,8 +7,6 @@ import { isThere, listed } from "./files.js";
 const SCRIPT = "events";
 // The words for the systems.
 const PLATFORMS = { linux: "linux", mac: "mac", windows: "win" };
-// The events that change which rules are in force, or whether such an event is refused.
-const CHANGES = /^(enable|disable|reload|update|register|dispose) /;
 
 /** The program keycheck over the files that it took last. */
 export class Checks {
@@ -16,8 +14,6 @@ export class Checks {
   #titles = [];
   #options = [];
   #folders = [];
-  // The rules in force that were listed last, and the events behind which they are.
-  #listed = null;
 
   constructor(keycheck) {
     this.#keycheck = keycheck;
@@ -32,7 +28,6 @@ export class Checks {
     const options = own.flatMap(({ id, title }) => [`--${id}`, title]);
     this.#options = [...options, "--platform", PLATFORMS[files.platform]];
     this.#folders = files.extensions.map(({ folder }) => folder);
-    this.#listed = null;
   }
 
   /** The problems of all files, those that are notes too. */
@@ -45,20 +40,6 @@ export class Checks {
    * rule, and for its trace. */
   explain(key, events) {
     return this.#run("explain", this.#script(events), key);
-  }
-
-  /** The rules in force behind these events, by keystrokes. `file` is the number of a rule's file, in the
-   * order of the load. */
-  rules(events) {
-    const changes = events.filter((it) => CHANGES.test(it)), behind = changes.join("\n");
-    if (this.#listed?.behind === behind) return this.#listed.rules;
-    // (where memory is refused, that is thrown once, and there are none)
-    this.#listed = { behind, rules: [] };
-    const paths = ["defaults.json", ...this.#folders.map((it) => `${it}/package.json`)];
-    const fileOf = ({ path }) => (paths.includes(path) ? paths.indexOf(path) : paths.length);
-    const found = this.#run("list", this.#script(changes)).map((it) => JSON.parse(it).rule);
-    this.#listed.rules = found.map((rule) => ({ ...rule, file: fileOf(rule.place) }));
-    return this.#listed.rules;
   }
 
   #script(events) {

@@ -1,6 +1,5 @@
-// The keys with which an open chord may go on: each is a button that presses it, with what it starts.
+// The keys with which an open chord goes on now: each is a button that presses it, with what it starts.
 
-import { continuations } from "./rules.js";
 import { at, element, line as item } from "./shown.js";
 
 /** The list of keys. `press` presses one. */
@@ -13,10 +12,11 @@ export class Continuations {
     this.#press = press;
   }
 
-  /** Shows how a chord may go on by the rules in force. The focus stays among the keys, or goes to the next
+  /** Shows keys, each with what a press of it would take. The focus stays among the keys, or goes to the next
    * element. */
-  show(chord, rules) {
-    const found = chord ? continuations(chord, rules) : [], text = JSON.stringify(found);
+  show(keys) {
+    const found = keys.map(({ key, taken }) => ({ key, starts: startsOf(taken) }));
+    const text = JSON.stringify(found);
     this.#count = found.length;
     if (text === this.#shown) return;
     this.#shown = text;
@@ -36,4 +36,9 @@ export class Continuations {
     button.append(element("kbd", key), ` ${starts}`);
     return item(button);
   }
+}
+
+// What a press starts.
+function startsOf({ kind, command }) {
+  return kind === "chording" ? "more keys" : command || "no command";
 }

@@ -12,7 +12,6 @@ import { makeKeyboard } from "./keyboard.js";
 import { Palette } from "./palette.js";
 import { identifier, keysIn, lineAt, rangeOf, read, rulesOf, withLineFeeds } from "./places.js";
 import { Problems } from "./problems.js";
-import { keysOf } from "./rules.js";
 import { Scopes } from "./scopes.js";
 import { at, counted, element, line as item, link, spokenText } from "./shown.js";
 import { Why } from "./why.js";
@@ -291,11 +290,9 @@ function showState() {
   showText();
   at("open").textContent = chord || "–";
   scopes.show(context);
-  // (only few events change the rules; a press finds them as they were listed)
-  const rules = engine ? checks.rules(lines) : [];
-  continuations.show(chord, rules);
-  const entries = engine?.entries ?? [], keys = keysOf(entries.length > 0 ? rules : []);
-  palette.show(entries.map((it) => ({ ...it, keys: keys.get(it.command) ?? "" })));
+  const next = engine && chord ? engine.continuations() : [], entries = engine?.entries ?? [];
+  continuations.show(next.map((key) => ({ key, taken: engine.lookUp(key) })));
+  palette.show(entries.map((it) => ({ ...it, keys: engine.keysOf(it.command)[0] ?? "" })));
 }
 
 // The text, and the caret in it.

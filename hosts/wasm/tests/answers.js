@@ -20,6 +20,18 @@ const RULES = `[
   { "key": "n", "command": "" },
   { "key": "z n", "command": "" },
 ]`;
+// Rules for look-ups. Rule 0 has the keys and the command of rule 7; rule 3 takes the key of rule 1, and
+// rules 5 and 6 go on from that of rule 4.
+const LOOKED_UP = `[
+  { "key": "ctrl+a", "command": "type", "args": "a" },
+  { "key": "ctrl+b", "command": "type", "args": "b" },
+  { "key": "shift+Ctrl+c", "command": "type", "args": "c", "when": "k" },
+  { "key": "ctrl+b", "command": "my.own" },
+  { "key": "ctrl+d", "command": "other" },
+  { "key": "ctrl+d ctrl+e", "command": "my.own", "args": [1, "e"] },
+  { "key": "ctrl+d x", "command": "" },
+  { "key": "ctrl+a", "command": "type", "args": "A" },
+]`;
 const COMMANDS = [{ command: "buffer.top", title: "Größe" }];
 const MANIFEST = JSON.stringify({ name: "e", publisher: "p", contributes: { commands: COMMANDS } });
 const EXTENSIONS = [{ manifest: MANIFEST }];
@@ -34,7 +46,7 @@ function presses(pafjirn) {
   is("no arguments", [engine.press("h").arguments, engine.press("h").argumentsJson], [undefined, null]);
   is("no rule", engine.press("ctrl+j"), {
     ending: "done", kind: "nothing", chord: "ctrl+j", command: "", argumentsJson: null, rule: null,
-    step: null, refusal: null, isUsed: false, ranBy: null, trace: "key ctrl+j: unbound\n",
+    isUsed: false, step: null, refusal: null, ranBy: null, trace: "key ctrl+j: unbound\n",
   });
   is("no key", thrown(() => engine.press("ctrl+")), ["NoKey", 10]);
   is("the trace behind it", engine.trace, "key ctrl+j: unbound\n");
@@ -94,6 +106,52 @@ function steps(pafjirn) {
   is("a step that the host runs", [engine.press("e").ranBy, ...seen], [named, [{ n: 5 }, 1]]);
   is("a command that it runs", [engine.press("f").ranBy, ...seen.slice(1)], [named, [null, null]]);
   engine.dispose();
+}
+
+// What presses would take, and the keys of commands.
+function lookUps(pafjirn) {
+  const engine = pafjirn.load({ user: LOOKED_UP });
+  is("a look-up", engine.lookUp("ctrl+a"), {
+    kind: "started", chord: "ctrl+a", command: "type", arguments: "A", argumentsJson: '"A"',
+    rule: { source: "user", place: 7 }, isUsed: true,
+  });
+  is("nothing that was pressed", [engine.text, engine.trace], [{ before: "", after: "" }, ""]);
+  const found = (key) => {
+    const { kind, chord, command, argumentsJson, rule, isUsed } = engine.lookUp(key);
+    return [kind, chord, command, argumentsJson, rule?.place ?? null, isUsed];
+  };
+  is("another name", found("Ctrl+B"), ["started", "ctrl+b", "my.own", null, 3, true]);
+  is("an event", found({ key: "b", code: "KeyB", ctrlKey: true })[2], "my.own");
+  is("Ctrl alone", engine.lookUp({ key: "Control", code: "ControlLeft", ctrlKey: true }), null);
+  is("a clause that fails", found("ctrl+shift+c"), ["nothing", "ctrl+shift+c", "", null, null, false]);
+  is("a chord", found("ctrl+d"), ["chording", "ctrl+d", "", null, null, true]);
+  is("keys", engine.keysOf("type"), ["ctrl+a"]);
+  is("keys of two rules", engine.keysOf("my.own"), ["ctrl+d ctrl+e", "ctrl+b"]);
+  is("no keys", [engine.keysOf("other"), engine.keysOf("no.such")], [[], []]);
+  is("keys of no command", engine.keysOf(""), ["ctrl+d x"]);
+  is("first keys", engine.continuations(), ["ctrl+a", "ctrl+d", "ctrl+b"]);
+  engine.setContext("window", "k", true);
+  is("a clause that holds", found("ctrl+shift+c"), ["started", "ctrl+shift+c", "type", '"c"', 2, true]);
+  is("the keys of another context", engine.keysOf("type"), ["ctrl+a", "ctrl+shift+c"]);
+  is("first keys then", engine.continuations(), ["ctrl+a", "ctrl+d", "ctrl+b", "ctrl+shift+c"]);
+  is("the trace behind all of that", engine.trace, "set window k\n");
+  is("no UTF-8 of a command", thrown(() => engine.keysOf(new Uint8Array([255]))), ["NoText", 6]);
+  is("no text", [thrown(() => engine.keysOf(5)), thrown(() => engine.keysOf())], ["TypeError", "TypeError"]);
+  engine.press("ctrl+d");
+  is("keys that go on", engine.continuations(), ["x", "ctrl+e"]);
+  is("keys without the chord", engine.keysOf("my.own"), ["ctrl+d ctrl+e", "ctrl+b"]);
+  is("no command", found("x"), ["started", "ctrl+d x", "", null, 6, true]);
+  is("a key that ends the chord", found("ctrl+a"), ["nothing", "ctrl+d ctrl+a", "", null, null, true]);
+  is("a key that goes on", found("ctrl+e"), ["started", "ctrl+d ctrl+e", "my.own", '[1,"e"]', 5, true]);
+  is("no key", thrown(() => found("ctrl+")), ["NoKey", 10]);
+  is("two keys", thrown(() => found("ctrl+e x")), ["NoKey", 10]);
+  is("the trace behind it", engine.trace, "key ctrl+d: chord\n");
+  const { command, trace } = engine.press("ctrl+e");
+  is("the press", [command, trace], ["my.own", "key ctrl+d ctrl+e: start my.own\nnot found my.own\n"]);
+  is("first keys behind it", engine.continuations(), ["ctrl+a", "ctrl+d", "ctrl+b", "ctrl+shift+c"]);
+  engine.dispose();
+  const behind = [() => engine.lookUp("x"), () => engine.keysOf("type"), () => engine.continuations()];
+  is("an engine that is disposed of", behind.map(thrown), Array(3).fill(["Unknown", 2]));
 }
 
 function context(pafjirn) {
@@ -282,7 +340,7 @@ async function guards() {
 
 keys();
 const pafjirn = await instantiate();
-for (const test of [presses, steps, context, changes, commands, loads]) test(pafjirn);
+for (const test of [presses, steps, lookUps, context, changes, commands, loads]) test(pafjirn);
 await starts();
 await traps();
 await guards();

@@ -1,7 +1,7 @@
 // An example that the types have to accept, and misuses that they have to refuse.
 
 import { Engine, EngineError, Keycheck, LoadRefused, instantiate, keycheck, keystroke } from "pafjirn";
-import type { Checked, EventRecord, Files, Json } from "pafjirn";
+import type { Checked, EventRecord, Files, Found, Json } from "pafjirn";
 
 const files: Files = {
   user: '[{ "key": "ctrl+h", "command": "my.own", "args": [1, "a", null] }]',
@@ -40,6 +40,14 @@ export async function problems(rules: ArrayBuffer): Promise<string> {
   return `${status + 1} ${output} ${errors} ${nothing}`;
 }
 
+export function hints(engine: Engine, event: KeyboardEvent): string[] {
+  const { kind, command, rule, isUsed }: Found = engine.lookUp("ctrl+h");
+  const found: Found | null = engine.lookUp(event);
+  const next: string[] = engine.continuations().map((key) => `${key}: ${engine.lookUp(key).command}`);
+  const said = `${kind} ${command} ${rule?.place} ${isUsed} ${found?.chord}`;
+  return [said, ...engine.keysOf("my.own"), ...next];
+}
+
 export function lastStep({ step }: EventRecord): string {
   return step === null ? "" : `${step.number + 1}. ${step.command}`;
 }
@@ -69,6 +77,8 @@ export function misuses(engine: Engine): void {
   engine.press("a").command = "";
   // @ts-expect-error: an event may have no step
   engine.press("a").step.number;
+  // @ts-expect-error: a look-up has no ending
+  engine.lookUp("a").ending;
   // @ts-expect-error: keycheck is made by a call
   new Keycheck();
   // @ts-expect-error: the words of a command line are texts

@@ -1,10 +1,8 @@
-// Checks the parts of the page that need no browser: the copy of the context keys, the rules in force, and
-// places in texts.
+// Checks the parts of the page that need no browser: the copy of the context keys, and places in texts.
 
 import { contexts } from "./following.js";
 import { FOLDER, is, pafjirn as all, report, thrown } from "./shared.js";
 
-const { continuations, keysOf } = await import(new URL("page/rules.js", FOLDER));
 const { newName } = await import(new URL("page/files.js", FOLDER));
 const { lineAt, rangeOf, read, rulesOf } = await import(new URL("page/places.js", FOLDER));
 const pafjirn = await all.instantiate();
@@ -28,32 +26,6 @@ function names() {
     const { page, keycheck } = contexts(pafjirn, files, [Buffer.from(`key ${key}`)]);
     is(`the context behind ${key}`, [page, keycheck], [wanted, wanted]);
   }
-}
-
-// The rules of a file, each with a place on a line of its own.
-function rulesIn(file, ...rules) {
-  return rules.map(([keys, command, when], at) => ({
-    keys, command, ...(when && { when }), file, place: { line: at + 1, column: 1 },
-  }));
-}
-
-function rules() {
-  const defaults = rulesIn(0, ["a b", "d1"], ["a c", "d2"], ["a d e", "d3"], ["f", "x"], ["a b c", "d4"]);
-  const user = rulesIn(1, ["a b", "u1", "k"], ["a c", "u2"], ["a d", "u3", "l"], ["a e", ""], ["ab", "x"]);
-  const all = [...user, ...defaults], of = (chord) => continuations(chord, all);
-  const startsOf = (chord, key) => of(chord).find((it) => it.key === key)?.starts;
-  is("the next keys", of("a").map(({ key }) => key).sort(), ["b", "c", "d", "e"]);
-  is("a rule with a clause, and more keys below one", startsOf("a", "b"), "u1 when k, or more keys");
-  is("a rule without a clause", startsOf("a", "c"), "u2");
-  is("a rule with more keys", startsOf("a", "d"), "u3 when l, or more keys");
-  is("a rule without a command", startsOf("a", "e"), "no command");
-  is("keys behind two", of("a d"), [{ key: "e", starts: "d3" }]);
-  is("no keys", of("b"), []);
-  const twice = [...rulesIn(0, ["z", "x"], ["y", "x"]), ...rulesIn(1, ["w", "y"])];
-  is("the lowest rule of a command", [...keysOf(twice)], [["x", "y"], ["y", "w"]]);
-  is("that of the later file", keysOf(all).get("x"), "ab");
-  const reloaded = [{ keys: "v", command: "y", file: 1, place: { path: "reload" } }];
-  is("rules without a line", keysOf([...reloaded, ...rulesIn(0, ["u", "y"])]).get("y"), "v");
 }
 
 function newNames() {
@@ -81,5 +53,5 @@ function places() {
     .filter((it) => thrown(() => read(it)) || !(read(it).end <= it.length)), []);
 }
 
-for (const test of [names, rules, newNames, places]) test();
+for (const test of [names, newNames, places]) test();
 report();

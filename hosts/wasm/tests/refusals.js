@@ -25,8 +25,9 @@ function run(pafjirn, lines) {
     trace += engine.press("left").trace;
   } catch (error) {
     if (!(error instanceof all.EngineError)) throw error;
-    const behind = engine && thrown(() => engine.press("left"))[0];
-    name = behind === null || behind === "Stopped" ? error.name : `${error.name}, and then ${behind}`;
+    const calls = [() => engine.press("left"), () => engine.lookUp("left"), () => engine.keysOf("type")];
+    const behind = engine ? calls.map((it) => thrown(it)?.[0]).filter((it) => it !== "Stopped") : [];
+    name = [error.name, ...behind].join(", and then ");
   }
   engine?.dispose();
   return { trace, name };
@@ -36,6 +37,24 @@ function run(pafjirn, lines) {
 function lost(pafjirn, before) {
   pafjirn.load().dispose();
   return pafjirn.bytesInUse - before;
+}
+
+// Refuses each allocation of look-ups in turn: it leaves the engine as it was, and they are done afterwards.
+async function refuseLookUps() {
+  const seen = watched(), pafjirn = await all.instantiate(compiled()), engine = pafjirn.load(files);
+  const looks = () => [engine.lookUp("ctrl+t"), engine.keysOf("type"), engine.continuations()];
+  engine.press("ctrl+k");
+  seen.exports.pafjirn_refuse(0n);
+  const whole = JSON.stringify(looks()), total = Number(seen.exports.pafjirn_calls()), wrong = [];
+  for (let call = 1; call <= total; call++) {
+    seen.exports.pafjirn_refuse(BigInt(call));
+    const name = thrown(looks)?.[0];
+    seen.exports.pafjirn_refuse(0n);
+    if (name !== "NoMemory" || JSON.stringify(looks()) !== whole) wrong.push(`${call}: ${name}`);
+  }
+  is("each allocation of look-ups that is refused", [total > 3, wrong.slice(0, 5)], [true, []]);
+  is("the press behind them", engine.press("ctrl+t").chord, "ctrl+k ctrl+t");
+  engine.dispose();
 }
 
 async function refuseEach(lines, number, step) {
@@ -92,5 +111,8 @@ async function inFixed(lines, path) {
 }
 
 if (kind === "fixed") await inFixed(scripts[0], word);
-else for (const [number, lines] of scripts.entries()) await refuseEach(lines, number + 1, Number(word));
+else {
+  for (const [number, lines] of scripts.entries()) await refuseEach(lines, number + 1, Number(word));
+  await refuseLookUps();
+}
 report();
