@@ -3,7 +3,8 @@
 //! memory, and 97 if the session is stopped. Only behind 0 is anything noted.
 ghost use Rattle.std.specs.Prelude.{◌≡◌};
 ghost use Rattle.kb_c.specs.Held.{Answers, OnEngine};
-ghost use Rattle.kb_engine.specs.Lookups.{Lists, ListsKeys, LooksUp, continuations_text, stroke_told, text_told};
+ghost use Rattle.kb_engine.specs.Lookups.{Lists, ListsKeys, LooksUp};
+ghost use Rattle.kb_engine.specs.Lookups.{continuations_text, stroke_told, text_told};
 ghost use Rattle.kb_engine.specs.Outcome.{outcome_numbered};
 
 use crate::handle::Handle;

@@ -28,7 +28,13 @@ use Rattle.kb_trace.specs.declared.event.Event.{Event}
 
 -- an engine without files and without a session
 abbrev pub new_engine : EngineData
-new_engine = record { files = no_files; running = None; notice = []; taken = taken.bare kind.Nothing []; shown = [] }
+new_engine = record {
+  files = no_files;
+  running = None;
+  notice = [];
+  taken = taken.bare kind.Nothing [];
+  shown = [];
+}
 
 -- ---- before the load
 

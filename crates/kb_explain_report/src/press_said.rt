@@ -251,7 +251,8 @@ fn say_does<W: Write>(
     out: &mut W,
 ) -> Result<(), Stop>
     ensures { OnOk result (WritesLine
-        (SaysStep form (any_on strokes.now (rules_of named.now.bindings.now)) strokes.now (step_of does.entry))
+        (SaysStep form (any_on strokes.now (rules_of named.now.bindings.now)) strokes.now
+        (step_of does.entry))
         (W.contents out.old) (W.contents out.new)) }
 {
     match form {

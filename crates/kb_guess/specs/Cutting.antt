@@ -34,4 +34,5 @@ behind mark text = option_map (λ sides. sides.1) (around mark text)
 
 -- a text without the mark that it ends with
 abbrev pub without_end : List ℕ → List ℕ → Option (List ℕ)
-without_end mark text = if ends_with nat_eq text mark then Some (take (length text - length mark) text) else None
+without_end mark text =
+    if ends_with nat_eq text mark then Some (take (length text - length mark) text) else None

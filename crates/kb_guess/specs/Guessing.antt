@@ -1,5 +1,6 @@
 -- What a sentence on a problem would have in the place of what it quotes.
-use Rattle.std.specs.Prelude.{ℕ, if◌then◌else◌, List, codes, Option, Some, None, option_map, option_and_then, is_some}
+use Rattle.std.specs.Prelude.{ℕ, if◌then◌else◌, List, codes, Option, Some, None}
+use Rattle.std.specs.Prelude.{option_map, option_and_then, is_some}
 use Rattle.std.specs.Option.{option_or}
 use Rattle.kb_guess.specs.Cutting.{Sides, around, before, behind, without_end}
 use Rattle.kb_guess.specs.declared.guessing.Guess.{Guess}
@@ -44,7 +45,8 @@ without_its_comma word = pair (Some word) (without_end (codes ",") word)
 abbrev pub without_comma : List ℕ → Option Meant
 without_comma sentence =
     if is_some (around (codes "have a space between them, and no comma") sentence)
-    then option_and_then without_its_comma (option_and_then (before (codes "`; ")) (behind (codes "`") sentence))
+    then option_and_then without_its_comma
+    (option_and_then (before (codes "`; ")) (behind (codes "`") sentence))
     else None
 
 -- what a sentence guesses: the first of these that it says

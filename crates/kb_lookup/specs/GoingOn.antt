@@ -39,7 +39,8 @@ goes_on keys enabling rules pressed key = is_something (resolved (pressed ++ key
 
 -- the next keystrokes of rules behind which a search finds something
 abbrev pub continuations : Keys → Enabling → List Rule → List Keystroke → List Keystroke
-continuations keys enabling rules pressed = filter (goes_on keys enabling rules pressed) (next_keys pressed rules)
+continuations keys enabling rules pressed =
+    filter (goes_on keys enabling rules pressed) (next_keys pressed rules)
 
 -- all keystrokes behind which a search finds something are among them
 abbrev pub AllGoOn : Keys → Enabling → List Rule → List Keystroke → Type 0

@@ -2,7 +2,8 @@
 ghost use Rattle.std.specs.Prelude.{◌≡◌, IfOk, OnOk, Some};
 ghost use Rattle.kb_bindings.specs.Sources.{enablement, rules_of};
 ghost use Rattle.kb_context.specs.Scopes.{context};
-ghost use Rattle.kb_lookup.specs.GoingOn.{AllGoOn, continuations, goes_on, has_key, next_key, next_keys, with_key};
+ghost use Rattle.kb_lookup.specs.GoingOn.{AllGoOn, continuations, goes_on, has_key};
+ghost use Rattle.kb_lookup.specs.GoingOn.{next_key, next_keys, with_key};
 
 use kb_base::NoMemory;
 use kb_bindings::Bindings;
@@ -12,9 +13,9 @@ use kb_resolve::{Resolved, Resolver};
 use std::alloc::Global;
 
 /// The keystrokes that go on behind those that are pressed, in the present context, those of the lowest rule
-/// first, each once: a press of any other one leaves the chord. Without pressed keystrokes these are the first
-/// keystrokes of rules. An editor shows them while a chord is open; a look-up says what each finds. (Our
-/// decision; VS Code shows none.)
+/// first, each once: a press of any other one leaves the chord. Without pressed keystrokes these are the
+/// first keystrokes of rules. An editor shows them while a chord is open; a look-up says what each finds.
+/// (Our decision; VS Code shows none.)
 ///
 /// It takes a comparison of keystrokes for each rule in force, and a search for each keystroke that is next.
 /// Error: `NoMemory`.

@@ -1,7 +1,8 @@
 //! What a host looks up before a key is pressed. No look changes the session. Before the load the outcome is
 //! `OutOfOrder`, behind a stop `Stopped`; only if it is `Done` is anything noted.
 ghost use Rattle.std.specs.Prelude.{◌≡◌};
-ghost use Rattle.kb_engine.specs.Lookups.{Lists, ListsKeys, LooksUp, continuations_text, stroke_told, text_told};
+ghost use Rattle.kb_engine.specs.Lookups.{Lists, ListsKeys, LooksUp};
+ghost use Rattle.kb_engine.specs.Lookups.{continuations_text, stroke_told, text_told};
 
 use crate::engine::Engine;
 use crate::events::{stroke_told, text_in};
@@ -56,8 +57,9 @@ impl Engine {
         }
     }
 
-    /// Notes the keystrokes that go on from those of the open chord (`kb_lookup::continuations`), or the first
-    /// keystrokes of rules if no chord is open, as `Part::Keys`. `look_up` says what a press of each takes.
+    /// Notes the keystrokes that go on from those of the open chord (`kb_lookup::continuations`), or the
+    /// first keystrokes of rules if no chord is open, as `Part::Keys`. `look_up` says what a press of each
+    /// takes.
     pub fn continuations(&mut self) -> Outcome
         ensures { Lists continuations_text self.old result self.new }
     {

@@ -45,8 +45,8 @@ impl Engine {
         }
     }
 
-    /// The number of what the last event did, or a press that was looked up would do: 0 if no command starts, 1 if a chord is open, and 2 if a
-    /// command starts.
+    /// The number of what the last event did, or a press that was looked up would do: 0 if no command starts,
+    /// 1 if a chord is open, and 2 if a command starts.
     pub fn kind(&self) -> u32
         ensures { result ≡ kind_number self.now.taken.kind }
     {
