@@ -12,7 +12,8 @@ use crate::taken::looked_up;
 
 impl Engine {
     /// Notes what a press of a key would take now, behind the keystrokes of the open chord, as the press
-    /// itself does: `kind`, the parts and the place tell it. `NoKey` for a text that is no key.
+    /// itself does: `kind`, the parts and the place tell it. The outcomes are `Done`, `OutOfOrder` before the
+    /// load, `Stopped`, `NoMemory`, and `NoKey` for a text that is no key.
     pub fn look_up(&mut self, key: &[u8]) -> Outcome
         ensures { LooksUp (stroke_told key.now) self.old result self.new }
     {
@@ -35,7 +36,8 @@ impl Engine {
     }
 
     /// Notes the keystrokes that start a command now (`kb_lookup::keys_of`), as `Part::Keys`: the first line
-    /// is what a menu shows. `NoText` for bytes that aren't UTF-8.
+    /// is what a menu shows. The outcomes are `Done`, `OutOfOrder` before the load, `Stopped`, `NoMemory`, and
+    /// `NoText` for bytes that aren't UTF-8.
     pub fn keys_of(&mut self, command: &[u8]) -> Outcome
         ensures { ListsKeys (text_told command.now) self.old result self.new }
     {
@@ -59,7 +61,7 @@ impl Engine {
 
     /// Notes the keystrokes that go on from those of the open chord (`kb_lookup::continuations`), or the
     /// first keystrokes of rules if no chord is open, as `Part::Keys`. `look_up` says what a press of each
-    /// takes.
+    /// takes. The outcomes are `Done`, `OutOfOrder` before the load, `Stopped` and `NoMemory`.
     pub fn continuations(&mut self) -> Outcome
         ensures { Lists continuations_text self.old result self.new }
     {
