@@ -36,8 +36,8 @@ impl Engine {
     }
 
     /// Notes the keystrokes that start a command now (`kb_lookup::keys_of`), as `Part::Keys`: the first line
-    /// is what a menu shows. The outcomes are `Done`, `OutOfOrder` before the load, `Stopped`, `NoMemory`, and
-    /// `NoText` for bytes that aren't UTF-8.
+    /// is what a menu shows. The outcomes are `Done`, `OutOfOrder` before the load, `Stopped`, `NoMemory`,
+    /// and `NoText` for bytes that aren't UTF-8.
     pub fn keys_of(&mut self, command: &[u8]) -> Outcome
         ensures { ListsKeys (text_told command.now) self.old result self.new }
     {
